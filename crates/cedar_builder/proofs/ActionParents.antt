@@ -1,5 +1,5 @@
 -- Parents and descent of actions, as edges and in the bag.
-use Rattle.std.proofs.Common.{◌≡◌, List, map, ap, sym, ◌∙◌, refl, inl, ⊎_elim, Contains}
+use Rattle.std.proofs.Common.{◌≡◌, List, map, ap, sym, ◌∙◌, refl, inl, Contains, inr}
 use Rattle.std.proofs.lemmas.Simd.{map-map}
 use Rattle.std.specs.BTreeMap.{BTreeMap}
 use Rattle.cedar_below.proofs.Uids.{entity_uid_eq-same}
@@ -66,7 +66,7 @@ module _ (bag : Bag) (extensions : Extensions) (declared : List (EntityUID × Ac
       → Contains (action_uids bag) upper
   parent_declared lower upper parent =
       let found = ready.named lower (reference_to_action upper) parent in
-      ⊎_elim (λ here. here.1) (λ later. absurd later.1) found.1.0
+      elim found.1.0 [ inl here ↦ here.1 | inr later ↦ absurd later.1 ]
 
   module _ (edges : List (EntityUID × EntityUID)) (are : AreEdges declared edges) where
     -- the edges are those of the bag
@@ -81,7 +81,7 @@ module _ (bag : Bag) (extensions : Extensions) (declared : List (EntityUID × Ac
     -- and nothing else
     alone : (uid other : PlainUid) → NamesAction (action_uids bag) (reference_to_action uid) other → uid ≡ other
     alone uid other names =
-        let ty : uid.ty ≡ other.ty = ⊎_elim (λ here. here.0) (λ later. absurd later.1) names.0 in
+        let ty : uid.ty ≡ other.ty = elim names.0 [ inl here ↦ here.0 | inr later ↦ absurd later.1 ] in
         λ i. record { ty = ty i; eid = sym names.1 i }
 
     -- the upper action of an edge is declared

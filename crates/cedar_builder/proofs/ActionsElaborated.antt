@@ -1,5 +1,5 @@
 -- What is elaborated of the requests of an action.
-use Rattle.std.proofs.Common.{◌≡◌, List, [], ◌∷◌, Option, Some, map, ap, sym, subst, refl, inl, inr, ⊎_elim, arith, Contains}
+use Rattle.std.proofs.Common.{◌≡◌, List, [], ◌∷◌, Option, Some, map, ap, refl, inl, inr, arith, Contains}
 use Rattle.std.specs.Option.{unwrap_or}
 use Rattle.cedar_schema_elements.specs.ActionKind.{kind_context, kind_principals, kind_resources}
 use Rattle.cedar_below.proofs.Lists.{Contains-preimage}
@@ -38,34 +38,30 @@ pub name_among : (names : List InternalName) (name : PlainName)
     → Contains (map (resolved_reference Entity) names) (reference_to_one Entity name) → Contains (map name_of names) name
 name_among names name among =
     let found = Contains-preimage (resolved_reference Entity) names (reference_to_one Entity name) among in
-    let P : PlainName → Type 0 = Contains (map name_of names) in
-    subst P (one_name found.2) (Contains-image name_of names found.0 found.1)
+    rw (one_name found.2) at (Contains-image name_of names found.0 found.1)
 
 -- and the other way round
 pub reference_among : (names : List InternalName) (name : PlainName) → Contains (map name_of names) name
     → Contains (map (resolved_reference Entity) names) (reference_to_one Entity name)
 reference_among names name among =
     let found = Contains-preimage name_of names name among in
-    let P : PlainName → Type 0 = λ each. Contains (map (resolved_reference Entity) names) (reference_to_one Entity each) in
-    subst P found.2 (Contains-image (resolved_reference Entity) names found.0 found.1)
+    rw found.2 at (Contains-image (resolved_reference Entity) names found.0 found.1)
 
 -- the names of entity types that were found under some names are just those of the references to these
 pub named_by : (names : List InternalName) (types : List EntityType) (stated : List PlainName)
     → map type_name types ≡ map name_of names → SameItems stated (map type_name types)
     → AreNamed (map (resolved_reference Entity) names) stated
-named_by names types stated same items name =
-    let P : List PlainName → Type 0 = λ each. Contains each name in (
-      λ among. reference_among names name (subst P same ((items name).0 among)),
-      λ among. (items name).1 (subst P (sym same) (name_among names name among)),
-    )
+named_by names types stated same items name = (
+  λ among. reference_among names name (rw same at ((items name).0 among)),
+  λ among. (items name).1 (rw same (name_among names name among)),
+)
 
 -- a kind with these principals, these resources and this context is elaborated
 pub kind_elaborated : (scope : TypeScope) (principals resources : List Reference) (context : Expr) (ty : Ty) (kind : ActionKind)
     → AreNamed principals (kind_principals kind) → AreNamed resources (kind_resources kind) → kind_context kind ≡ Some ty
     → ElaboratesAs scope context ty → IsElaboratedKind scope (requests principals resources context) kind
 kind_elaborated scope principals resources context ty (defined_action ps rs other) named others is elaborated =
-    let P : Ty → Type 0 = ElaboratesAs scope context in
-    (named, others, subst P (sym (ap (λ (each : Option Ty). unwrap_or each ty) is)) elaborated)
+    (named, others, rw (ap (λ (each : Option Ty). unwrap_or each ty) is) elaborated)
 kind_elaborated scope principals resources context ty external_action named others is elaborated = cc
 
 -- a refusal of principals is one of the requests
@@ -73,11 +69,11 @@ pub principals_fault : (scope : TypeScope) (types : List PlainName) (uid : Plain
     (context : Expr) (fault : Fault) → IsRequestTypeFault types principals fault
     → IsRequestsFault scope types uid (requests principals resources context) fault
 principals_fault scope types uid principals resources context fault refused =
-    ⊎_elim (λ wanting. inl wanting) (λ name. inr (inr (inr (name.0, inl name.1, name.2)))) refused
+    elim refused [ inl wanting ↦ inl wanting | inr name ↦ inr (inr (inr (name.0, inl name.1, name.2))) ]
 
 -- and so is one of resources
 pub resources_fault : (scope : TypeScope) (types : List PlainName) (uid : PlainUid) (principals resources : List Reference)
     (context : Expr) (fault : Fault) → IsRequestTypeFault types resources fault
     → IsRequestsFault scope types uid (requests principals resources context) fault
 resources_fault scope types uid principals resources context fault refused =
-    ⊎_elim (λ wanting. inl wanting) (λ name. inr (inr (inr (name.0, inr name.1, name.2)))) refused
+    elim refused [ inl wanting ↦ inl wanting | inr name ↦ inr (inr (inr (name.0, inr name.1, name.2))) ]

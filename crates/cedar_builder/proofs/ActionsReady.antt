@@ -1,5 +1,5 @@
 -- What the steps promise, read of a bag for which they are ready.
-use Rattle.std.proofs.Common.{◌≡◌, ◌⊎◌, ◌↔◌, List, Option, None, Some, IsSome, HashMap, map, ap, sym, subst, ◌∙◌, refl, inl, inr, ⊎_elim, Contains}
+use Rattle.std.proofs.Common.{◌≡◌, ◌⊎◌, ◌↔◌, List, Option, None, Some, IsSome, HashMap, map, ap, sym, subst, ◌∙◌, refl, inl, inr, Contains}
 use Rattle.std.proofs.lemmas.List.Elements.{Contains-append_cases}
 use Rattle.std.proofs.lemmas.List.Folds.{flat_map-map}
 use Rattle.std.proofs.lemmas.Simd.{map-map}
@@ -23,7 +23,7 @@ use Rattle.cedar_declarations.proofs.Definitions.{declared_definition, said_defi
 use Rattle.cedar_declarations.proofs.OccurrenceLemmas.{Contains-image, Contains-single}
 use Rattle.cedar_declarations.proofs.ResolutionLemmas.{elaborated_once}
 use Rattle.cedar_declarations.specs.Bag.{Bag, action_uids, declared_actions, declared_entities, defined_names, definitions}
-use Rattle.cedar_declarations.specs.Counted.{CountsIn, CountsInRequests, IsCounted, IsEntityTypePosition, IsAtEntityTypePosition, IsPrincipalOrResource}
+use Rattle.cedar_declarations.specs.Counted.{CountsInRequests, IsCounted, IsAtEntityTypePosition, IsPrincipalOrResource}
 use Rattle.cedar_declarations.specs.DeclaredSchema.{IsDeclaredAction, IsDeclaredActionKind, IsNamedBy}
 use Rattle.cedar_declarations.specs.Defined.{names_of}
 use Rattle.cedar_declarations.specs.Descent.{IsDescendantAction}
@@ -35,28 +35,25 @@ use Rattle.cedar_declarations.specs.PlainSchema.{ActionKind, defined_action, ext
 use Rattle.cedar_declarations.specs.Resolved.{reference_to_one}
 use Rattle.cedar_declarations.specs.ResolvedExpr.{resolved_reference}
 use Rattle.cedar_declarations.specs.Together.{ActionSays, action_definition_in, defined_actions}
-use Rattle.cedar_declarations.specs.ElaboratesTo.{IsRecordType}
 use Rattle.cedar_schema_elements.specs.declared.entity_type.ValidatorEntityType.{ValidatorEntityType}
 use Rattle.cedar_fragments.specs.ActionDeclarations.{fragment_requests}
 use Rattle.cedar_fragments.specs.declared.namespace.actions.ActionFragment.{ActionFragment}
 use Rattle.cedar_fragments.specs.declared.namespace.actions.ActionRequests.{ActionRequests}
 use Rattle.cedar_names.specs.ActionBody.{ActionBody, Requests, requests, elsewhere}
-use Rattle.cedar_names.specs.Declaration.{Body}
 use Rattle.cedar_names.specs.Expr.{Expr}
 use Rattle.cedar_names.specs.Reference.{Reference}
 use Rattle.cedar_names.specs.declared.json_schema.reference_type.ReferenceType.TheVariants.{Entity}
-use Rattle.cedar_type_rules.specs.Ty.{Ty}
 use Rattle.cedar_builder.proofs.ActionParents.{AreEdges, chain_descends, chain_to_same, descendant_declared, descends_by_chain, edge_declared}
 use Rattle.cedar_builder.proofs.ActionsTogether.{definitions_alike}
 use Rattle.cedar_builder.proofs.NodesCollected.{by_test}
 use Rattle.cedar_builder.proofs.NodesLinked.{alike_after, alike_before, collected_apart, descendants}
 use Rattle.cedar_builder.proofs.ReadyLemmas.{action_type, expr_fault}
 use Rattle.cedar_builder.specs.DeclaredNodes.{AreReady, IsCollected, IsCollectedAt, IsCollectingFault, SaysTogether, defined_in, definition_in}
-use Rattle.cedar_builder.specs.ActionNodes.{AreLinked, AreTheSame, IsElaboratedAction, IsLinkingFault, SameAction, has_descendant, node_at}
+use Rattle.cedar_builder.specs.ActionNodes.{AreLinked, IsElaboratedAction, IsLinkingFault, SameAction, has_descendant, node_at}
 use Rattle.cedar_builder.specs.ActionsReady.{AreActionsOf}
 use Rattle.cedar_builder.specs.SoundActions.{ActionsAreSound}
 use Rattle.cedar_builder.specs.ActionSteps.{AreNamed, AreSoundRequests, HasNoRecord, IsElaboratedKind, IsNameFault, IsRequestsFault, is_action_definition, names_in, requests_in}
-use Rattle.cedar_elaboration.specs.Scope.{Covers, extension_name, extensions_in_scope}
+use Rattle.cedar_elaboration.specs.Scope.{Covers, extensions_in_scope}
 use Rattle.cedar_elaboration.specs.declared.type_scope.TypeScope.{TypeScope}
 
 abbrev Entry : Type 0
@@ -83,7 +80,7 @@ one_place : (it : Option (ActionRequests InternalName)) (reference : Reference)
     → IsPrincipalOrResource (fragment_requests InternalName resolved_reference it) reference
     → (name : PlainName) × (reference ≡ reference_to_one Entity name)
 one_place None reference place = absurd place
-one_place (Some it) reference place = ⊎_elim (from it.principals.items) (from it.resources.items) place where
+one_place (Some it) reference place = elim place [ inl here ↦ from it.principals.items here | inr there ↦ from it.resources.items there ] where
   from : (names : List InternalName) → Contains (map (resolved_reference Entity) names) reference
       → (name : PlainName) × (reference ≡ reference_to_one Entity name)
   from names among =
@@ -108,11 +105,11 @@ bag_says bag uid applies_to says = by applies_to says where
 
   by : (of : Requests) → SaysTogether is_action_definition (requests_in (declared_actions bag)) uid of → ActionSays bag uid of
   by elsewhere there = (
-    subst P same_uids there.0,
-    λ among. there.1 (subst P (sym (ap (map (λ it. it.0)) (bag_definitions bag))) among),
+    rw same_uids at there.0,
+    λ among. there.1 (rw (ap (map (λ it. it.0)) (bag_definitions bag)) among),
   )
   by (requests principals resources context) there =
-      subst (λ entries. Contains entries (uid, requests principals resources context)) (bag_definitions bag) there
+      rw (bag_definitions bag) at there
 
 -- at each uid stands what its declarations say together
 abbrev pub AreCollected : {S : Type 0} → TypeScope → List Entry → HashMap EntityUID ValidatorActionId S → Type 0
@@ -133,17 +130,15 @@ module _ (bag : Bag) (extensions : Extensions) (declared : List (EntityUID × Ac
   among_collected : (uid : PlainUid) (body : ActionBody) → Contains (declared_actions bag) (uid, body)
       → Contains Entries (uid, body.applies_to)
   among_collected uid body among =
-      let P : List Entry → Type 0 = λ entries. Contains entries (uid, body.applies_to) in
-      subst P (sym same_entries) (Contains-image requested (declared_actions bag) (uid, body) among)
+      rw same_entries (Contains-image requested (declared_actions bag) (uid, body) among)
 
   -- and the other way round
   among_declared : (uid : PlainUid) (applies_to : Requests) → Contains Entries (uid, applies_to)
       → (body : ActionBody) × Contains (declared_actions bag) (uid, body) × (body.applies_to ≡ applies_to)
   among_declared uid applies_to among =
-      let P : List Entry → Type 0 = λ entries. Contains entries (uid, applies_to) in
-      let it = Contains-preimage requested (declared_actions bag) (uid, applies_to) (subst P same_entries among) in
-      let Q : PlainUid → Type 0 = λ each. Contains (declared_actions bag) (each, it.0.1) in
-      (it.0.1, subst Q (ap (λ (each : Entry). each.0) it.2) it.1, ap (λ (each : Entry). each.1) it.2)
+      let it = Contains-preimage requested (declared_actions bag) (uid, applies_to) (rw same_entries at among) in
+      let Declares : PlainUid → Type 0 = λ each. Contains (declared_actions bag) (each, it.0.1) in
+      (it.0.1, subst Declares (ap (λ (each : Entry). each.0) it.2) it.1, ap (λ (each : Entry). each.1) it.2)
 
   -- the uids that are handed in are those of the bag
   same_uids : map (λ it. it.0) Entries ≡ action_uids bag
@@ -156,8 +151,7 @@ module _ (bag : Bag) (extensions : Extensions) (declared : List (EntityUID × Ac
   -- a declared uid is that of an action that is handed in
   key_of : (uid : PlainUid) → Contains (action_uids bag) uid → (key : EntityUID) × (uid_of key ≡ uid)
   key_of uid among =
-      let P : List PlainUid → Type 0 = λ uids. Contains uids uid in
-      let entry = Contains-preimage (λ (it : Entry). it.0) Entries uid (subst P (sym same_uids) among) in
+      let entry = Contains-preimage (λ (it : Entry). it.0) Entries uid (rw same_uids among) in
       let item = Contains-preimage (λ (it : EntityUID × ActionFragment InternalName EntityType). (uid_of it.0, _)) declared entry.0 entry.1 in
       (item.0.0, ap (λ (it : Entry). it.0) item.2 ∙ entry.2)
 
@@ -169,7 +163,7 @@ module _ (bag : Bag) (extensions : Extensions) (declared : List (EntityUID × Ac
       (λ (it : EntityUID × ActionFragment InternalName EntityType). (uid_of it.0, fragment_requests InternalName resolved_reference it.1.requests))
       declared (uid, applies_to) among in
       one_place item.0.1.requests reference
-      (subst (λ each. IsPrincipalOrResource each reference) (sym (ap (λ (it : Entry). it.1) item.2)) place)
+      (rw (ap (λ (it : Entry). it.1) item.2) place)
 
   -- what counts in a declaration counts in the bag
   counted : (uid : PlainUid) (applies_to : Requests) (expr : Expr) → Contains Entries (uid, applies_to)
@@ -177,9 +171,7 @@ module _ (bag : Bag) (extensions : Extensions) (declared : List (EntityUID × Ac
   counted uid applies_to expr among counts =
       let found = among_declared uid applies_to among in
       let it = action_declaration bag uid found.0 found.1 in
-      let P : Body → Type 0 = λ each. CountsIn each expr in
-      let Q : Requests → Type 0 = λ each. CountsInRequests each expr in
-      (it.0, it.1, subst P (sym it.2) (subst Q (sym found.2) counts))
+      (it.0, it.1, rw (it.2, found.2) counts)
 
   -- a principal or a resource of a declaration has to be an entity type
   placed : (uid : PlainUid) (applies_to : Requests) (reference : Reference) → Contains Entries (uid, applies_to)
@@ -187,9 +179,7 @@ module _ (bag : Bag) (extensions : Extensions) (declared : List (EntityUID × Ac
   placed uid applies_to reference among place =
       let found = among_declared uid applies_to among in
       let it = action_declaration bag uid found.0 found.1 in
-      let P : Body → Type 0 = λ each. IsEntityTypePosition each reference in
-      let Q : Requests → Type 0 = λ each. IsPrincipalOrResource each reference in
-      (it.0, it.1, subst P (sym it.2) (subst Q (sym found.2) place))
+      (it.0, it.1, rw (it.2, found.2) place)
 
   -- enough is known for what counts in a declaration
   known_counted : (uid : PlainUid) (applies_to : Requests) (expr : Expr) → Contains Entries (uid, applies_to)
@@ -201,7 +191,7 @@ module _ (bag : Bag) (extensions : Extensions) (declared : List (EntityUID × Ac
       → ResolvesTo (defined_names bag extensions) (reference_to_one Entity name) name
   one_resolves name place =
       let found = ready.placed (reference_to_one Entity name) place in
-      ⊎_elim (λ here. inl (refl, here.1)) (λ later. absurd later.1) found.1
+      elim found.1 [ inl here ↦ inl (refl, here.1) | inr later ↦ absurd later.1 ]
 
   -- the names of principals or resources are those that these resolve to
   names_resolved : (uid : PlainUid) (applies_to : Requests) (references : List Reference) (names : List PlainName)
@@ -219,11 +209,8 @@ module _ (bag : Bag) (extensions : Extensions) (declared : List (EntityUID × Ac
         ),
     λ by.
         let alone = one_placed uid applies_to by.0 among (place by.0 by.1) in
-        let P : Reference → Type 0 = Contains references in
-        let Q : Reference → Type 0 = λ each. ResolvesTo (defined_names bag extensions) each name in
-        let same : alone.0 ≡ name = ⊎_elim (λ here. here.0) (λ later. absurd later.1) (subst Q alone.1 by.2) in
-        let R : PlainName → Type 0 = λ each. Contains references (reference_to_one Entity each) in
-        (named name).1 (subst R same (subst P alone.1 by.1)),
+        let same : alone.0 ≡ name = elim (rw alone.1 at by.2) [ inl here ↦ here.0 | inr later ↦ absurd later.1 ] in
+        (named name).1 (rw (alone.1, same) at by.1),
   )
 
   -- the kind of an action is the declared one
@@ -243,83 +230,65 @@ module _ (bag : Bag) (extensions : Extensions) (declared : List (EntityUID × Ac
   -- what is said of the declarations the bag says
   said_in_bag : (uid : PlainUid) (applies_to : Requests) → SaysTogether is_action_definition Entries uid applies_to → ActionSays bag uid applies_to
   said_in_bag uid applies_to says =
-      let P : List Entry → Type 0 = λ entries. SaysTogether is_action_definition entries uid applies_to in
-      bag_says bag uid applies_to (subst P same_entries says)
+      bag_says bag uid applies_to (rw same_entries at says)
 
   -- a context that is no record type is a fault of the bag
   context_fault : (uid : PlainUid) (applies_to : Requests) → Contains Entries (uid, applies_to) → HasNoRecord scope applies_to
       → IsFault bag extensions (context_not_record uid)
   context_fault uid elsewhere among none = absurd none
   context_fault uid (requests principals resources context) among none =
-      let all = requests principals resources context in
-      let P : List Entry → Type 0 = λ entries. Contains entries (uid, requests principals resources context) in (
+      let all = requests principals resources context in (
         principals,
         resources,
         context,
-        subst P same_definitions (declared_definition (by_test is_action_definition) Entries uid all refl among),
+        rw same_definitions at (declared_definition (by_test is_action_definition) Entries uid all refl among),
         (none.0, none.1 (definitions bag extensions) (known_counted uid all context among refl), none.2),
       )
 
   -- a name that is no declared entity type's and yet resolves is that of a type of actions
   undeclared_action_type : (name : PlainName) → ¬ Contains (names_in types) name
       → IsDefined (defined_names bag extensions) Entity name → IsActionType name
-  undeclared_action_type name none is_defined =
-      ⊎_elim
-      (λ common. absurd common.0)
-      (λ is_entity. ⊎_elim
-      (λ among. absurd (none ((ready.entity_types name).1 among)))
-      (λ action. action_type bag name action)
-      (Contains-append_cases (map (λ it. it.0) (declared_entities bag)) (map (λ uid. uid.ty) (action_uids bag)) name is_entity.1))
-      is_defined
+  undeclared_action_type name none is_defined = elim is_defined [
+    | inl common ↦ absurd common.0
+    | inr is_entity ↦ elim (Contains-append_cases (map (λ it. it.0) (declared_entities bag)) (map (λ uid. uid.ty) (action_uids bag)) name is_entity.1) [
+      | inl among ↦ absurd (none ((ready.entity_types name).1 among))
+      | inr action ↦ action_type bag name action
+    ]
+  ]
 
   -- a refused name of a principal or a resource is a fault of the bag
   name_fault : (uid : PlainUid) (applies_to : Requests) (name : PlainName) (fault : Fault) → Contains Entries (uid, applies_to)
       → IsPrincipalOrResource applies_to (reference_to_one Entity name) → IsNameFault (names_in types) name fault
       → IsFault bag extensions fault
   name_fault uid applies_to name fault among place refused =
-      let P : Fault → Type 0 = IsFault bag extensions in
       let is_placed = placed uid applies_to (reference_to_one Entity name) among place in
       let resolves = one_resolves name is_placed in
       let is_defined : IsDefined (defined_names bag extensions) Entity name =
-      ⊎_elim (λ here. here.1) (λ later. absurd later.1) resolves in
-      ⊎_elim
-      (λ reserved. absurd (⊎_elim
-      (λ common. common.0)
-      (λ is_entity. ready.unreserved name is_entity.1 reserved.1)
-      is_defined))
-      (λ undeclared. subst P (sym undeclared.0) (
-        (λ wrong. cc),
-        λ each there.
-            let Q : PlainName → Type 0 = λ other. IsActionType other × (reference : Reference) × IsAtEntityTypePosition bag reference
-            × ResolvesTo (defined_names bag extensions) reference other in
-            subst Q (Contains-single name each there)
-            (undeclared_action_type name undeclared.1 is_defined, reference_to_one Entity name, is_placed, resolves),
-      ))
-      refused
+      elim resolves [ inl here ↦ here.1 | inr later ↦ absurd later.1 ] in
+      elim refused [
+        | inl reserved ↦ absurd (elim is_defined [ inl common ↦ common.0 | inr is_entity ↦ ready.unreserved name is_entity.1 reserved.1 ])
+        | inr undeclared ↦ rw undeclared.0 (
+          (λ wrong. cc),
+          λ each there.
+              rw (← Contains-single name each there)
+              (undeclared_action_type name undeclared.1 is_defined, reference_to_one Entity name, is_placed, resolves),
+        )
+      ]
 
   -- a refusal of declarations is a fault of the bag, unless memory ran out
   pub collecting_fault : (fault : Fault) → IsCollectingFault is_action_definition uid_of (λ key. IsRequestsFault scope (names_in types) (uid_of key)) duplicate_action Entries fault
       → (fault ≡ out_of_memory) ⊎ IsFault bag extensions fault
-  collecting_fault fault refused =
-      let P : Fault → Type 0 = IsFault bag extensions in
-      let Q : List Entry → PlainUid → Type 0 = λ entries uid. Twice (map (λ it. it.0) entries) uid in
-      ⊎_elim
-      (λ wanting. inl wanting)
-      (λ others. ⊎_elim
-      (λ one. ⊎_elim
-      (λ wanting. inl wanting)
-      (λ reasons. ⊎_elim
-      (λ expr. expr_fault bag extensions (extensions_in_scope scope) ready.extensions ready.unreserved expr.0 fault (counted (uid_of one.0) one.1 expr.0 one.2 expr.1)
-      (expr.2.each (definitions bag extensions) (known_counted (uid_of one.0) one.1 expr.0 one.2 expr.1)))
-      (λ rest. ⊎_elim
-      (λ context. inr (subst P (sym context.0) (context_fault (uid_of one.0) one.1 one.2 context.1)))
-      (λ name. inr (name_fault (uid_of one.0) one.1 name.0 fault one.2 name.1 name.2))
-      rest)
-      reasons)
-      one.3)
-      (λ twice. inr (subst P (sym twice.1) (subst (λ entries. Q entries twice.0) same_definitions twice.2)))
-      others)
-      refused
+  collecting_fault fault refused = elim refused [
+    | inl wanting ↦ inl wanting
+    | inr (inl one) ↦ elim one.3 [
+      | inl wanting ↦ inl wanting
+      | inr (inl expr) ↦ expr_fault bag extensions (extensions_in_scope scope) ready.extensions ready.unreserved expr.0 fault (counted (uid_of one.0) one.1 expr.0 one.2 expr.1)
+          (expr.2.each (definitions bag extensions) (known_counted (uid_of one.0) one.1 expr.0 one.2 expr.1))
+      | inr (inr (inl context)) ↦ inr (rw context.0 (context_fault (uid_of one.0) one.1 one.2 context.1))
+      | inr (inr (inr name)) ↦ inr (name_fault (uid_of one.0) one.1 name.0 fault one.2 name.1 name.2)
+    ]
+    | inr (inr twice) ↦ inr (rw twice.1 (rw same_definitions at twice.2))
+  ]
 
   module _ {S : Type 0} (before : HashMap EntityUID ValidatorActionId S) (collected : AreCollected scope Entries before)
       (once : (uid : PlainUid) → ¬ Twice (defined_in is_action_definition Entries) uid)
@@ -331,7 +300,7 @@ module _ (bag : Bag) (extensions : Extensions) (declared : List (EntityUID × Ac
       P uids = Contains uids (uid_of key)
 
       by : (o : Option ValidatorActionId) → IsCollectedAt is_action_definition IsExternal uid_in (GivesAction scope) Entries (uid_of key) o → IsSome o
-      by None none = absurd (none (subst P (sym same_uids) among))
+      by None none = absurd (none (rw same_uids among))
       by (Some it) is = refl
 
     -- the nodes and the edges are ready to be linked
@@ -345,27 +314,24 @@ module _ (bag : Bag) (extensions : Extensions) (declared : List (EntityUID × Ac
 
     -- a refusal of edges is a fault of the bag, unless memory ran out
     pub linking_fault : (fault : Fault) → IsLinkingFault edges fault → (fault ≡ out_of_memory) ⊎ IsFault bag extensions fault
-    linking_fault fault refused =
-        let P : Fault → Type 0 = IsFault bag extensions in
-        ⊎_elim
-        (λ wanting. inl wanting)
-        (λ cycle. inr (subst P (sym cycle.1) (chain_descends bag extensions declared types scope ready edges are cycle.2)))
-        refused
+    linking_fault fault refused = elim refused [
+      | inl wanting ↦ inl wanting
+      | inr cycle ↦ inr (rw cycle.1 (chain_descends bag extensions declared types scope ready edges are cycle.2))
+    ]
 
     module _ (after : HashMap EntityUID ValidatorActionId S) (linked : AreLinked edges before after) where
       -- what stands at a key after all is what the bag declares of the uid
       pub declared_at : (key : EntityUID) (it : ValidatorActionId) → node_at after key ≡ Some it
           → IsDeclaredAction bag extensions (plain_action_entry (key, it))
       declared_at key it found =
-          let old = alike_before SameAction (node_at before key) it (subst (AreTheSame (node_at before key)) found (linked.same key)) in
+          let old = alike_before SameAction (node_at before key) it (rw found at (linked.same key)) in
           let is : IsCollected is_action_definition IsExternal uid_in (GivesAction scope) Entries (uid_of key) old.0 =
-          subst (IsCollectedAt is_action_definition IsExternal uid_in (GivesAction scope) Entries (uid_of key)) old.1 (collected key) in
+          rw old.1 at (collected key) in
           record {
             applies_to = is.body;
             says = said_in_bag (uid_of key) is.body is.says;
             uid = sym old.2.0 ∙ is.name;
-            kind = subst (IsDeclaredActionKind (definitions bag extensions) is.body) old.2.1
-                (said_kind (uid_of key) is.body (action_of old.0).kind is.says is.given.kind);
+            kind = rw old.2.1 at (said_kind (uid_of key) is.body (action_of old.0).kind is.says is.given.kind);
             descendants = descendants (uid_eq.ghosts).eq uid_of has_descendant (λ each. each.descendants.keys)
                 (λ each other. list_any-uids other each.descendants.keys) edges (IsDescendantAction bag)
                 (λ upper lower. chain_descends bag extensions declared types scope ready edges are)
@@ -377,8 +343,7 @@ module _ (bag : Bag) (extensions : Extensions) (declared : List (EntityUID × Ac
           → (key : EntityUID) × (uid_of key ≡ uid) × IsSome (node_at after key)
       stands_after uid among =
           let key = key_of uid among in
-          let P : PlainUid → Type 0 = Contains (action_uids bag) in
-          let there = stands key.0 (subst P (sym key.1) among) in
+          let there = stands key.0 (rw key.1 among) in
           (key.0, key.1, alike_after SameAction (node_at before key.0) (node_at after key.0) (linked.same key.0) there)
 
       -- no action is a descendant of itself
@@ -393,14 +358,12 @@ module _ (bag : Bag) (extensions : Extensions) (declared : List (EntityUID × Ac
         -- each context is a record type
         no_context_fault : (uid : PlainUid) → ¬ IsFault bag extensions (context_not_record uid)
         no_context_fault uid fault =
-            let P : List Entry → Type 0 = λ entries. Contains entries (uid, requests fault.0 fault.1 fault.2) in
-            let among = said_definition (by_test is_action_definition) Entries uid (requests fault.0 fault.1 fault.2) refl (subst P (sym same_definitions) fault.3) in
+            let among = said_definition (by_test is_action_definition) Entries uid (requests fault.0 fault.1 fault.2) refl (rw same_definitions fault.3) in
             let record_context = (sound uid (requests fault.0 fault.1 fault.2) among).record_context in
-            let Q : Ty → Type 0 = IsRecordType in
-            fault.4.2 (subst Q (elaborated_once (definitions bag extensions) ready.one_definition
+            fault.4.2 (rw (elaborated_once (definitions bag extensions) ready.one_definition
             (record_context.1 (definitions bag extensions)
             (known_counted uid (requests fault.0 fault.1 fault.2) fault.2 among refl))
-            fault.4.1) record_context.2)
+            fault.4.1) at record_context.2)
 
         -- principals and resources are declared entity types
         place_declared : (uid : PlainUid) (body : ActionBody) (reference : Reference) (name : PlainName)
@@ -409,26 +372,21 @@ module _ (bag : Bag) (extensions : Extensions) (declared : List (EntityUID × Ac
         place_declared uid body reference name among place resolves =
             let there = among_collected uid body among in
             let alone = one_placed uid body.applies_to reference there place in
-            let P : Reference → Type 0 = IsPrincipalOrResource body.applies_to in
-            let Q : Reference → Type 0 = λ each. ResolvesTo (defined_names bag extensions) each name in
-            let same : alone.0 ≡ name = ⊎_elim (λ here. here.0) (λ later. absurd later.1) (subst Q alone.1 resolves) in
-            let R : PlainName → Type 0 = Contains (names_in types) in
+            let same : alone.0 ≡ name = elim (rw alone.1 at resolves) [ inl here ↦ here.0 | inr later ↦ absurd later.1 ] in
             (ready.entity_types name).0
-            (subst R same ((sound uid body.applies_to there).entity_types alone.0 (subst P alone.1 place)))
+            (rw same at ((sound uid body.applies_to there).entity_types alone.0 (rw alone.1 at place)))
 
         -- what is certain of the declarations
         pub certain : ActionsAreSound bag extensions
         certain = record {
           once = λ uid twice. once uid
-              (let P : List Entry → Type 0 = λ entries. Twice (map (λ it. it.0) entries) uid in
-              subst P (sym same_definitions) twice);
+              (rw same_definitions twice);
           no_cycle = no_cycle;
           records = no_context_fault;
           closed = λ uid body expr among counts.
               (sound uid body.applies_to (among_collected uid body among)).closed expr counts;
           extension_types = λ uid body expr among counts word mentioned.
-              let P : List PlainName → Type 0 = λ names. Contains names (extension_name word) in
-              subst P ready.extensions
+              rw ready.extensions at
               ((sound uid body.applies_to (among_collected uid body among)).extensions expr counts word mentioned);
           entity_types = place_declared;
         }

@@ -1,5 +1,5 @@
 -- Types that stand for no record type.
-use Rattle.std.proofs.Common.{◌≡◌, Bool, Some, None, refl, ap, sym, subst, ◌∙◌}
+use Rattle.std.proofs.Common.{◌≡◌, Bool, None, refl, ap, sym, ◌∙◌}
 use Rattle.cedar_declarations.specs.ElaboratesTo.{IsRecordType}
 use Rattle.cedar_types.specs.Meaning.{ty_of, type_step, attribute_step, attributes_step, fields_of, attribute_of}
 use Rattle.cedar_type_rules.specs.Ty.{Ty, Fields}
@@ -22,18 +22,12 @@ folded-out it = fold_out-Type Ty (Bool × Ty) Fields type_step attribute_step at
 -- a layer that is no record's stands for no record type
 no_record_layer : (it : «Type») → ((attrs : Attributes) (openness : OpenTag) → ¬ (it ≡ Record attrs openness))
     → (part : layer.Type-F «Type» AttributeType Attributes) → out-Type it ≡ part → ¬ IsRecordType (folded part)
-no_record_layer it other layer.Never is holds = holds
-no_record_layer it other (layer.Bool scope) is holds = holds
-no_record_layer it other layer.Long is holds = holds
-no_record_layer it other layer.String is holds = holds
-no_record_layer it other (layer.Entity kind.AnyEntity) is holds = holds
-no_record_layer it other (layer.Entity (kind.Entity lub)) is holds = holds
-no_record_layer it other (layer.Set None) is holds = holds
-no_record_layer it other (layer.Set (Some element)) is holds = holds
 no_record_layer it other (layer.Record attrs openness) is holds =
     other attrs openness (sym (roll-out-Type it) ∙ (ap roll-Type is ∙ rolls-Record attrs openness))
-no_record_layer it other (layer.ExtensionType name) is holds = holds
+no_record_layer it other (layer.Entity kind.AnyEntity) is holds = holds
+no_record_layer it other (layer.Set None) is holds = holds
+no_record_layer it other _ is holds = holds
 
 -- a type that is no record type stands for none
 pub no_record : (it : «Type») → ((attrs : Attributes) (openness : OpenTag) → ¬ (it ≡ Record attrs openness)) → ¬ IsRecordType (ty_of it)
-no_record it other holds = no_record_layer it other (out-Type it) refl (subst IsRecordType (folded-out it) holds)
+no_record it other holds = no_record_layer it other (out-Type it) refl (rw (folded-out it) at holds)

@@ -1,5 +1,5 @@
 -- What is found in a map of entity types as it is gone through.
-use Rattle.std.proofs.Common.{◌≡◌, IsTrue, List, [], ◌∷◌, ◌++◌, Option, Some, IsSomeAnd, HashMap, map, ap, sym, subst, ◌∙◌, ⊎_elim, Contains}
+use Rattle.std.proofs.Common.{◌≡◌, IsTrue, List, [], ◌∷◌, ◌++◌, Some, HashMap, map, ap, sym, ◌∙◌, Contains, inl, inr}
 use Rattle.std.proofs.lemmas.List.{map-append}
 use Rattle.std.proofs.lemmas.List.Elements.{Contains-append_cases}
 use Rattle.std.proofs.lemmas.Map.Entries.{lookup_from_place, place_from_lookup}
@@ -23,9 +23,10 @@ use Rattle.cedar_builder.specs.EntityTypeNodes.{IsEnumeratedAt, IsExternalAt, Le
 pub shown_more : {A B : Type 0} (f : A → B) (P : B → Type 0) (xs : List A) (x : A) → ((y : B) → Contains (map f xs) y → P y) → P (f x)
     → (y : B) → Contains (map f (xs ++ x ∷ [])) y → P y
 shown_more {B = B} f P xs x each last y among =
-    let Q : List B → Type 0 = λ ys. Contains ys y in
-    ⊎_elim (each y) (λ here. subst P (Contains-single (f x) y here) last)
-    (Contains-append_cases (map f xs) (f x ∷ []) y (subst Q (map-append f xs (x ∷ [])) among))
+    elim (Contains-append_cases (map f xs) (f x ∷ []) y (rw (map-append f xs (x ∷ [])) at among)) [
+      | inl here ↦ each y here
+      | inr here ↦ rw (Contains-single (f x) y here) at last
+    ]
 
 module _ {S : Type 0} (nodes : HashMap EntityType ValidatorEntityType S) where
   -- an entry is what stands at its key
@@ -53,14 +54,13 @@ module _ {S : Type 0} (nodes : HashMap EntityType ValidatorEntityType S) where
   pub entry_leads : (key : EntityType) (it : ValidatorEntityType) → node_at nodes key ≡ Some it → (lower : EntityType)
       → Contains it.descendants.keys lower → LeadsTo nodes key lower
   entry_leads key it found lower among =
-      let P : Option ValidatorEntityType → Type 0 = λ o. IsSomeAnd o (λ node. IsTrue (has_descendant node lower)) in
-      subst P (sym found)
+      rw found
       ((list_any-names lower it.descendants.keys).1 (Contains-image type_name it.descendants.keys lower among))
 
   -- an enumerated entity type stands at its key
   pub entry_enumerated : (key : EntityType) (it : ValidatorEntityType) → node_at nodes key ≡ Some it
       → IsEnumerated (entity_type_of it).kind → IsEnumeratedAt (node_at nodes key)
-  entry_enumerated key it found is = let P : Option ValidatorEntityType → Type 0 = IsEnumeratedAt in subst P (sym found) is
+  entry_enumerated key it found is = rw found is
 
   -- what is certain of each entry is certain of the map
   pub certain_of_all : ((upper : EntityType) (it : ValidatorEntityType) → Contains nodes.entries (upper, it)
@@ -71,8 +71,6 @@ module _ {S : Type 0} (nodes : HashMap EntityType ValidatorEntityType S) where
   certain_of_all each upper lower leads is external =
       let it = some_with (node_at nodes upper) (λ node. IsTrue (has_descendant node lower)) leads in
       let entry = standing_entry upper it.0 it.1 in
-      let P : Option ValidatorEntityType → Type 0 = IsEnumeratedAt in
       let named = Contains-named it.0.descendants.keys (type_name lower) ((list_any-names lower it.0.descendants.keys).0 it.2) in
-      let Q : Option ValidatorEntityType → Type 0 = IsExternalAt in
-      each entry.0 it.0 entry.1 (subst P it.1 is) named.0 named.1
-      (subst Q (get_alike entity_type_equal.Laws.laws-law nodes lower named.0 ((entity_type_eq-same lower named.0).1 (sym named.2))) external)
+      each entry.0 it.0 entry.1 (rw it.1 at is) named.0 named.1
+      (rw (get_alike entity_type_equal.Laws.laws-law nodes lower named.0 ((entity_type_eq-same lower named.0).1 (sym named.2))) at external)

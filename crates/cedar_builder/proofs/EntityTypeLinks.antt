@@ -15,16 +15,16 @@ use Rattle.cedar_builder.specs.EntityTypeNodes.{AreLinked, AreTheSame, IsAbove, 
 enumerated_same : (o p : Option ValidatorEntityType) → AreTheSame o p → IsEnumeratedAt o ↔ IsEnumeratedAt p
 enumerated_same None None same = (λ there. there, λ there. there)
 enumerated_same (Some it) (Some other) same =
-    let P : PlainEntityType → Type 0 = λ each. IsEnumerated each.kind in
-    (λ there. subst P same there, λ there. subst P (sym same) there)
+    let HasChoices : PlainEntityType → Type 0 = λ each. IsEnumerated each.kind in
+    (λ there. subst HasChoices same there, λ there. subst HasChoices (sym same) there)
 enumerated_same _ _ same = absurd same
 
 -- an external entity type stands at a key before and after
 external_same : (o p : Option ValidatorEntityType) → AreTheSame o p → IsExternalAt o ↔ IsExternalAt p
 external_same None None same = (λ there. there, λ there. there)
 external_same (Some it) (Some other) same =
-    let P : PlainEntityType → Type 0 = λ each. each.kind ≡ external_kind in
-    (λ there. subst P same there, λ there. subst P (sym same) there)
+    let IsOutside : PlainEntityType → Type 0 = λ each. each.kind ≡ external_kind in
+    (λ there. subst IsOutside same there, λ there. subst IsOutside (sym same) there)
 external_same _ _ same = absurd same
 
 module _ {S : Type 0} (edges : List (EntityType × EntityType)) (before : HashMap EntityType ValidatorEntityType S)
@@ -34,11 +34,9 @@ module _ {S : Type 0} (edges : List (EntityType × EntityType)) (before : HashMa
       → IsSome (node_at before upper) × (¬ IsEnumeratedAt (node_at before lower))
   above_sound upper lower above =
       let edge = above.0 in
-      let one = sound edge above.1 in
-      let P : Option ValidatorEntityType → Type 0 = IsSome in
-      let Q : Option ValidatorEntityType → Type 0 = λ o. ¬ IsEnumeratedAt o in (
-        subst P (get_alike entity_type_equal.Laws.laws-law before edge.0 upper above.2) one.stands,
-        subst Q (get_alike entity_type_equal.Laws.laws-law before edge.1 lower above.3) one.not_enumerated,
+      let one = sound edge above.1 in (
+        rw (get_alike entity_type_equal.Laws.laws-law before edge.0 upper above.2) at one.stands,
+        rw (get_alike entity_type_equal.Laws.laws-law before edge.1 lower above.3) at one.not_enumerated,
       )
 
   -- the upper entity type of an edge stands in the map

@@ -1,5 +1,5 @@
 -- Parents and descent of entity types, as edges and in the bag.
-use Rattle.std.proofs.Common.{◌≡◌, List, map, ap, sym, subst, ◌∙◌, refl, inl, ⊎_elim, Contains}
+use Rattle.std.proofs.Common.{◌≡◌, List, map, ap, sym, ◌∙◌, refl, inl, Contains, inr}
 use Rattle.std.proofs.lemmas.Simd.{map-map}
 use Rattle.cedar_below.proofs.Names.{entity_type_eq-same}
 use Rattle.cedar_below.specs.Chain.{Chain}
@@ -11,7 +11,7 @@ use Rattle.cedar_below.specs.declared.extension.Extensions.{Extensions}
 use Rattle.cedar_below.specs.declared.internal_name.InternalName.{InternalName}
 use Rattle.cedar_declarations.proofs.DeclarationLemmas.{entity_declaration}
 use Rattle.cedar_declarations.specs.Bag.{Bag, declared_entities, defined_names}
-use Rattle.cedar_declarations.specs.Counted.{IsEntityTypePosition, IsAtEntityTypePosition, entity_parents}
+use Rattle.cedar_declarations.specs.Counted.{IsAtEntityTypePosition, entity_parents}
 use Rattle.cedar_declarations.specs.Descent.{HasParent, IsDescendant}
 use Rattle.cedar_declarations.specs.Fault.{Fault, reserved_name}
 use Rattle.cedar_declarations.specs.Names.{ResolvesTo}
@@ -51,7 +51,7 @@ an_edge edges edge upper lower among above below = (edge, among, (entity_type_eq
 pub parent_placed : (bag : Bag) (name : PlainName) (reference : Reference) → IsParent bag name reference → IsAtEntityTypePosition bag reference
 parent_placed bag name reference parent =
     let it = entity_declaration bag name parent.0 parent.1 in
-    (it.0, it.1, subst (λ body. IsEntityTypePosition body reference) (sym it.2) parent.2)
+    (it.0, it.1, rw it.2 parent.2)
 
 module _ (bag : Bag) (extensions : Extensions) (declared : List (EntityType × EntityTypeFragment InternalName))
     (scope : TypeScope) (ready : IsReady bag extensions declared scope) where
@@ -60,7 +60,7 @@ module _ (bag : Bag) (extensions : Extensions) (declared : List (EntityType × E
       → ResolvesTo (defined_names bag extensions) (reference_to_one Entity name) name
   one_resolves name placed =
       let found = ready.placed (reference_to_one Entity name) placed in
-      ⊎_elim (λ here. inl (refl, here.1)) (λ later. absurd later.1) found.1
+      elim found.1 [ inl here ↦ inl (refl, here.1) | inr later ↦ absurd later.1 ]
 
   -- the parents that are listed are those in the bag
   same_parents : parents_in (map listed declared)
@@ -72,7 +72,7 @@ module _ (bag : Bag) (extensions : Extensions) (declared : List (EntityType × E
       → Contains (parents_in (map listed declared)) (name, reference)
       → IsParent bag name reference
   listed_parent name reference among =
-      any.parent_from entity_parents (declared_entities bag) name reference (subst (λ all. Contains all (name, reference)) same_parents among)
+      any.parent_from entity_parents (declared_entities bag) name reference (rw same_parents at among)
 
   module _ (edges : List (EntityType × EntityType)) (are : AreEdges declared edges) where
     -- the edges are those of the bag
@@ -87,7 +87,7 @@ module _ (bag : Bag) (extensions : Extensions) (declared : List (EntityType × E
 
     -- to nothing else
     alone : (name other : PlainName) → ResolvesTo (defined_names bag extensions) (reference_to_one Entity name) other → name ≡ other
-    alone name other names = ⊎_elim (λ here. here.0) (λ later. absurd later.1) names
+    alone name other names = elim names [ inl here ↦ here.0 | inr later ↦ absurd later.1 ]
 
     -- an edge leads to an entity type from a parent of it
     pub edge_parent : (upper lower : EntityType) → IsAbove edges upper lower

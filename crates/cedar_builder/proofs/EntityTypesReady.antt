@@ -1,5 +1,5 @@
 -- What the steps promise, read of a bag for which they are ready.
-use Rattle.std.proofs.Common.{◌≡◌, ◌⊎◌, true, is_some, List, [], ◌∷◌, Option, None, Some, IsSome, HashMap, map, ap, sym, subst, ◌∙◌, refl, inl, inr, ⊎_elim, arith, Contains}
+use Rattle.std.proofs.Common.{◌≡◌, ◌⊎◌, true, is_some, List, [], ◌∷◌, Option, None, Some, IsSome, HashMap, map, ap, sym, ◌∙◌, refl, inl, inr, arith, Contains}
 use Rattle.std.proofs.lemmas.Bool.{false≢true}
 use Rattle.std.specs.List.{flat_map}
 use Rattle.std.proofs.lemmas.List.Elements.{Contains-append_cases}
@@ -17,7 +17,7 @@ use Rattle.cedar_declarations.proofs.OccurrenceLemmas.{Contains-image, Contains-
 use Rattle.cedar_declarations.proofs.ResolutionLemmas.{elaborated_once}
 use Rattle.cedar_declarations.proofs.TogetherLemmas.{IsDefinition, entity_counted}
 use Rattle.cedar_declarations.specs.Bag.{Bag, action_uids, declared_entities, defined_names, definitions}
-use Rattle.cedar_declarations.specs.Counted.{CountsIn, CountsInEntity, IsCounted, IsAtEntityTypePosition, entity_parents}
+use Rattle.cedar_declarations.specs.Counted.{CountsInEntity, IsCounted, IsAtEntityTypePosition, entity_parents}
 use Rattle.cedar_declarations.specs.DeclaredSchema.{AreDeclaredTags, IsDeclaredEntityType, IsDeclaredKind}
 use Rattle.cedar_declarations.specs.Defined.{Defined}
 use Rattle.cedar_declarations.specs.Descent.{HasParent, IsDescendant}
@@ -28,11 +28,10 @@ use Rattle.cedar_declarations.specs.Names.{IsDefined, ResolvesTo}
 use Rattle.cedar_below.specs.Lists.{Twice}
 use Rattle.cedar_declarations.specs.Resolved.{reference_to_one}
 use Rattle.cedar_declarations.specs.Together.{EntitySays, IsExternalType, IsParent, defined_entities, entity_definition_in, entity_definitions}
-use Rattle.cedar_declarations.specs.ElaboratesTo.{IsNoRecord, IsRecordType}
+use Rattle.cedar_declarations.specs.ElaboratesTo.{IsNoRecord}
 use Rattle.cedar_schema_elements.specs.ValidatorEntityType.{PlainEntityType, entity_type_of, plain_entry}
 use Rattle.cedar_schema_elements.specs.declared.entity_type.ValidatorEntityType.{ValidatorEntityType}
 use Rattle.cedar_fragments.specs.declared.namespace.entity_types.EntityTypeFragment.{EntityTypeFragment}
-use Rattle.cedar_names.specs.Declaration.{Body}
 use Rattle.cedar_names.specs.EntityBody.{EntityBody, standard, enumerated, external}
 use Rattle.cedar_names.specs.Expr.{Expr}
 use Rattle.cedar_names.specs.Reference.{Reference}
@@ -46,11 +45,11 @@ use Rattle.cedar_builder.proofs.ReadyLemmas.{action_type, expr_fault}
 use Rattle.cedar_builder.specs.DeclaredNodes.{IsCollected, IsCollectedAt, IsCollectingFault, IsParentFault, SaysTogether, defined_in, definition_in, parents_in}
 use Rattle.cedar_resolution.specs.Collected.{collected_entities}
 use Rattle.cedar_declarations.specs.ValidSchema.{IsEnumerated}
-use Rattle.cedar_builder.specs.EntityTypeNodes.{AreLinked, AreTheSame, IsAbove, IsElaboratedEntity, IsEnumeratedAt, IsExternalAt, IsLinkingFault, LeadsTo, SameType, has_descendant, node_at}
+use Rattle.cedar_builder.specs.EntityTypeNodes.{AreLinked, IsAbove, IsElaboratedEntity, IsEnumeratedAt, IsExternalAt, IsLinkingFault, LeadsTo, SameType, has_descendant, node_at}
 use Rattle.cedar_builder.specs.EntityTypesReady.{IsReady}
 use Rattle.cedar_builder.specs.SoundEntityTypes.{EntityTypesAreSound}
 use Rattle.cedar_builder.specs.EntityTypeSteps.{AreElaboratedTags, HasNoRecord, IsBodyFault, IsElaboratedKind, IsSoundBody, entry_names, is_entity_definition}
-use Rattle.cedar_elaboration.specs.Scope.{Covers, extension_name, extensions_in_scope}
+use Rattle.cedar_elaboration.specs.Scope.{Covers, extensions_in_scope}
 use Rattle.cedar_elaboration.specs.declared.type_scope.TypeScope.{TypeScope}
 
 abbrev Entry : Type 0
@@ -70,25 +69,22 @@ GivesEntity scope body it = IsElaboratedEntity scope (name_of it) body it
 
 -- a definition passes the test
 passes : (body : EntityBody) → IsDefinition body → is_entity_definition body ≡ true
-passes (standard parents shape tags) is = refl
-passes (enumerated ids) is = refl
 passes (external parents) is = absurd is
+passes _ is = refl
 
 -- declarations give the same definitions by the test
 definitions_alike : (entries : List Entry) → flat_map (definition_in is_entity_definition) entries ≡ entity_definitions entries
 definitions_alike entries = ap (λ give. flat_map give entries) (λ i it. alike it.0 it.1 i) where
   alike : (name : PlainName) (body : EntityBody) → definition_in is_entity_definition (name, body) ≡ entity_definition_in name body
-  alike name (standard parents shape tags) = refl
-  alike name (enumerated ids) = refl
   alike name (external parents) = refl
+  alike name _ = refl
 
 -- the type of tags that is elaborated is the declared one
 tags_declared : (scope : TypeScope) (defined : Defined) (tags : Option Expr) (ty : Option Ty)
     → ((expr : Expr) → tags ≡ Some expr → Covers defined scope expr) → AreElaboratedTags scope tags ty → AreDeclaredTags defined tags ty
 tags_declared scope defined (Some expr) (Some ty) knows elaborated = elaborated defined (knows expr refl)
-tags_declared scope defined (Some expr) None knows elaborated = elaborated
-tags_declared scope defined None (Some ty) knows elaborated = elaborated
 tags_declared scope defined None None knows elaborated = tt
+tags_declared scope defined _ _ knows elaborated = elaborated
 
 -- the kind that is elaborated is the declared one, where enough is known
 kind_declared : (scope : TypeScope) (defined : Defined) (body : EntityBody) (kind : EntityTypeKind)
@@ -99,33 +95,24 @@ kind_declared scope defined (standard parents shape tags) (standard_kind fields 
   elaborated.1,
   tags_declared scope defined tags ty (λ expr is. knows expr (inr is)) elaborated.2,
 )
-kind_declared scope defined (standard parents shape tags) (enumerated_kind choices) knows elaborated = elaborated
-kind_declared scope defined (standard parents shape tags) external_kind knows elaborated = elaborated
-kind_declared scope defined (enumerated ids) (standard_kind fields openness ty) knows elaborated = elaborated
 kind_declared scope defined (enumerated ids) (enumerated_kind choices) knows elaborated = elaborated
-kind_declared scope defined (enumerated ids) external_kind knows elaborated = elaborated
-kind_declared scope defined (external parents) (standard_kind fields openness ty) knows elaborated = elaborated
-kind_declared scope defined (external parents) (enumerated_kind choices) knows elaborated = elaborated
 kind_declared scope defined (external parents) external_kind knows elaborated = elaborated
+kind_declared scope defined _ _ knows elaborated = elaborated
 
 -- what counts in a declaration of an entity type counts in the bag
 counted : (bag : Bag) (name : PlainName) (body : EntityBody) (expr : Expr) → Contains (declared_entities bag) (name, body)
     → CountsInEntity body expr → IsCounted bag expr
 counted bag name body expr among counts =
     let it = entity_declaration bag name body among in
-    let P : Body → Type 0 = λ each. CountsIn each expr in
-    (it.0, it.1, subst P (sym it.2) counts)
+    (it.0, it.1, rw it.2 counts)
 
 -- what is elaborated as an enumerated kind is a declaration by its choices
 enumerated_elaborated : (scope : TypeScope) (body : EntityBody) (kind : EntityTypeKind) → IsElaboratedKind scope body kind → IsEnumerated kind
     → (choices : List Text) × (body ≡ enumerated choices)
-enumerated_elaborated scope (standard parents shape tags) (standard_kind fields openness ty) elaborated is = absurd is
-enumerated_elaborated scope (standard parents shape tags) (enumerated_kind choices) elaborated is = absurd elaborated
-enumerated_elaborated scope (standard parents shape tags) external_kind elaborated is = absurd is
 enumerated_elaborated scope (enumerated ids) kind elaborated is = (ids, refl)
-enumerated_elaborated scope (external parents) (standard_kind fields openness ty) elaborated is = absurd is
+enumerated_elaborated scope (standard parents shape tags) (enumerated_kind choices) elaborated is = absurd elaborated
 enumerated_elaborated scope (external parents) (enumerated_kind choices) elaborated is = absurd elaborated
-enumerated_elaborated scope (external parents) external_kind elaborated is = absurd is
+enumerated_elaborated scope _ _ elaborated is = absurd is
 
 -- a declaration by choices is elaborated as an enumerated kind
 elaborated_enumerated : (scope : TypeScope) (choices : List Text) (kind : EntityTypeKind) → IsElaboratedKind scope (enumerated choices) kind
@@ -167,18 +154,17 @@ module _ (bag : Bag) (extensions : Extensions) (declared : List (EntityType × E
   -- a declared entity type of the bag is among those that are handed in
   among_collected : (name : PlainName) (body : EntityBody) → Contains (declared_entities bag) (name, body) → Contains Entries (name, body)
   among_collected name body among =
-      let P : List Entry → Type 0 = λ entries. Contains entries (name, body) in subst P (sym ready.entities) among
+      rw ready.entities among
 
   -- and the other way round
   among_declared : (name : PlainName) (body : EntityBody) → Contains Entries (name, body) → Contains (declared_entities bag) (name, body)
   among_declared name body among =
-      let P : List Entry → Type 0 = λ entries. Contains entries (name, body) in subst P ready.entities among
+      rw ready.entities at among
 
   -- a declared name is that of an entity type that is handed in
   key_of : (name : PlainName) → Contains (entry_names (declared_entities bag)) name → (key : EntityType) × (type_name key ≡ name)
   key_of name among =
-      let P : List Entry → Type 0 = λ entries. Contains (entry_names entries) name in
-      let entry = Contains-preimage (λ (it : Entry). it.0) Entries name (subst P (sym ready.entities) among) in
+      let entry = Contains-preimage (λ (it : Entry). it.0) Entries name (rw ready.entities among) in
       let item = Contains-preimage (λ (it : EntityType × EntityTypeFragment InternalName). (type_name it.0, _)) declared entry.0 entry.1 in
       (item.0.0, ap (λ (it : Entry). it.0) item.2 ∙ entry.2)
 
@@ -202,12 +188,12 @@ module _ (bag : Bag) (extensions : Extensions) (declared : List (EntityType × E
   -- what is said of the declarations the bag says
   said_in_bag : (name : PlainName) (body : EntityBody) → SaysTogether is_entity_definition Entries name body → EntitySays bag name body
   said_in_bag name (external parents) says = (
-    subst (λ entries. Contains (entry_names entries) name) ready.entities says.0,
-    λ among. says.1 (subst (λ entries. Contains (entry_names entries) name) (sym same_definitions) among),
+    rw ready.entities at says.0,
+    λ among. says.1 (rw same_definitions among),
   )
   said_in_bag name (standard parents shape tags) says =
-      subst (λ entries. Contains entries (name, standard parents shape tags)) same_definitions says
-  said_in_bag name (enumerated ids) says = subst (λ entries. Contains entries (name, enumerated ids)) same_definitions says
+      rw same_definitions at says
+  said_in_bag name (enumerated ids) says = rw same_definitions at says
 
   -- a shape that is no record type is a fault of the bag
   shape_fault : (name : PlainName) (body : EntityBody) → Contains Entries (name, body) → HasNoRecord scope body
@@ -229,39 +215,30 @@ module _ (bag : Bag) (extensions : Extensions) (declared : List (EntityType × E
   -- a refusal of parents is a fault of the bag, unless memory ran out
   pub parent_fault : (fault : Fault)
       → IsParentFault RefusesReserved (parents_in (map listed declared)) fault → (fault ≡ out_of_memory) ⊎ IsFault bag extensions fault
-  parent_fault fault refused = ⊎_elim
-      (λ wanting. inl wanting)
-      (λ reserved.
-      let name = reserved.3.0 in
-      let parent = listed_parent bag extensions declared scope ready reserved.0 reserved.1 reserved.2 in
-      let placed = parent_placed bag reserved.0 reserved.1 parent in
-      absurd (⊎_elim
-      (λ here. ⊎_elim
-      (λ common. common.0)
-      (λ is_entity. ready.unreserved name is_entity.1 reserved.3.2)
-      here.1)
-      (λ later. later.1)
-      (one_resolves bag extensions declared scope ready name (subst (IsAtEntityTypePosition bag) reserved.3.3 placed))))
-      refused
+  parent_fault fault refused = elim refused [
+    | inl wanting ↦ inl wanting
+    | inr reserved ↦
+        let name = reserved.3.0 in
+        let parent = listed_parent bag extensions declared scope ready reserved.0 reserved.1 reserved.2 in
+        let placed = parent_placed bag reserved.0 reserved.1 parent in
+        absurd (elim (one_resolves bag extensions declared scope ready name (rw reserved.3.3 at placed)) [
+          | inl here ↦ elim here.1 [ inl common ↦ common.0 | inr is_entity ↦ ready.unreserved name is_entity.1 reserved.3.2 ]
+          | inr later ↦ later.1
+        ])
+  ]
 
   -- a refusal of declarations is a fault of the bag, unless memory ran out
   pub collecting_fault : (fault : Fault) → IsCollectingFault is_entity_definition type_name (λ key. IsBodyFault scope (type_name key)) duplicate_entity_type Entries fault → (fault ≡ out_of_memory) ⊎ IsFault bag extensions fault
-  collecting_fault fault refused =
-      let P : Fault → Type 0 = IsFault bag extensions in
-      ⊎_elim
-      (λ wanting. inl wanting)
-      (λ others. ⊎_elim
-      (λ one. ⊎_elim
-      (λ wanting. inl wanting)
-      (λ body. ⊎_elim
-      (λ expr. expr_fault bag extensions (extensions_in_scope scope) ready.extensions ready.unreserved expr.0 fault (counted bag (type_name one.0) one.1 expr.0 (among_declared (type_name one.0) one.1 one.2) expr.1)
-      (expr.2.each (definitions bag extensions) (known_counted (type_name one.0) one.1 expr.0 one.2 expr.1)))
-      (λ shape. inr (subst P (sym shape.0) (shape_fault (type_name one.0) one.1 one.2 shape.1)))
-      body)
-      one.3)
-      (λ twice. inr (subst P (sym twice.1) (subst (λ entries. Twice (entry_names entries) twice.0) same_definitions twice.2)))
-      others)
-      refused
+  collecting_fault fault refused = elim refused [
+    | inl wanting ↦ inl wanting
+    | inr (inl one) ↦ elim one.3 [
+      | inl wanting ↦ inl wanting
+      | inr (inl expr) ↦ expr_fault bag extensions (extensions_in_scope scope) ready.extensions ready.unreserved expr.0 fault (counted bag (type_name one.0) one.1 expr.0 (among_declared (type_name one.0) one.1 one.2) expr.1)
+          (expr.2.each (definitions bag extensions) (known_counted (type_name one.0) one.1 expr.0 one.2 expr.1))
+      | inr (inr shape) ↦ inr (rw shape.0 (shape_fault (type_name one.0) one.1 one.2 shape.1))
+    ]
+    | inr (inr twice) ↦ inr (rw twice.1 (rw same_definitions at twice.2))
+  ]
 
   module _ {S : Type 0} (before : HashMap EntityType ValidatorEntityType S) (collected : AreCollected scope Entries before)
       (once : (name : PlainName) → ¬ Twice (defined_in is_entity_definition Entries) name) where
@@ -299,9 +276,8 @@ module _ (bag : Bag) (extensions : Extensions) (declared : List (EntityType × E
       by : (o : Option ValidatorEntityType) → IsCollectedAt is_entity_definition IsExternal name_of (GivesEntity scope) Entries (type_name key) o → IsSome o → IsEnumeratedAt o
       by None none there = absurd (false≢true there)
       by (Some it) is there =
-          let P : EntityBody → Type 0 = λ body. IsElaboratedKind scope body (entity_type_of it).kind in
           elaborated_enumerated scope choices (entity_type_of it).kind
-          (subst P (said_is (type_name key) (enumerated choices) is.body refl among is.says) is.given.kind)
+          (rw (said_is (type_name key) (enumerated choices) is.body refl among is.says) at is.given.kind)
 
     -- and the other way round
     at_enumerated : (key : EntityType) → IsEnumeratedAt (node_at before key)
@@ -312,8 +288,7 @@ module _ (bag : Bag) (extensions : Extensions) (declared : List (EntityType × E
       by None none there = absurd there
       by (Some it) is there =
           let found = enumerated_elaborated scope is.body (entity_type_of it).kind is.given.kind there in
-          let P : EntityBody → Type 0 = SaysTogether is_entity_definition Entries (type_name key) in
-          (found.0, said_definition (by_test is_entity_definition) Entries (type_name key) (enumerated found.0) refl (subst P found.1 is.says))
+          (found.0, said_definition (by_test is_entity_definition) Entries (type_name key) (enumerated found.0) refl (rw found.1 at is.says))
 
     -- a name that is declared and not defined has an external entity type
     external_at : (key : EntityType) → Contains (entry_names Entries) (type_name key)
@@ -340,8 +315,7 @@ module _ (bag : Bag) (extensions : Extensions) (declared : List (EntityType × E
       by None none there = absurd there
       by (Some it) is there =
           let found = external_kind_elaborated scope is.body (entity_type_of it).kind is.given.kind there in
-          let P : EntityBody → Type 0 = SaysTogether is_entity_definition Entries (type_name key) in
-          (found.0, subst P found.1 is.says)
+          (found.0, rw found.1 at is.says)
 
     module _ (edges : List (EntityType × EntityType)) (are : AreEdges declared edges) where
       -- an edge to what isn't declared is to a type of actions
@@ -351,9 +325,7 @@ module _ (bag : Bag) (extensions : Extensions) (declared : List (EntityType × E
         (λ wrong. cc),
         λ name among.
             let same : type_name upper ≡ name = Contains-single (type_name upper) name among in
-            let P : PlainName → Type 0 = λ each. IsActionType each × (reference : Reference) × IsAtEntityTypePosition bag reference
-            × ResolvesTo (defined_names bag extensions) reference each in
-            subst P same (is_action, reference_to_one Entity (type_name upper), placed, resolves),
+            rw (← same) (is_action, reference_to_one Entity (type_name upper), placed, resolves),
       )
         where
           parent : IsParent bag (type_name lower) (reference_to_one Entity (type_name upper))
@@ -367,22 +339,20 @@ module _ (bag : Bag) (extensions : Extensions) (declared : List (EntityType × E
 
           undeclared : ¬ Contains (entry_names (declared_entities bag)) (type_name upper)
           undeclared among =
-              let P : List Entry → Type 0 = λ entries. Contains (entry_names entries) (type_name upper) in
-              false≢true (ap is_some (sym none) ∙ stands upper (subst P (sym ready.entities) among))
+              false≢true (ap is_some (sym none) ∙ stands upper (rw ready.entities among))
 
           defined_entity : IsDefined (defined_names bag extensions) Entity (type_name upper) → IsActionType (type_name upper)
-          defined_entity defined =
-              ⊎_elim
-              (λ common. absurd common.0)
-              (λ is_entity. ⊎_elim
-              (λ among. absurd (undeclared among))
-              (λ action. action_type bag (type_name upper) action)
-              (Contains-append_cases (entry_names (declared_entities bag)) (map (λ uid. uid.ty) (action_uids bag)) (type_name upper)
-              is_entity.1))
-              defined
+          defined_entity defined = elim defined [
+            | inl common ↦ absurd common.0
+            | inr is_entity ↦ elim (Contains-append_cases (entry_names (declared_entities bag)) (map (λ uid. uid.ty) (action_uids bag)) (type_name upper)
+                is_entity.1) [
+                  | inl among ↦ absurd (undeclared among)
+                  | inr action ↦ action_type bag (type_name upper) action
+                ]
+          ]
 
           is_action : IsActionType (type_name upper)
-          is_action = ⊎_elim (λ here. defined_entity here.1) (λ later. absurd later.1) resolves
+          is_action = elim resolves [ inl here ↦ defined_entity here.1 | inr later ↦ absurd later.1 ]
 
       -- a parent of an enumerated entity type is one by an external declaration
       enumerated_fault : (upper lower : EntityType) → IsAbove edges upper lower → IsEnumeratedAt (node_at before lower)
@@ -415,42 +385,36 @@ module _ (bag : Bag) (extensions : Extensions) (declared : List (EntityType × E
 
       -- a refusal of edges is a fault of the bag, unless memory ran out
       pub linking_fault : (fault : Fault) → IsLinkingFault edges before fault → (fault ≡ out_of_memory) ⊎ IsFault bag extensions fault
-      linking_fault fault refused =
-          let P : Fault → Type 0 = IsFault bag extensions in
-          ⊎_elim
-          (λ wanting. inl wanting)
-          (λ others. inr (⊎_elim
-          (λ one.
-          let above : IsAbove edges one.0.0 one.0.1 = an_edge edges one.0 one.0.0 one.0.1 one.1 refl refl in
-          ⊎_elim
-          (λ missing. subst P (sym missing.0) (undeclared_fault one.0.0 one.0.1 above missing.1))
-          (λ alone. subst P (sym alone.0) (enumerated_fault one.0.0 one.0.1 above alone.1))
-          one.2)
-          (λ below.
-          let upper = at_enumerated below.0 below.3 in
-          let lower = at_external below.1 below.4 in
-          subst P (sym below.5) (
-            upper.0,
-            said_in_bag (type_name below.1) (external lower.0) lower.1,
-            among_declared (type_name below.0) (enumerated upper.0) upper.1,
-            chain_descends bag extensions declared scope ready edges are below.2,
-          ))
-          others))
-          refused
+      linking_fault fault refused = elim refused [
+        | inl wanting ↦ inl wanting
+        | inr (inl one) ↦ inr (let above : IsAbove edges one.0.0 one.0.1 = an_edge edges one.0 one.0.0 one.0.1 one.1 refl refl in
+            elim one.2 [
+              | inl missing ↦ rw missing.0 (undeclared_fault one.0.0 one.0.1 above missing.1)
+              | inr alone ↦ rw alone.0 (enumerated_fault one.0.0 one.0.1 above alone.1)
+            ])
+        | inr (inr below) ↦ inr (let upper = at_enumerated below.0 below.3 in
+            let lower = at_external below.1 below.4 in
+            rw below.5 (
+              upper.0,
+              said_in_bag (type_name below.1) (external lower.0) lower.1,
+              among_declared (type_name below.0) (enumerated upper.0) upper.1,
+              chain_descends bag extensions declared scope ready edges are below.2,
+            ))
+      ]
 
       module _ (after : HashMap EntityType ValidatorEntityType S) (linked : AreLinked edges before after) where
         -- what stands at a key after all is what the bag declares of the name
         pub declared_at : (key : EntityType) (it : ValidatorEntityType) → node_at after key ≡ Some it
             → IsDeclaredEntityType bag extensions (plain_entry (key, it))
         declared_at key it found =
-            let old = alike_before SameType (node_at before key) it (subst (AreTheSame (node_at before key)) found (linked.same key)) in
+            let old = alike_before SameType (node_at before key) it (rw found at (linked.same key)) in
             let is : IsCollected is_entity_definition IsExternal name_of (GivesEntity scope) Entries (type_name key) old.0 =
-            subst (IsCollectedAt is_entity_definition IsExternal name_of (GivesEntity scope) Entries (type_name key)) old.1 (collected key) in
+            rw old.1 at (collected key) in
             record {
               body = is.body;
               says = said_in_bag (type_name key) is.body is.says;
               name = ap (λ (each : PlainEntityType). each.name) (sym old.2) ∙ is.name;
-              kind = subst (IsDeclaredKind (definitions bag extensions) is.body) (ap (λ (each : PlainEntityType). each.kind) old.2)
+              kind = rw (ap (λ (each : PlainEntityType). each.kind) old.2) at
                   (said_kind (type_name key) is.body (entity_type_of old.0).kind is.says is.given.kind);
               descendants = descendants (entity_type_eq.ghosts).eq type_name has_descendant (λ each. each.descendants.keys)
                   (λ each other. list_any-names other each.descendants.keys) edges (IsDescendant bag extensions)
@@ -464,9 +428,7 @@ module _ (bag : Bag) (extensions : Extensions) (declared : List (EntityType × E
             → (key : EntityType) × (type_name key ≡ name) × IsSome (node_at after key)
         stands_after name among =
             let key = key_of name among in
-            let P : List Entry → PlainName → Type 0 = λ entries each. Contains (entry_names entries) each in
-            let there = stands key.0 (subst (λ each. P Entries each) (sym key.1)
-            (subst (λ entries. P entries name) (sym ready.entities) among)) in
+            let there = stands key.0 (rw (key.1, ready.entities) among) in
             (key.0, key.1, alike_after SameType (node_at before key.0) (node_at after key.0) (linked.same key.0) there)
 
         -- what is certain of the declarations
@@ -474,12 +436,11 @@ module _ (bag : Bag) (extensions : Extensions) (declared : List (EntityType × E
             → EntityTypesAreSound bag extensions
         certain sound = record {
           once = λ name twice. once name
-              (subst (λ entries. Twice (entry_names entries) name) (sym same_definitions) twice);
+              (rw same_definitions twice);
           records = λ name fault. no_shape_fault name fault.0 fault.1 fault.2 fault.3 fault.4;
           closed = λ name body expr among counts. (sound name body (among_collected name body among)).closed expr counts;
           extension_types = λ name body expr among counts word mentioned.
-              let P : List PlainName → Type 0 = λ names. Contains names (extension_name word) in
-              subst P ready.extensions ((sound name body (among_collected name body among)).extensions expr counts word mentioned);
+              rw ready.extensions at ((sound name body (among_collected name body among)).extensions expr counts word mentioned);
           parents = λ name upper reference parent resolves. parent_declared name upper (reference, parent, resolves);
           external_above = λ lower upper fault. no_external_below lower upper fault.0 fault.1 fault.2 fault.3;
           enumerated_alone = λ lower upper fault. no_enumerated_below lower upper fault.0 fault.3
@@ -492,8 +453,7 @@ module _ (bag : Bag) (extensions : Extensions) (declared : List (EntityType × E
             no_shape_fault name parents shape tags among none =
                 let body = among_collected name (standard parents shape tags) among in
                 let record_shape = (sound name (standard parents shape tags) body).record_shape in
-                let P : Ty → Type 0 = IsRecordType in
-                none.2 (subst P (elaborated_once (definitions bag extensions) ready.one_definition
+                none.2 (rw (← elaborated_once (definitions bag extensions) ready.one_definition
                 (record_shape.1 (definitions bag extensions) (known_counted name (standard parents shape tags) shape body (inl refl)))
                 none.1) tt)
 
@@ -502,28 +462,22 @@ module _ (bag : Bag) (extensions : Extensions) (declared : List (EntityType × E
             parent_declared name upper parent =
                 let edge = parent_edge bag extensions declared scope ready edges are name upper parent in
                 let there = linked.uppers edge.0.0 edge.0.1 (an_edge edges edge.0 edge.0.0 edge.0.1 edge.1 refl refl) in
-                let P : List Entry → PlainName → Type 0 = λ entries each. Contains (entry_names entries) each in
-                subst (λ entries. P entries upper) ready.entities
-                (subst (λ each. P Entries each) edge.2 (stands_declared edge.0.0 there))
+                rw (edge.2, ready.entities) at (stands_declared edge.0.0 there)
 
             no_enumerated_below : (lower upper : PlainName) (choices : List Text)
                 → Contains (declared_entities bag) (lower, enumerated choices) → ¬ HasParent bag extensions lower upper
             no_enumerated_below lower upper choices among parent =
                 let edge = parent_edge bag extensions declared scope ready edges are lower upper parent in
-                let P : PlainName → Type 0 = λ each. Contains Entries (each, enumerated choices) in
                 linked.lowers edge.0.0 edge.0.1 (an_edge edges edge.0 edge.0.0 edge.0.1 edge.1 refl refl)
-                (enumerated_at edge.0.1 choices (subst P (sym edge.3) (among_collected lower (enumerated choices) among)))
+                (enumerated_at edge.0.1 choices (rw edge.3 (among_collected lower (enumerated choices) among)))
 
             no_external_below : (lower upper : PlainName) (choices : List Text) → IsExternalType bag lower
                 → Contains (declared_entities bag) (upper, enumerated choices) → ¬ IsDescendant bag extensions lower upper
             no_external_below lower upper choices is among descends =
                 let key = key_of upper (Contains-image (λ (it : Entry). it.0) (declared_entities bag) (upper, enumerated choices) among) in
                 let chain = descends_by_chain bag extensions declared scope ready edges are descends key.0 (sym key.1) in
-                let P : PlainName → Type 0 = λ each. Contains Entries (each, enumerated choices) in
-                let Q : List Entry → PlainName → Type 0 = λ entries each. Contains (entry_names entries) each in
                 linked.external_above key.0 chain.0 chain.2
-                (enumerated_at key.0 choices (subst P (sym key.1) (among_collected upper (enumerated choices) among)))
+                (enumerated_at key.0 choices (rw key.1 (among_collected upper (enumerated choices) among)))
                 (external_at chain.0
-                (subst (λ each. Q Entries each) (sym chain.1) (subst (λ entries. Q entries lower) (sym ready.entities) is.0))
-                (λ defined. is.1 (subst (λ entries. Contains (entry_names entries) lower) same_definitions
-                (subst (Contains (defined_in is_entity_definition Entries)) chain.1 defined))))
+                (rw (chain.1, ready.entities) is.0)
+                (λ defined. is.1 (rw (chain.1, same_definitions) at defined)))

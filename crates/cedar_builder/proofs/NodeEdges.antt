@@ -1,5 +1,5 @@
 -- Edges to what is declared from its parents, as they are listed one after another.
-use Rattle.std.proofs.Common.{◌≡◌, ◌⊎◌, ◌<◌, ◌+◌, ℕ, List, [], ◌∷◌, ◌++◌, map, take, length, get_or, ap, sym, subst, ◌∙◌, inl, inr, ⊎_elim, append_assoc, Contains}
+use Rattle.std.proofs.Common.{◌≡◌, ◌⊎◌, ◌<◌, ◌+◌, ℕ, List, [], ◌∷◌, ◌++◌, map, take, length, get_or, ap, sym, ◌∙◌, inl, inr, append_assoc, Contains}
 use Rattle.std.proofs.lemmas.Grind.{flat_map-append}
 use Rattle.std.proofs.lemmas.List.{append-nil, map-append, take_more}
 use Rattle.std.proofs.lemmas.List.Elements.{Contains-get_or}
@@ -18,7 +18,7 @@ map_item f xs i x below is = sym (ap (map f) (take_item xs i x below is) ∙ map
 
 -- the item at a place stands in the list
 pub item_among : {A : Type 0} (xs : List A) (i : ℕ) (x : A) → i < length xs → x ≡ get_or xs i x → Contains xs x
-item_among xs i x below is = subst (Contains xs) (sym is) (Contains-get_or xs i x below)
+item_among xs i x below is = rw is (Contains-get_or xs i x below)
 
 -- one more edge is one more parent
 pub pushed_parent : {Edge Name Reference : Type 0} (plain : Edge → Name × Reference) (initial : List (Name × Reference))
@@ -42,21 +42,21 @@ module _ {Name Reference : Type 0} (entries : List (Name × List Reference)) (na
   -- a refusal of the parents of one declaration is one of the parents of all
   pub parent_fault_wider : (Refuses : Reference → Fault → Type 0) (fault : Fault) → Contains entries (name, parents)
       → IsParentFault Refuses (map (λ each. (name, each)) parents) fault → IsParentFault Refuses (parents_in entries) fault
-  parent_fault_wider Refuses fault among refused = ⊎_elim
-      (λ wanting. inl wanting)
-      (λ one. inr (
-        one.0,
-        one.1,
-        Contains-given (λ (it : Name × List Reference). map (λ each. (it.0, each)) it.1) entries (name, parents) (one.0, one.1) among one.2,
-        one.3,
-      ))
-      refused
+  parent_fault_wider Refuses fault among refused = elim refused [
+    | inl wanting ↦ inl wanting
+    | inr one ↦ inr (
+      one.0,
+      one.1,
+      Contains-given (λ (it : Name × List Reference). map (λ each. (it.0, each)) it.1) entries (name, parents) (one.0, one.1) among one.2,
+      one.3,
+    )
+  ]
 
 -- a parent that is refused is one of some
 pub parent_fault : {Name Reference : Type 0} (Refuses : Reference → Fault → Type 0) (name : Name) (parents : List Reference)
     (reference : Reference) (fault : Fault) → Contains parents reference → (fault ≡ out_of_memory) ⊎ Refuses reference fault
     → IsParentFault Refuses (map (λ each. (name, each)) parents) fault
-parent_fault Refuses name parents reference fault among refused = ⊎_elim
-    (λ wanting. inl wanting)
-    (λ one. inr (name, reference, Contains-image (λ each. (name, each)) parents reference among, one))
-    refused
+parent_fault Refuses name parents reference fault among refused = elim refused [
+  | inl wanting ↦ inl wanting
+  | inr one ↦ inr (name, reference, Contains-image (λ each. (name, each)) parents reference among, one)
+]

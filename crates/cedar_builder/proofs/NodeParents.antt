@@ -55,8 +55,7 @@ module _ {K Name Body Reference : Type 0} (eq : K → K → Bool) (key_name : K 
       let named : plain_edge key_name reference_to edge ≡ plain_edge key_name reference_to (upper, lower) =
       λ i. ((same_key edge.1 lower).0 below i, reference_to ((same_key edge.0 upper).0 above i)) in
       parent_from parents entries (key_name lower) (reference_to (key_name upper))
-      (subst (Contains (parents_in (map (with_parents parents) entries))) named
-      (subst (λ all. Contains all (plain_edge key_name reference_to edge)) are (Contains-image (plain_edge key_name reference_to) edges edge among)))
+      (rw (are, named) at (Contains-image (plain_edge key_name reference_to) edges edge among))
 
   module _ (Resolves : Reference → Name → Type 0)
       (resolves : (lower upper : Name) → HasByDeclaration parents entries lower (reference_to upper) → Resolves (reference_to upper) upper)
@@ -76,10 +75,10 @@ module _ {K Name Body Reference : Type 0} (eq : K → K → Bool) (key_name : K 
         → (edge : K × K) × Contains edges edge × (key_name edge.0 ≡ upper) × (key_name edge.1 ≡ lower)
     parent_edge lower upper (reference, parent, names) =
         let it = Contains-preimage (plain_edge key_name reference_to) edges (lower, reference)
-        (subst (λ all. Contains all (lower, reference)) (sym are) (parent_to parents entries lower reference parent)) in (
+        (rw are (parent_to parents entries lower reference parent)) in (
           it.0,
           it.1,
-          alone (key_name it.0.0) upper (subst (λ each. Resolves each upper) (sym (ap (λ (each : Name × Reference). each.1) it.2)) names),
+          alone (key_name it.0.0) upper (rw (ap (λ (each : Name × Reference). each.1) it.2) names),
           ap (λ (each : Name × Reference). each.0) it.2,
         )
 

@@ -1,11 +1,10 @@
 -- Nodes that are collected in a map one after another.
-use Rattle.std.proofs.Common.{◌≡◌, ◌⊎◌, ◌↔◌, map, if◌then◌else◌, List, [], ◌∷◌, ◌++◌, Bool, true, false, IsTrue, Option, None, Some, HashMap, ap, sym, subst, ◌∙◌, refl, inl, inr, ⊎_elim, arith, append_assoc, Contains}
+use Rattle.std.proofs.Common.{◌≡◌, ◌⊎◌, ◌↔◌, map, if◌then◌else◌, List, [], ◌∷◌, ◌++◌, Bool, true, false, IsTrue, Option, None, Some, HashMap, ap, sym, ◌∙◌, refl, inl, inr, arith, append_assoc, Contains}
 use Rattle.std.proofs.lemmas.Bool.{false≢true}
 use Rattle.std.proofs.lemmas.List.{append-nil}
 use Rattle.std.proofs.lemmas.List.Elements.{Contains-append_cases, Contains-append_right}
 use Rattle.std.specs.HashMap.{get}
 use Rattle.std.specs.List.{flat_map}
-use Rattle.std.specs.Map.{lookup}
 use Rattle.cedar_below.specs.Lists.{Twice}
 use Rattle.cedar_declarations.proofs.Definitions.{Definitions, defined_again, defined_is_declared, key_cases, key_defined, once_more, said_definition, said_of_external, said_of_new, said_of_other}
 use Rattle.cedar_declarations.proofs.OccurrenceLemmas.{Contains-single}
@@ -25,7 +24,7 @@ only false it entry here = absurd (omega (arith, here.1))
 -- and it once
 pub single : {Name Body : Type 0} (b : Bool) (it : Name × Body) (other : Name)
     → ¬ Twice (map (λ each. each.0) (if b then it ∷ [] else [])) other
-single true it other twice = ⊎_elim (λ here. omega (arith, here.1.1)) (λ later. later) twice
+single true it other twice = elim twice [ inl here ↦ omega (arith, here.1.1) | inr later ↦ later ]
 single false it other twice = twice
 
 -- a test is passed or not
@@ -98,7 +97,7 @@ module _ {Name Body Node : Type 0} (is_definition : Body → Bool) (IsExternal :
     -- what stands at another name is still what is said
     pub collected_other : (other : Name) → ¬ (other ≡ name) → (stands : Option Node)
         → At entries other stands → At More other stands
-    collected_other other apart None none = λ among. ⊎_elim none (λ last. apart (sym last)) (key_cases definitions entries name body other among)
+    collected_other other apart None none = λ among. elim (key_cases definitions entries name body other among) [ inl here ↦ none here | inr last ↦ apart (sym last) ]
     collected_other other apart (Some old) collected = record {
       body = collected.body;
       says = said_of_other definitions entries name body other apart collected.body collected.says;
@@ -121,31 +120,29 @@ module _ {Name Body Node : Type 0} (is_definition : Body → Bool) (IsExternal :
     pub collected_put : (before after : Option Node) → At entries name before → IsPut IsExternal it before after
         → At More name after
     collected_put None after none put =
-        subst (At More name) (sym put)
-        (new_collected (λ defined. none (defined_is_declared definitions entries name defined)))
-    collected_put (Some old) after collected put = ⊎_elim
-        (λ kept.
-        let stays : IsCollected is_definition IsExternal node_name Gives More name old = record {
-          body = collected.body;
-          says = said_of_external definitions entries name body (λ is. false≢true (sym (told.0 kept.0) ∙ is)) collected.body collected.says;
-          name = collected.name;
-          given = collected.given;
-          external = collected.external;
-        } in
-        subst (At More name) (sym kept.1) stays)
-        (λ replaced.
-        subst (At More name) (sym replaced.2)
-        (new_collected (said_undefined entries name collected.body (collected.external.0 replaced.1) collected.says)))
-        put
+        rw put (new_collected (λ defined. none (defined_is_declared definitions entries name defined)))
+    collected_put (Some old) after collected put = elim put [
+      | inl kept ↦
+          let stays : IsCollected is_definition IsExternal node_name Gives More name old = record {
+            body = collected.body;
+            says = said_of_external definitions entries name body (λ is. false≢true (sym (told.0 kept.0) ∙ is)) collected.body collected.says;
+            name = collected.name;
+            given = collected.given;
+            external = collected.external;
+          } in
+          rw kept.1 stays
+      | inr replaced ↦ rw replaced.2
+          (new_collected (said_undefined entries name collected.body (collected.external.0 replaced.1) collected.says))
+    ]
 
     -- a definition that is put at the name is its first
     pub undefined_before : (before after : Option Node) → At entries name before → IsPut IsExternal it before after
         → is_definition body ≡ true → ¬ Contains (defined_in is_definition entries) name
     undefined_before None after none put is = λ defined. none (defined_is_declared definitions entries name defined)
-    undefined_before (Some old) after collected put is = ⊎_elim
-        (λ kept. absurd (false≢true (sym (told.0 kept.0) ∙ is)))
-        (λ replaced. said_undefined entries name collected.body (collected.external.0 replaced.1) collected.says)
-        put
+    undefined_before (Some old) after collected put is = elim put [
+      | inl kept ↦ absurd (false≢true (sym (told.0 kept.0) ∙ is))
+      | inr replaced ↦ said_undefined entries name collected.body (collected.external.0 replaced.1) collected.says
+    ]
 
     -- what stands at the name and isn't external is defined
     pub defined_before : (before : Option Node) → At entries name before → IsDefinedAt IsExternal before
@@ -161,12 +158,10 @@ module _ {Name Body Node : Type 0} (is_definition : Body → Bool) (IsExternal :
     pub collected_none : (nodes : HashMap K Node S) (left : List (Name × Body)) → nodes.entries ≡ [] → left ≡ all
         → CollectedSoFar is_definition IsExternal node_name Gives eq key_name IsSound all nodes left
     collected_none nodes left empty same =
-        let P : List (K × Node) → Type 0 = λ entries. (key : K)
-        → At [] (key_name key) (lookup (eq key) entries) in
         record {
           done = [];
           split = sym same;
-          collected = subst P (sym empty) (λ key among. omega (arith, among.1));
+          collected = rw empty (λ key among. omega (arith, among.1));
           once = λ name twice. twice;
           sound = λ name body among. absurd (omega (arith, among.1));
         }
@@ -183,7 +178,7 @@ module _ {Name Body Node : Type 0} (is_definition : Body → Bool) (IsExternal :
       next_fault IsBodyFault duplicate fault refused = inr (inl (
         key,
         body,
-        subst (λ entries. Contains entries (key_name key, body)) (sym next_split)
+        rw next_split
             (Contains-append_right so_far.done ((key_name key, body) ∷ rest) (key_name key, body) (0, omega arith, refl)),
         refused,
       ))
@@ -199,14 +194,13 @@ module _ {Name Body Node : Type 0} (is_definition : Body → Bool) (IsExternal :
             → (other : K) (b : Bool) → eq other key ≡ b → At Done (key_name other) (get eq new other)
         collected_at stays put other true is_it =
             let same : key_name other ≡ key_name key = (same_key other key).0 is_it in
-            subst (λ name. At Done name (get eq new other)) (sym same)
+            rw same
             (collected_put so_far.done (key_name key) body it is_named gives told (get eq old other) (get eq new other)
-            (subst (λ name. At so_far.done name (get eq old other)) same (so_far.collected other))
+            (rw same at (so_far.collected other))
             (put other (same ∙ sym (is_named))))
         collected_at stays put other false is_not =
             let apart : ¬ (key_name other ≡ key_name key) = λ same. false≢true (sym is_not ∙ (same_key other key).1 same) in
-            subst (At Done (key_name other))
-            (sym (stays other (λ same. apart (same ∙ is_named))))
+            rw (stays other (λ same. apart (same ∙ is_named)))
             (collected_other so_far.done (key_name key) body it is_named gives told (key_name other) apart (get eq old other) (so_far.collected other))
 
         -- one more is
@@ -221,10 +215,10 @@ module _ {Name Body Node : Type 0} (is_definition : Body → Bool) (IsExternal :
           once = once_more definitions so_far.done (key_name key) body so_far.once
               (undefined_before so_far.done (key_name key) body it is_named gives told (get eq old key) (get eq new key) (so_far.collected key)
               (put key (sym (is_named))));
-          sound = λ name of_it among. ⊎_elim
-              (λ before. so_far.sound name of_it before)
-              (λ last. subst IsSound (ap (λ (each : Name × Body). each.1) (Contains-single (key_name key, body) (name, of_it) last)) sound)
-              (Contains-append_cases so_far.done ((key_name key, body) ∷ []) (name, of_it) among);
+          sound = λ name of_it among. elim (Contains-append_cases so_far.done ((key_name key, body) ∷ []) (name, of_it) among) [
+            | inl before ↦ so_far.sound name of_it before
+            | inr last ↦ rw (ap (λ (each : Name × Body). each.1) (Contains-single (key_name key, body) (name, of_it) last)) at sound
+          ];
         }
 
         -- a definition of a name under which one stands is refused truly
@@ -235,10 +229,10 @@ module _ {Name Body Node : Type 0} (is_definition : Body → Bool) (IsExternal :
         twice_fault IsBodyFault duplicate fault is_fault other same there defined =
             let its_name = is_named in
             let twice : Twice (defined_in is_definition all) (key_name key) =
-            subst (λ entries. Twice (defined_in is_definition entries) (key_name key)) (sym next_split)
+            rw next_split
             (defined_again definitions so_far.done rest (key_name key) body (definition_given body it told defined)
             (defined_before so_far.done (key_name key) body it is_named gives told (get eq old other)
-            (subst (λ name. At so_far.done name (get eq old other)) (same ∙ its_name) (so_far.collected other)) there)) in
+            (rw (same, its_name) at (so_far.collected other)) there)) in
             inr (inr (key_name key, is_fault ∙ ap duplicate its_name, twice))
 
     module _ (nodes : HashMap K Node S) (left : List (Name × Body)) (none : left ≡ [])
@@ -249,12 +243,12 @@ module _ {Name Body Node : Type 0} (is_definition : Body → Bool) (IsExternal :
 
       -- so at each name stands what is said of all
       pub all_collected : (key : K) → At all (key_name key) (get eq nodes key)
-      all_collected key = subst (λ entries. At entries (key_name key) (get eq nodes key)) collected_all (so_far.collected key)
+      all_collected key = rw collected_all at (so_far.collected key)
 
       -- no name has two definitions
       pub all_once : (name : Name) → ¬ Twice (defined_in is_definition all) name
-      all_once name = subst (λ entries. ¬ Twice (defined_in is_definition entries) name) collected_all (so_far.once name)
+      all_once name = rw collected_all at (so_far.once name)
 
       -- and all are sound
       pub all_sound : (name : Name) (body : Body) → Contains all (name, body) → IsSound body
-      all_sound name body among = so_far.sound name body (subst (λ entries. Contains entries (name, body)) (sym collected_all) among)
+      all_sound name body among = so_far.sound name body (rw collected_all among)

@@ -1,5 +1,5 @@
 -- Nodes before and after they are linked, and moved in the order of their names.
-use Rattle.std.proofs.Common.{◌≡◌, ◌↔◌, Bool, IsTrue, List, [], Option, None, Some, IsSome, IsSomeAnd, HashMap, map, sym, subst, arith, refl, Contains}
+use Rattle.std.proofs.Common.{◌≡◌, ◌↔◌, Bool, IsTrue, List, [], Option, None, Some, IsSome, IsSomeAnd, HashMap, map, arith, refl, Contains}
 use Rattle.std.specs.BTreeMap.{BTreeMap, IsFromIterResult}
 use Rattle.std.specs.Cmp.{IsEquivalence}
 use Rattle.std.specs.HashMap.{IsUnique, get}
@@ -46,7 +46,7 @@ module _ {K Name Node S : Type 0} (eq : K → K → Bool) (key_name : K → Name
     by : (o : Option Node) → IsCollectedAt is_definition IsExternal node_name Gives entries (key_name upper) o → ¬ IsSomeAnd o (λ it. IsTrue (has_edge it lower))
     by None none has = has
     by (Some it) is has =
-        let below = subst (λ names. Contains names (key_name lower)) (childless is.body it is.given) ((edge_below it lower).0 has) in
+        let below = rw (childless is.body it is.given) at ((edge_below it lower).0 has) in
         omega (arith, below.1)
 
   -- the descendants of a node are those that chains of edges lead to, in words of names
@@ -62,14 +62,13 @@ module _ {K Name Node S : Type 0} (eq : K → K → Bool) (key_name : K → Name
     λ among.
         let named = Contains-preimage key_name (keys it) lower among in
         let has : IsTrue (has_edge it named.0) =
-        (edge_below it named.0).1 (subst (Contains (map key_name (keys it))) (sym named.2) among) in
-        subst (λ each. IsDescendant each (key_name key)) named.2
-        (chain_descends key named.0 ((linked key named.0).0 (subst (λ o. IsSomeAnd o (λ each. IsTrue (has_edge each named.0))) (sym found) has))),
+        (edge_below it named.0).1 (rw named.2 among) in
+        rw named.2 at (chain_descends key named.0 ((linked key named.0).0 (rw found has))),
     λ descends.
         let chain = descends_by_chain lower (key_name key) descends key refl in
         let has : IsTrue (has_edge it chain.0) =
-        subst (λ o. IsSomeAnd o (λ each. IsTrue (has_edge each chain.0))) found ((linked key chain.0).1 chain.2) in
-        subst (Contains (map key_name (keys it))) chain.1 ((edge_below it chain.0).0 has),
+        rw found at ((linked key chain.0).1 chain.2) in
+        rw chain.1 at ((edge_below it chain.0).0 has),
   )
 
 module _ {K Name Node S : Type 0} {eq : K → K → Bool} (cmp : K → K → Ordering) (laws : IsEquivalence eq) (key_name : K → Name)
@@ -87,5 +86,5 @@ module _ {K Name Node S : Type 0} {eq : K → K → Bool} (cmp : K → K → Ord
   pub node_has_entry : (key : K) → IsSome (get eq nodes key) → Contains (map (λ (it : K × Node). key_name it.0) moved.entries) (key_name key)
   node_has_entry key there =
       let it = moved_stands cmp laws tied nodes unique moved made key there in
-      subst (Contains (map (λ (each : K × Node). key_name each.0) moved.entries)) (sym ((same_key key it.0.0).0 it.2))
+      rw ((same_key key it.0.0).0 it.2)
       (Contains-image (λ (each : K × Node). key_name each.0) moved.entries it.0 it.1)

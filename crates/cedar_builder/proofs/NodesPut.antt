@@ -1,5 +1,5 @@
 -- What stands in a map once a node is put under its name.
-use Rattle.std.proofs.Common.{◌≡◌, ◌↔◌, Bool, IsTrue, ⊎_elim, cond, Option, None, Some, HashMap, sym, subst, ◌∙◌, refl, inl, inr}
+use Rattle.std.proofs.Common.{◌≡◌, ◌↔◌, Bool, IsTrue, cond, Option, None, Some, HashMap, sym, subst, ◌∙◌, refl, inl, inr}
 use Rattle.std.proofs.lemmas.Bool.{cond-true, cond-false, false_from_ne_true}
 use Rattle.std.specs.Cmp.{IsEquivalence}
 use Rattle.std.specs.HashMap.{PutsEntry, get}
@@ -53,7 +53,7 @@ module _ {K Name Node S : Type 0} {eq : K → K → Bool} (laws : IsEquivalence 
 -- what stands under a name and isn't external is defined
 pub defined_at : {Node : Type 0} (IsExternal : Node → Type 0) (o : Option Node) (old : Node) → o ≡ Some old → ¬ IsExternal old
     → IsDefinedAt IsExternal o
-defined_at IsExternal o old found other = subst (IsDefinedAt IsExternal) (sym found) other
+defined_at IsExternal o old found other = rw found other
 
 -- each is still located as its key, once a node is put in the place of what was taken out
 pub put_located : {K Node S : Type 0} (eq : K → K → Bool) (IsLocatedAs : K → Node → Type 0)
@@ -62,5 +62,7 @@ pub put_located : {K Node S : Type 0} (eq : K → K → Bool) (IsLocatedAs : K �
     → PutsEntry eq without after key it old → IsLocatedAs key it → AreLocated IsLocatedAs before.entries
     → AreLocated IsLocatedAs after.entries
 put_located {K = K} {Node = Node} eq IsLocatedAs before without after key it test old taken absent is put at located entry among =
-    ⊎_elim (λ same. subst (λ (each : K × Node). IsLocatedAs each.0 each.1) same at) (λ there. located entry there)
-    (replaced eq test before without after key it old taken absent is put entry among)
+    elim (replaced eq test before without after key it old taken absent is put entry among) [
+      | inl same ↦ subst (λ (each : K × Node). IsLocatedAs each.0 each.1) same at
+      | inr there ↦ located entry there
+    ]

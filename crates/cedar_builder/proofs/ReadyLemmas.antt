@@ -1,5 +1,5 @@
 -- What a bag owes to the steps that build its entity types and its actions.
-use Rattle.std.proofs.Common.{◌≡◌, ◌⊎◌, List, map, ap, sym, subst, ◌∙◌, refl, inl, inr, Contains}
+use Rattle.std.proofs.Common.{◌≡◌, ◌⊎◌, List, map, ap, sym, ◌∙◌, refl, inl, inr, Contains}
 use Rattle.cedar_below.proofs.Lists.{Contains-preimage}
 use Rattle.cedar_below.specs.Extensions.{extension_types}
 use Rattle.cedar_below.specs.PlainName.{PlainName, IsActionType, IsReserved}
@@ -32,7 +32,7 @@ module _ (bag : Bag) (given : Extensions) (known : List PlainName) (all : known 
     λ reference among. (inl (expr, counts, (refused.1 reference among).0), (refused.1 reference among).1),
   )
   expr_fault expr (unknown_extension_type name) counts refused =
-      inr (expr, counts, refused.0, refused.1, λ among. refused.2 (subst (λ names. Contains names name) (sym all) among))
+      inr (expr, counts, refused.0, refused.1, λ among. refused.2 (rw all among))
   expr_fault expr (reserved_name name) counts refused = absurd (unreserved name refused.2.is_entity.1 refused.2.reserved)
   expr_fault expr out_of_memory counts refused = inl refl
   expr_fault expr _ counts refused = absurd refused

@@ -1,5 +1,5 @@
 -- Names of principals and resources, as they are looked up one after another.
-use Rattle.std.proofs.Common.{◌≡◌, ◌++◌, Bool, List, [], ◌∷◌, is_some, map, sym, subst, ◌∙◌, ⊎_elim, Contains}
+use Rattle.std.proofs.Common.{◌≡◌, ◌++◌, Bool, List, [], ◌∷◌, is_some, Contains, inl, inr}
 use Rattle.std.proofs.lemmas.List.Elements.{Contains-append_cases}
 use Rattle.std.proofs.lemmas.Simd.{map-map}
 use Rattle.std.specs.Bool.{Decides}
@@ -21,17 +21,14 @@ use Rattle.cedar_builder.specs.ActionSteps.{names_in}
 pub has_name : (types : BTreeMap EntityType ValidatorEntityType) (ty : EntityType) (found : Bool)
     → found ≡ is_some (tree.get ((order.ghosts).cmp) types ty) → Decides found (Contains (names_in types) (type_name ty))
 has_name types ty found is =
-    let P : List PlainName → Type 0 = λ names. Decides found (Contains names (type_name ty)) in
-    let D : Bool → Type 0 = λ each. Decides each (Contains (map type_name (keys_of types.entries)) (type_name ty)) in
-    subst P (map-map _ _ types.entries)
-    (subst D (sym (is ∙ is_some-lookup (is_at ((order.ghosts).cmp ty)) types.entries))
-    (found-Decides ((order.ghosts).cmp) type_name entity_type_ord-Equal (keys_of types.entries) ty))
+    rw (← is_some-lookup (is_at ((order.ghosts).cmp ty)) types.entries, ← is, map-map _ _ types.entries) at
+    (found-Decides ((order.ghosts).cmp) type_name entity_type_ord-Equal (keys_of types.entries) ty)
 
 -- names that are all of some are so with one more
 pub included_more : (types names : List PlainName) (name : PlainName)
     → ((each : PlainName) → Contains names each → Contains types each) → Contains types name
     → (each : PlainName) → Contains (names ++ name ∷ []) each → Contains types each
-included_more types names name included among each there =
-    let P : PlainName → Type 0 = Contains types in
-    ⊎_elim (included each) (λ last. subst P (Contains-single name each last) among)
-    (Contains-append_cases names (name ∷ []) each there)
+included_more types names name included among each there = elim (Contains-append_cases names (name ∷ []) each there) [
+  | inl here ↦ included each here
+  | inr last ↦ rw (Contains-single name each last) at among
+]

@@ -27,8 +27,7 @@ word_of_alias : (p : Text × Expr → Bool) (types : List (Text × Expr)) (name 
 word_of_alias p types name among =
     let entry = Contains-preimage (λ (it : PlainName × Expr). it.0) (map alias_item (filter p types)) name among in
     let found = Contains-preimage alias_item (filter p types) entry.0 entry.1 in
-    let P : Text → Type 0 = Contains (map (λ (it : Text × Expr). it.0) types) in
-    subst P (ap (λ (it : PlainName × Expr). it.0.base) found.2 ∙ ap (λ (it : PlainName). it.base) entry.2)
+    rw (ap (λ (it : PlainName × Expr). it.0.base) found.2, ap (λ (it : PlainName). it.base) entry.2) at
     (Contains-image (λ (it : Text × Expr). it.0) types found.0 (Contains-filter p types found.0 found.1).0)
 
 -- an alias that stands twice is that of a base name that does
@@ -41,9 +40,10 @@ alias_twice p (first ∷ rest) name twice = by (λ later. alias_twice p rest nam
       → Twice (map (λ (it : Text × Expr). it.0) rest) name.base) → (answer : Bool)
       → Twice (map (λ (it : PlainName × Expr). it.0) (map alias_item (cond answer (first ∷ filter p rest) (filter p rest)))) name
       → Twice (map (λ (it : Text × Expr). it.0) (first ∷ rest)) name.base
-  by onwards true twice =
-      ⊎_elim (λ here. inl (ap (λ (it : PlainName). it.base) here.0, word_of_alias p rest name here.1))
-      (λ later. inr (onwards later)) twice
+  by onwards true twice = elim twice [
+    | inl here ↦ inl (ap (λ (it : PlainName). it.base) here.0, word_of_alias p rest name here.1)
+    | inr later ↦ inr (onwards later)
+  ]
   by onwards false twice = inr (onwards twice)
 
 -- a common type that stands twice among what is defined does so among what is declared or built in
@@ -53,18 +53,17 @@ pub defined_twice : (bag : Bag) (extensions : Extensions) → TypeNamesFit (exte
 defined_twice bag extensions fit name twice =
     let key = λ (it : PlainName × Expr). it.0 in
     let front = declared_common bag ++ built_ins extensions in
-    let P : List PlainName → Type 0 = λ names. Twice names name in
-    ⊎_elim (λ here. here)
-    (⊎_elim
-    (λ twice_alias. absurd (built_in_once extensions fit name.base
-    (alias_twice (λ it. not (is_declared_here bag it.0)) (built_in_types extensions) name twice_alias)))
-    (λ both.
-    let here = Contains-preimage key front name both.0 in
-    let there = Contains-preimage key (aliases bag extensions) name both.1 in
-    let Q : PlainName → Type 0 = λ each. Contains front (each, here.0.1) in
-    absurd (alias_apart bag extensions there.0.0 there.0.1 here.0.1 there.1 (subst Q (here.2 ∙ sym there.2) here.1))))
-    (Twice-append (map key front) (map key (aliases bag extensions)) name
-    (subst P (map-append key front (aliases bag extensions)) twice))
+    elim (Twice-append (map key front) (map key (aliases bag extensions)) name
+    (rw (map-append key front (aliases bag extensions)) at twice)) [
+      | inl here ↦ here
+      | inr (inl twice_alias) ↦ absurd (built_in_once extensions fit name.base
+          (alias_twice (λ it. not (is_declared_here bag it.0)) (built_in_types extensions) name twice_alias))
+      | inr (inr both) ↦
+          let here = Contains-preimage key front name both.0 in
+          let there = Contains-preimage key (aliases bag extensions) name both.1 in
+          let Q : PlainName → Type 0 = λ each. Contains front (each, here.0.1) in
+          absurd (alias_apart bag extensions there.0.0 there.0.1 here.0.1 there.1 (subst Q (here.2 ∙ sym there.2) here.1))
+    ]
 
 -- what a built-in base name stands for has no open record
 pub built_in_closed : (extensions : Extensions) (word : Text) (body : Expr)
@@ -85,14 +84,13 @@ built_in_closed extensions word body (suc (suc (suc k)), below, is) is_open =
 pub declared_or_built_in : (bag : Bag) (extensions : Extensions) (it : PlainName × Expr)
     → Contains (definitions bag extensions).common it
     → Contains (declared_common bag) it ⊎ ((word : Text) × Contains (built_in_types extensions) (word, it.1))
-declared_or_built_in bag extensions it among =
-    ⊎_elim
-    (λ here. ⊎_elim
-    (λ declared. inl declared)
-    (λ built_in.
-    let found = Contains-preimage (λ it. (built_in_name it.0, it.1)) (built_in_types extensions) it built_in in
-    let P : Expr → Type 0 = λ body. Contains (built_in_types extensions) (found.0.0, body) in
-    inr (found.0.0, subst P (ap (λ each. each.1) found.2) found.1))
-    (Contains-append_cases (declared_common bag) (built_ins extensions) it here))
-    (λ alias. inr (it.0.base, (alias_of bag extensions it.0 it.1 alias).0))
-    (common_cases bag extensions it among)
+declared_or_built_in bag extensions it among = elim (common_cases bag extensions it among) [
+  | inl here ↦ elim (Contains-append_cases (declared_common bag) (built_ins extensions) it here) [
+    | inl declared ↦ inl declared
+    | inr built_in ↦
+        let found = Contains-preimage (λ it. (built_in_name it.0, it.1)) (built_in_types extensions) it built_in in
+        let P : Expr → Type 0 = λ body. Contains (built_in_types extensions) (found.0.0, body) in
+        inr (found.0.0, subst P (ap (λ each. each.1) found.2) found.1)
+  ]
+  | inr alias ↦ inr (it.0.base, (alias_of bag extensions it.0 it.1 alias).0)
+]

@@ -1,5 +1,5 @@
 -- What common types that are elaborated say of the bag, and what it says that they are refused.
-use Rattle.std.proofs.Common.{◌≡◌, ◌⊎◌, List, ◌++◌, map, ap, sym, subst, ◌∙◌, refl, append_assoc, inl, inr, ⊎_elim, Contains}
+use Rattle.std.proofs.Common.{◌≡◌, ◌⊎◌, List, ◌++◌, map, ap, sym, subst, ◌∙◌, refl, append_assoc, inl, inr, Contains}
 use Rattle.std.proofs.lemmas.List.{map-append}
 use Rattle.std.proofs.lemmas.List.Elements.{Contains-append_left}
 use Rattle.std.specs.BTreeSet.{BTreeSet}
@@ -19,13 +19,12 @@ use Rattle.cedar_declarations.proofs.DeclarationLemmas.{common_declaration}
 use Rattle.cedar_declarations.proofs.DefinedLemmas.{SameDefined, SameDefined-sym, resolves_there, unresolved_there, elaborated_there}
 use Rattle.cedar_declarations.proofs.OccurrenceLemmas.{Contains-image, Twice-left}
 use Rattle.cedar_declarations.specs.Bag.{Bag, declared_common, aliases, built_ins, definitions}
-use Rattle.cedar_declarations.specs.Counted.{CountsIn, IsCounted}
+use Rattle.cedar_declarations.specs.Counted.{IsCounted}
 use Rattle.cedar_declarations.specs.Defined.{Defined}
 use Rattle.cedar_declarations.specs.Fault.{Fault, out_of_memory, open_record, type_not_defined, unknown_extension_type, reserved_name, duplicate_common_type, common_type_cycle}
 use Rattle.cedar_declarations.specs.IllFormed.{IsFault, RefersToCommon}
 use Rattle.cedar_declarations.specs.ResolvedExpr.{resolved_expr}
 use Rattle.cedar_declaration_laws.proofs.MentionLemmas.{known_built_in}
-use Rattle.cedar_names.specs.Declaration.{Body}
 use Rattle.cedar_names.specs.Expr.{Expr}
 use Rattle.cedar_names.specs.declared.json_schema.type_of.Type.{«Type»}
 use Rattle.cedar_type_rules.specs.Ty.{Ty}
@@ -51,8 +50,7 @@ refers_there defined other same name to (definition, reference, body, stands, re
 common_counts : (bag : Bag) (it : PlainName × Expr) → Contains (declared_common bag) it → IsCounted bag it.1
 common_counts bag it among =
     let found = common_declaration bag it.0 it.1 among in
-    let P : Body → Type 0 = λ each. CountsIn each it.1 in
-    (found.0, found.1, subst P (sym found.2) refl)
+    (found.0, found.1, rw found.2)
 
 module _ (bag : Bag) (extensions : Extensions) (declared built_in : List (InternalName × «Type» InternalName))
     (entity_names : BTreeSet InternalName) (are : AreTypesOf bag extensions declared built_in entity_names)
@@ -69,8 +67,8 @@ module _ (bag : Bag) (extensions : Extensions) (declared built_in : List (Intern
   same_defined : SameDefined (defined_by types entity_names) (definitions bag extensions)
   same_defined =
       record {
-        common = λ it among. let P : List (PlainName × Expr) → Type 0 = λ items. Contains items it in subst P all_defined among;
-        common_back = λ it among. let P : List (PlainName × Expr) → Type 0 = λ items. Contains items it in subst P (sym all_defined) among;
+        common = λ it among. rw all_defined at among;
+        common_back = λ it among. rw all_defined among;
         entities = λ name. (are.names name).1;
         entities_back = λ name. (are.names name).0;
       }
@@ -79,16 +77,15 @@ module _ (bag : Bag) (extensions : Extensions) (declared built_in : List (Intern
   pub common_fault : (fault : Fault) → IsCommonFault (defined_by types entity_names) (extension_types extensions) fault
       → (fault ≡ out_of_memory) ⊎ IsFault bag extensions fault
   common_fault (duplicate_common_type name) twice =
-      let P : List (PlainName × Expr) → Type 0 = λ items. Twice (item_names items) name in
-      inr (defined_twice bag extensions are.fit name (subst P all_defined twice))
+      inr (defined_twice bag extensions are.fit name (rw all_defined at twice))
   common_fault (common_type_cycle name) cycle =
       inr (refined (λ from to step. one (refers_there _ _ same_defined from to step)) cycle)
   common_fault out_of_memory fault = inl refl
   common_fault open_record (it, stands, is_open) =
-      ⊎_elim
-      (λ declared. inr (it.1, common_counts bag it declared, is_open))
-      (λ built_in. absurd (built_in_closed extensions built_in.0 it.1 built_in.1 is_open))
-      (declared_or_built_in bag extensions it (same_defined.common it stands))
+      elim (declared_or_built_in bag extensions it (same_defined.common it stands)) [
+        | inl declared ↦ inr (it.1, common_counts bag it declared, is_open)
+        | inr built_in ↦ absurd (built_in_closed extensions built_in.0 it.1 built_in.1 is_open)
+      ]
   common_fault (type_not_defined references) (it, stands, (some, each)) =
       inr (
         some,
@@ -104,13 +101,13 @@ module _ (bag : Bag) (extensions : Extensions) (declared built_in : List (Intern
             ),
       )
   common_fault (unknown_extension_type name) (it, stands, (mentions, unqualified, unknown)) =
-      ⊎_elim
-      (λ declared. inr (it.1, common_counts bag it declared, mentions, unqualified, unknown))
-      (λ built_in.
-      let P : PlainName → Type 0 = Contains (extension_types extensions) in
-      absurd (unknown (subst P (λ i. record { base = name.base; path = sym unqualified i })
-      (known_built_in extensions are.fit built_in.0 it.1 built_in.1 name.base mentions))))
-      (declared_or_built_in bag extensions it (same_defined.common it stands))
+      elim (declared_or_built_in bag extensions it (same_defined.common it stands)) [
+        | inl declared ↦ inr (it.1, common_counts bag it declared, mentions, unqualified, unknown)
+        | inr built_in ↦
+            let P : PlainName → Type 0 = Contains (extension_types extensions) in
+            absurd (unknown (subst P (λ i. record { base = name.base; path = sym unqualified i })
+            (known_built_in extensions are.fit built_in.0 it.1 built_in.1 name.base mentions)))
+      ]
   common_fault (reserved_name name) (it, stands, (reference, refers, reserved)) =
       absurd (are.unreserved name (same_defined.entities name reserved.is_entity.1) reserved.reserved)
   common_fault _ fault = absurd fault.2
@@ -128,10 +125,8 @@ module _ (bag : Bag) (extensions : Extensions) (declared built_in : List (Intern
       (Contains-append_left (declared_common bag) (built_ins extensions) it among) in
       record {
         once = λ name twice.
-            let P : List PlainName → Type 0 = λ names. Twice names name in
-            let Q : List (PlainName × Expr) → Type 0 = λ items. Twice (item_names items) name in
-            once name (subst Q (sym all_defined) (subst P (sym (map-append key front (aliases bag extensions)))
-            (Twice-left (map key front) (map key (aliases bag extensions)) name twice)));
+            once name (rw (all_defined, map-append key front (aliases bag extensions))
+            (Twice-left (map key front) (map key (aliases bag extensions)) name twice));
         no_cycle = λ name cycle. no_cycle name (refined (λ from to step. one
             (refers_there _ _ (SameDefined-sym _ _ same_defined) from to step)) cycle);
         closed = λ it among. (sound it (same_defined.common_back it (stands it among))).closed;

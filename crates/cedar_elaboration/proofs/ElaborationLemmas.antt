@@ -1,5 +1,5 @@
 -- Common types that are elaborated one after another.
-use Rattle.std.proofs.Common.{◌≡◌, ◌⊎◌, ◌++◌, ℕ, List, [], ◌∷◌, map, Some, ap, sym, subst, ◌∙◌, inl, inr, ⊎_elim, Contains, arith, Result, Ok, Err, IfOk}
+use Rattle.std.proofs.Common.{◌≡◌, ◌⊎◌, ◌++◌, ℕ, List, [], ◌∷◌, map, Some, ap, sym, subst, ◌∙◌, inl, inr, Contains, arith, Result, Ok, Err, IfOk}
 use Rattle.std.proofs.lemmas.List.Elements.{Contains-append_cases}
 use Rattle.std.specs.BTreeMap.{BTreeMap, insert_entry}
 use Rattle.std.specs.Prelude.{slice_get}
@@ -44,8 +44,7 @@ module _ (items : List (PlainName × Expr)) (entities extensions : List PlainNam
   pub ElaboratedInOrder-none : (entries : List (InternalName × «Type»)) → entries ≡ []
       → ElaboratedInOrder items entities extensions [] (types_seen entries)
   ElaboratedInOrder-none entries nothing =
-      let P : List (InternalName × «Type») → Type 0 = λ each. ElaboratedInOrder items entities extensions [] (types_seen each) in
-      subst P (sym nothing) (record {
+      rw nothing (record {
         holds = λ name ty among. absurd (omega (arith, among.1));
         there = λ item_index among. absurd (omega (arith, among.1));
         sound = λ item_index among. absurd (omega (arith, among.1));
@@ -58,8 +57,7 @@ module _ (items : List (PlainName × Expr)) (entities extensions : List PlainNam
       → ElaboratedInOrder items entities extensions before (elaborated_types scope.common.now)
       → Covers (defined_over items entities) scope item.1
   Covers-next order before rest item_index item scope in_order split is same so_far = record {
-    entities = λ name. let P : List PlainName → Type 0 = λ each. Contains each name in
-        (λ among. subst P (sym same) among, λ among. subst P same among);
+    entities = λ name. (λ among. rw same among, λ among. rw same at among);
     elaborated = so_far.holds;
     referred = λ reference refers name body among is_common.
         let found = in_order.after before rest item_index item split is reference refers is_common.0 name among
@@ -77,34 +75,36 @@ module _ (items : List (PlainName × Expr)) (entities extensions : List PlainNam
       (types_seen (insert_entry ((order.ghosts).cmp) entries key ty))
   ElaboratedInOrder-more before item_index item entries key ty is same elaborated sound so_far =
       let cmp = (order.ghosts).cmp in
-      let defined = defined_over items entities in
       let more : List (PlainName × Ty) = types_seen (insert_entry cmp entries key ty) in
       let there : (name : PlainName) → Contains (map (λ it. it.0) (types_seen entries)) name ⊎ (name_of key ≡ name)
       → Contains (map (λ it. it.0) more) name =
-      λ name among. let Q : List PlainName → Type 0 = λ all. Contains all name in
-      subst Q (sym (seen_names name_of ty_of (insert_entry cmp entries key ty)))
+      λ name among. rw (seen_names name_of ty_of (insert_entry cmp entries key ty))
       (inserted_names cmp name_of internal_name_ord-Equal ty_of entries key ty name
-      (⊎_elim (λ old. inl (subst Q (seen_names name_of ty_of entries) old)) (λ new. inr new) among)) in
+      (elim among [ inl old ↦ inl (rw (seen_names name_of ty_of entries) at old) | inr new ↦ inr new ])) in
       record {
-        holds = λ name other among. ⊎_elim (λ old. so_far.holds name other old)
-            (λ new. let P : PlainName → Type 0 = λ each. Contains items (each, item.1) in
-            let Q : Ty → Type 0 = ElaboratesTo defined item.1 in (
-              item.1,
-              subst P (sym same ∙ ap (λ pair. pair.0) new) (Contains-at items item_index item is),
-              subst Q (ap (λ pair. pair.1) new) elaborated,
-            ))
-            (inserted_cases cmp name_of internal_name_ord-Equal ty_of entries key ty (name, other) among);
-        there = λ at among name stands. ⊎_elim (λ old. there name (inl (so_far.there at old name stands)))
-            (λ last. let P : ℕ → Type 0 = λ each. slice_get (item_names items) each ≡ Some name in
-            let here : slice_get (item_names items) item_index ≡ Some name = subst P (sym (Contains-single item_index at last)) stands in
-            let it : item.0 ≡ name = name_same items item_index item name is here in
-            there name (inr (same ∙ it))) (Contains-append_cases before (item_index ∷ []) at among);
-        sound = λ at among other stands. ⊎_elim (λ old. so_far.sound at old other stands)
-            (λ last. let P : ℕ → Type 0 = λ each. slice_get items each ≡ Some other in
-            let here : slice_get items item_index ≡ Some other = subst P (sym (Contains-single item_index at last)) stands in
-            let it : item ≡ other = cc in
-            let Q : PlainName × Expr → Type 0 = λ each. IsSoundExpr defined extensions each.1 in
-            subst Q it sound) (Contains-append_cases before (item_index ∷ []) at among);
+        holds = λ name other among. elim (inserted_cases cmp name_of internal_name_ord-Equal ty_of entries key ty (name, other) among) [
+          | inl old ↦ so_far.holds name other old
+          | inr new ↦
+              let P : PlainName → Type 0 = λ each. Contains items (each, item.1) in (
+                item.1,
+                subst P (sym same ∙ ap (λ pair. pair.0) new) (Contains-at items item_index item is),
+                rw (ap (λ pair. pair.1) new) at elaborated,
+              )
+        ];
+        there = λ at among name stands. elim (Contains-append_cases before (item_index ∷ []) at among) [
+          | inl old ↦ there name (inl (so_far.there at old name stands))
+          | inr last ↦
+              let here : slice_get (item_names items) item_index ≡ Some name = rw (Contains-single item_index at last) stands in
+              let it : item.0 ≡ name = name_same items item_index item name is here in
+              there name (inr (same ∙ it))
+        ];
+        sound = λ at among other stands. elim (Contains-append_cases before (item_index ∷ []) at among) [
+          | inl old ↦ so_far.sound at old other stands
+          | inr last ↦
+              let here : slice_get items item_index ≡ Some other = rw (Contains-single item_index at last) stands in
+              let it : item ≡ other = cc in
+              rw it at sound
+        ];
       }
     where
       name_same : (all : List (PlainName × Expr)) (i : ℕ) (it : PlainName × Expr) (name : PlainName)
@@ -140,8 +140,7 @@ module _ (items : List (PlainName × Expr)) (entities : List PlainName) {E : Typ
   names_kept (Ok types) holds each = λ name. (
     λ among. let entry = Contains-preimage (λ it. it.0) (elaborated_types types) name among in
         let elaborated = holds entry.0.0 entry.0.1 entry.1 in
-        let P : PlainName → Type 0 = Contains (item_names items) in
-        subst P entry.2 (Contains-image (λ it. it.0) items (entry.0.0, elaborated.0) elaborated.1),
+        rw entry.2 at (Contains-image (λ it. it.0) items (entry.0.0, elaborated.0) elaborated.1),
     λ among. each name among,
   )
   names_kept (Err error) holds each = tt
@@ -159,6 +158,5 @@ module _ (items : List (PlainName × Expr)) (entities : List PlainName) {E : Typ
       let stands : Contains (elaborated_types types) (name, entry.0.1) = subst P entry.2 entry.1 in
       let elaborated = holds name entry.0.1 stands in
       let same : elaborated.0 ≡ expr = value_once items once name elaborated.0 expr elaborated.1 among in
-      let Q : Expr → Type 0 = λ it. ElaboratesTo (defined_over items entities) it entry.0.1 in
-      (entry.0.1, stands, subst Q same elaborated.2)
+      (entry.0.1, stands, rw same at elaborated.2)
   elaborated_each (Err error) once holds each = tt

@@ -1,5 +1,5 @@
 -- Maps and sets by what their keys stand for.
-use Rattle.std.proofs.Common.{◌≡◌, ◌⊎◌, ◌↔◌, Bool, true, false, cond, List, [], ◌∷◌, map, Some, None, ap, sym, subst, ◌∙◌, refl, inl, inr, ⊎_elim, Contains, arith}
+use Rattle.std.proofs.Common.{◌≡◌, ◌⊎◌, ◌↔◌, Bool, true, false, cond, List, [], ◌∷◌, map, Some, None, ap, sym, ◌∙◌, refl, inl, inr, Contains, arith}
 use Rattle.std.proofs.lemmas.Bool.{false≢true}
 use Rattle.std.proofs.lemmas.Map.Made.{is_some-lookup}
 use Rattle.std.proofs.lemmas.Simd.{map-map}
@@ -55,16 +55,15 @@ module _ {K P : Type 0} (R : K → K → Ordering) (f : K → P) (tie : (a b : K
     pub not_found : (entries : List (K × V)) (key : K) → None ≡ lookup (is_at (R key)) entries
         → ¬ Contains (map (λ it. it.0) (seen f g entries)) (f key)
     not_found entries key nothing among =
-        let P : List P → Type 0 = λ names. Contains names (f key) in
         let found : list_any (is_at (R key)) (keys_of entries) ≡ true =
-        (found-Decides (keys_of entries) key).1 (subst P (seen_names f g entries) among) in
+        (found-Decides (keys_of entries) key).1 (rw (seen_names f g entries) at among) in
         false≢true (ap is_some nothing ∙ (is_some-lookup (is_at (R key)) entries ∙ found))
 
     -- what stands in a map after an insertion is new or stood there
     pub inserted_cases : (entries : List (K × V)) (key : K) (value : V) (item : P × W)
         → Contains (seen f g (insert_entry R entries key value)) item
         → Contains (seen f g entries) item ⊎ ((f key, g value) ≡ item)
-    inserted_cases [] key value item among = ⊎_elim (λ same. inr same) (λ none. inl none) (Contains-cons_cases (f key, g value) [] item among)
+    inserted_cases [] key value item among = elim (Contains-cons_cases (f key, g value) [] item among) [ inl same ↦ inr same | inr none ↦ inl none ]
     inserted_cases (entry ∷ entries) key value item among =
         placed (R key entry.0) refl among (inserted_cases entries key value item)
       where
@@ -74,23 +73,31 @@ module _ {K P : Type 0} (R : K → K → Ordering) (f : K → P) (tie : (a b : K
             → (Contains (seen f g (insert_entry R entries key value)) item
             → Contains (seen f g entries) item ⊎ ((f key, g value) ≡ item))
             → Contains (seen f g (entry ∷ entries)) item ⊎ ((f key, g value) ≡ item)
-        placed Less is there later =
-            ⊎_elim (λ same. inr same) (λ others. inl others) (Contains-cons_cases (f key, g value) (seen f g (entry ∷ entries)) item there)
+        placed Less is there later = elim (Contains-cons_cases (f key, g value) (seen f g (entry ∷ entries)) item there) [
+          | inl same ↦ inr same
+          | inr others ↦ inl others
+        ]
         placed Equal is there later =
             let same_name : f key ≡ f entry.0 = (tie key entry.0).0 is in
-            ⊎_elim (λ same. inr ((λ i. (same_name i, g value)) ∙ same)) (λ others. inl (Contains-cons (f entry.0, g entry.1) (seen f g entries) item (inr others)))
-            (Contains-cons_cases (f entry.0, g value) (seen f g entries) item there)
+            elim (Contains-cons_cases (f entry.0, g value) (seen f g entries) item there) [
+              | inl same ↦ inr ((λ i. (same_name i, g value)) ∙ same)
+              | inr others ↦ inl (Contains-cons (f entry.0, g entry.1) (seen f g entries) item (inr others))
+            ]
         placed Greater is there later =
-            ⊎_elim (λ same. inl (Contains-cons (f entry.0, g entry.1) (seen f g entries) item (inl same)))
-            (λ others. ⊎_elim (λ old. inl (Contains-cons (f entry.0, g entry.1) (seen f g entries) item (inr old))) (λ new. inr new) (later others))
-            (Contains-cons_cases (f entry.0, g entry.1) (seen f g (insert_entry R entries key value)) item there)
+            elim (Contains-cons_cases (f entry.0, g entry.1) (seen f g (insert_entry R entries key value)) item there) [
+              | inl same ↦ inl (Contains-cons (f entry.0, g entry.1) (seen f g entries) item (inl same))
+              | inr others ↦ elim (later others) [
+                | inl old ↦ inl (Contains-cons (f entry.0, g entry.1) (seen f g entries) item (inr old))
+                | inr new ↦ inr new
+              ]
+            ]
 
     -- the names after an insertion are those before it and the new one
     pub inserted_names : (entries : List (K × V)) (key : K) (value : V) (name : P)
         → Contains (map f (keys_of entries)) name ⊎ (f key ≡ name)
         → Contains (map f (keys_of (insert_entry R entries key value))) name
     inserted_names [] key value name among =
-        ⊎_elim (λ none. absurd (omega (arith, none.1))) (λ same. Contains-cons (f key) [] name (inl same)) among
+        elim among [ inl none ↦ absurd (omega (arith, none.1)) | inr same ↦ Contains-cons (f key) [] name (inl same) ]
     inserted_names (entry ∷ entries) key value name among =
         placed (R key entry.0) refl (inserted_names entries key value name)
       where
@@ -100,21 +107,23 @@ module _ {K P : Type 0} (R : K → K → Ordering) (f : K → P) (tie : (a b : K
             → Contains (map f (keys_of (match_ordering answer ((key, value) ∷ entry ∷ entries) ((entry.0, value) ∷ entries)
             (entry ∷ insert_entry R entries key value)))) name
         placed Less is later =
-            Contains-cons (f key) (map f (keys_of (entry ∷ entries))) name (⊎_elim (λ old. inr old) (λ same. inl same) among)
-        placed Equal is later =
-            ⊎_elim (λ old. old)
-            (λ same. Contains-cons (f entry.0) (map f (keys_of entries)) name (inl (sym ((tie key entry.0).0 is) ∙ same))) among
+            Contains-cons (f key) (map f (keys_of (entry ∷ entries))) name (elim among [ inl old ↦ inr old | inr same ↦ inl same ])
+        placed Equal is later = elim among [
+          | inl old ↦ old
+          | inr same ↦ Contains-cons (f entry.0) (map f (keys_of entries)) name (inl (sym ((tie key entry.0).0 is) ∙ same))
+        ]
         placed Greater is later =
             Contains-cons (f entry.0) (map f (keys_of (insert_entry R entries key value))) name
-            (⊎_elim (λ old. ⊎_elim (λ here. inl here) (λ there. inr (later (inl there)))
-            (Contains-cons_cases (f entry.0) (map f (keys_of entries)) name old))
-            (λ same. inr (later (inr same))) among)
+            (elim among [
+              | inl old ↦ elim (Contains-cons_cases (f entry.0) (map f (keys_of entries)) name old) [
+                | inl here ↦ inl here
+                | inr there ↦ inr (later (inl there))
+              ]
+              | inr same ↦ inr (later (inr same))
+            ])
 
     -- a map has a key exactly where something stands under what the key stands for
     pub found_name : (entries : List (K × V)) (key : K) (found : Bool) → found ≡ is_some (lookup (is_at (R key)) entries)
         → Decides found (Contains (map (λ it. it.0) (seen f g entries)) (f key))
     found_name entries key found is =
-        let D : Bool → Type 0 = λ each. Decides each (Contains (map f (keys_of entries)) (f key)) in
-        let Q : List P → Type 0 = λ names. Decides found (Contains names (f key)) in
-        subst Q (sym (seen_names f g entries))
-        (subst D (sym (is ∙ is_some-lookup (is_at (R key)) entries)) (found-Decides (keys_of entries) key))
+        rw (seen_names f g entries, is, is_some-lookup (is_at (R key)) entries) (found-Decides (keys_of entries) key)

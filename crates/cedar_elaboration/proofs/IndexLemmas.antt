@@ -1,5 +1,5 @@
 -- Items by their indices, and names that get indices one after another.
-use Rattle.std.proofs.Common.{◌≡◌, ◌⊎◌, ◌+◌, ◌<◌, ℕ, zero, suc, List, [], ◌∷◌, ◌++◌, map, length, take, drop, get_or, Some, ap, sym, subst, ◌∙◌, refl, inl, inr, ⊎_elim, Contains, arith}
+use Rattle.std.proofs.Common.{◌≡◌, ◌⊎◌, ◌+◌, ◌<◌, ℕ, zero, suc, List, [], ◌∷◌, ◌++◌, map, length, take, drop, get_or, Some, ap, sym, subst, ◌∙◌, refl, inl, inr, Contains, arith}
 use Rattle.std.proofs.Math.ListN.{length-map}
 use Rattle.std.proofs.Math.Seq.{drop-cons}
 use Rattle.std.proofs.lemmas.List.{length-take-le, map-append, take-append-drop, take_more}
@@ -36,9 +36,10 @@ slice_get-next (y ∷ xs) ys x = slice_get-next xs ys x
 -- what stands in a list stands at an index of it
 pub index_of : {X : Type 0} (xs : List X) (x : X) → Contains xs x → (i : ℕ) × (slice_get xs i ≡ Some x)
 index_of [] x among = absurd (omega (arith, among.1))
-index_of (y ∷ xs) x among =
-    ⊎_elim (λ here. (zero, ap Some here)) (λ later. let it = index_of xs x later in (suc it.0, it.1))
-    (Contains-cons_cases y xs x among)
+index_of (y ∷ xs) x among = elim (Contains-cons_cases y xs x among) [
+  | inl here ↦ (zero, ap Some here)
+  | inr later ↦ let it = index_of xs x later in (suc it.0, it.1)
+]
 
 -- what stands at an index of a list stands in it
 pub Contains-at : {X : Type 0} (xs : List X) (i : ℕ) (x : X) → slice_get xs i ≡ Some x → Contains xs x
@@ -76,8 +77,7 @@ indices_seen entries = seen name_of (λ item_index. item_index) entries
 -- at first there are no names and no indices
 pub NumberedSoFar-none : (entries : List (InternalName × ℕ)) → entries ≡ [] → NumberedSoFar [] (indices_seen entries)
 NumberedSoFar-none entries nothing =
-    let P : List (InternalName × ℕ) → Type 0 = λ each. NumberedSoFar [] (indices_seen each) in
-    subst P (sym nothing) (record {
+    rw nothing (record {
       numbered = record {
         each = λ name among. absurd (omega (arith, among.1));
         sound = λ name item_index among. absurd (omega (arith, among.1));
@@ -93,28 +93,31 @@ pub NumberedSoFar-more : (names : List PlainName) (entries : List (InternalName 
 NumberedSoFar-more names entries key name item_index same next absent so_far =
     let cmp = (order.ghosts).cmp in
     let more : List (PlainName × ℕ) = indices_seen (insert_entry cmp entries key item_index) in
-    let P : List PlainName → PlainName → Type 0 = λ all each. Contains all each in
     let there : (each : PlainName) → Contains (map (λ it. it.0) (indices_seen entries)) each ⊎ (name_of key ≡ each)
     → Contains (map (λ it. it.0) more) each =
-    λ each among. let Q : List PlainName → Type 0 = λ all. Contains all each in
-    subst Q (sym (seen_names name_of (λ it. it) (insert_entry cmp entries key item_index)))
+    λ each among. rw (seen_names name_of (λ it. it) (insert_entry cmp entries key item_index))
     (inserted_names cmp name_of internal_name_ord-Equal (λ it. it) entries key item_index each
-    (⊎_elim (λ old. inl (subst Q (seen_names name_of (λ it. it) entries) old)) (λ new. inr new) among)) in
+    (elim among [ inl old ↦ inl (rw (seen_names name_of (λ it. it) entries) at old) | inr new ↦ inr new ])) in
     record {
       numbered = record {
-        each = λ each among. ⊎_elim (λ old. there each (inl (so_far.numbered.each each old)))
-            (λ new. there each (inr (same ∙ Contains-single name each new))) (Contains-append_cases names (name ∷ []) each among);
-        sound = λ each at among. ⊎_elim (λ old. slice_get-front names (name ∷ []) at each (so_far.numbered.sound each at old))
-            (λ new. let R : ℕ → Type 0 = λ k. slice_get (names ++ name ∷ []) k ≡ Some each in
-            let it : name ≡ each = sym same ∙ ap (λ pair. pair.0) new in
-            subst R (sym next ∙ ap (λ pair. pair.1) new) (slice_get-next names [] name ∙ ap Some it))
-            (inserted_cases cmp name_of internal_name_ord-Equal (λ it. it) entries key item_index (each, at) among);
+        each = λ each among. elim (Contains-append_cases names (name ∷ []) each among) [
+          | inl old ↦ there each (inl (so_far.numbered.each each old))
+          | inr new ↦ there each (inr (same ∙ Contains-single name each new))
+        ];
+        sound = λ each at among. elim (inserted_cases cmp name_of internal_name_ord-Equal (λ it. it) entries key item_index (each, at) among) [
+          | inl old ↦ slice_get-front names (name ∷ []) at each (so_far.numbered.sound each at old)
+          | inr new ↦
+              let R : ℕ → Type 0 = λ k. slice_get (names ++ name ∷ []) k ≡ Some each in
+              let it : name ≡ each = sym same ∙ ap (λ pair. pair.0) new in
+              subst R (sym next ∙ ap (λ pair. pair.1) new) (slice_get-next names [] name ∙ ap Some it)
+        ];
       };
-      once = λ each twice. ⊎_elim (λ old. so_far.once each old)
-          (λ others. ⊎_elim (λ last. ⊎_elim (λ none. omega (arith, none.1.1)) (λ none. none) last)
-          (λ both. let R : PlainName → Type 0 = λ it. Contains names it in
-          absent (so_far.numbered.each name (subst R (sym (Contains-single name each both.1)) both.0))) others)
-          (Twice-append names (name ∷ []) each twice);
+      once = λ each twice. elim (Twice-append names (name ∷ []) each twice) [
+        | inl old ↦ so_far.once each old
+        | inr (inl (inl none)) ↦ omega (arith, none.1.1)
+        | inr (inl (inr none)) ↦ none
+        | inr (inr both) ↦ absent (so_far.numbered.each name (rw (Contains-single name each both.1) both.0))
+      ];
     }
 
 -- a name that has an index stands twice if it comes again
@@ -128,10 +131,10 @@ repeated_name front rest name indices so_far among =
     index_of_name : (entries : List (PlainName × ℕ)) (each : PlainName) → Contains (map (λ it. it.0) entries) each
         → (at : ℕ) × Contains entries (each, at)
     index_of_name [] each none = absurd (omega (arith, none.1))
-    index_of_name (entry ∷ entries) each there =
-        ⊎_elim (λ here. (entry.1, Contains-cons entry entries (each, entry.1) (inl (λ i. (here i, entry.1)))))
-        (λ later. let it = index_of_name entries each later in (it.0, Contains-cons entry entries (each, it.0) (inr it.1)))
-        (Contains-cons_cases entry.0 (map (λ it. it.0) entries) each there)
+    index_of_name (entry ∷ entries) each there = elim (Contains-cons_cases entry.0 (map (λ it. it.0) entries) each there) [
+      | inl here ↦ (entry.1, Contains-cons entry entries (each, entry.1) (inl (λ i. (here i, entry.1))))
+      | inr later ↦ let it = index_of_name entries each later in (it.0, Contains-cons entry entries (each, it.0) (inr it.1))
+    ]
 
 -- the declared common types up to an index, and the one at it
 pub items_more : (declared : List (InternalName × «Type» InternalName)) (item_index : ℕ) (item : InternalName × «Type» InternalName)

@@ -1,5 +1,5 @@
 -- The order of common types, by the order of their indices.
-use Rattle.std.proofs.Common.{◌≡◌, ◌<◌, ◌++◌, ℕ, zero, suc, List, [], ◌∷◌, Vec, length, Some, ap, sym, subst, ◌∙◌, refl, inl, ⊎_elim, Contains, arith}
+use Rattle.std.proofs.Common.{◌≡◌, ◌<◌, ◌++◌, ℕ, zero, suc, List, [], ◌∷◌, Vec, length, Some, ap, subst, ◌∙◌, refl, inl, Contains, arith, inr}
 use Rattle.std.proofs.Math.ListN.{length-map}
 use Rattle.std.proofs.lemmas.Option.{slice_get-map, slice_get_within}
 use Rattle.std.specs.Option.{option_map}
@@ -15,8 +15,6 @@ use Rattle.cedar_declarations.proofs.ResolutionLemmas.{first_defined}
 use Rattle.cedar_declarations.specs.Defined.{names_of}
 use Rattle.cedar_declarations.specs.IllFormed.{RefersToCommon}
 use Rattle.cedar_declarations.specs.Mentions.{Refers}
-use Rattle.cedar_declarations.specs.Names.{IsDefined}
-use Rattle.cedar_declarations.specs.Occurrences.{IsFirst}
 use Rattle.cedar_names.specs.Expr.{Expr}
 use Rattle.cedar_elaboration.proofs.IndexLemmas.{Contains-at, index_of, index_once}
 use Rattle.cedar_elaboration.specs.Order.{HasNoCycle, IsElaborationOrder}
@@ -30,8 +28,7 @@ turn_at S [] vs turns i x is = cc
 turn_at S (y ∷ xs) [] turns i x is = absurd turns
 turn_at S (y ∷ xs) (v ∷ vs) turns zero x is =
     let same : y ≡ x = cc in
-    let P : _ → Type 0 = λ each. S each v.items in
-    subst P same turns.0
+    rw same at turns.0
 turn_at S (y ∷ xs) (v ∷ vs) turns (suc i) x is = turn_at S xs vs turns.1 i x is
 
 -- lists of which something holds pairwise are of one length
@@ -73,30 +70,30 @@ module _ {Z : Type 0} (items : List (PlainName × Expr)) (indices : List (PlainN
       → (other : PlainName) × (slice_get (item_names items) j ≡ Some other) × RefersToCommon (defined_over items entities) name other
   edge_forth entities i j name is leads =
       let item = item_at items i name is in
-      let defined = defined_over items entities in
-      ⊎_elim (λ none. absurd (omega (arith, none.1)))
-      (λ it. let reference = it.0 in
-      let may = it.2.0 in
-      let other = it.2.1 in
-      let stands : slice_get (item_names items) j ≡ Some other = numbered.sound other j it.2.3 in
-      let in_names : Contains (item_names items) other = Contains-at (item_names items) j other stands in
-      let body = Contains-preimage (λ each. each.0) items other in_names in
-      let P : List PlainName → Type 0 = λ each. IsFirst (IsDefined (names_of defined) reference.kind) each other in
-      let Q : PlainName → Type 0 = λ each. Contains items (each, body.0.1) in
-      let R : PlainName → Type 0 = λ each. Contains items (each, item.0.1) in (
-        other,
-        stands,
-        (
-          item.0.1,
-          reference,
-          body.0.1,
-          subst R item.2 (Contains-at items i item.0 item.1),
-          it.1,
-          subst P (sym it.2.2) (inl (refl, inl (may, in_names))),
-          (may, subst Q body.2 body.1),
-        ),
-      ))
-      ((targets_at i item.0 item.1).only j leads.0)
+      elim ((targets_at i item.0 item.1).only j leads.0) [
+        | inl none ↦ absurd (omega (arith, none.1))
+        | inr it ↦
+            let reference = it.0 in
+            let may = it.2.0 in
+            let other = it.2.1 in
+            let stands : slice_get (item_names items) j ≡ Some other = numbered.sound other j it.2.3 in
+            let in_names : Contains (item_names items) other = Contains-at (item_names items) j other stands in
+            let body = Contains-preimage (λ each. each.0) items other in_names in
+            let Q : PlainName → Type 0 = λ each. Contains items (each, body.0.1) in
+            let R : PlainName → Type 0 = λ each. Contains items (each, item.0.1) in (
+              other,
+              stands,
+              (
+                item.0.1,
+                reference,
+                body.0.1,
+                subst R item.2 (Contains-at items i item.0 item.1),
+                it.1,
+                rw it.2.2 (inl (refl, inl (may, in_names))),
+                (may, subst Q body.2 body.1),
+              ),
+            )
+      ]
 
   -- where a definition refers to a common type, its place leads to that one's
   edge_back : (entities : List PlainName) (name other : PlainName) → RefersToCommon (defined_over items entities) name other
@@ -111,13 +108,12 @@ module _ {Z : Type 0} (items : List (PlainName × Expr)) (indices : List (PlainN
       let found = (targets_at at.0 (name, refers.0) at.1).each reference refers.4 refers.6.0 other among.0
       (numbered.each other in_names) in
       let stands : slice_get (item_names items) found.0 ≡ Some other = numbered.sound other found.0 found.1 in
-      let within : found.0 < length (item_names items) = slice_get_within (item_names items) found.0 other stands in
-      let P : ℕ → Type 0 = λ each. found.0 < each in (
+      let within : found.0 < length (item_names items) = slice_get_within (item_names items) found.0 other stands in (
         at.0,
         found.0,
         name_at items at.0 (name, refers.0) at.1,
         stands,
-        (found.2, subst P (length-map items (λ it. it.0) ∙ as_many) within),
+        (found.2, rw (length-map items (λ it. it.0), as_many) at within),
       )
 
   -- a chain of indices is one of common types
@@ -127,8 +123,7 @@ module _ {Z : Type 0} (items : List (PlainName × Expr)) (indices : List (PlainN
   chain_forth entities i j name other is is' (one step) =
       let it = edge_forth entities i j name is step in
       let same : it.0 ≡ other = cc in
-      let P : PlainName → Type 0 = λ each. RefersToCommon (defined_over items entities) name each in
-      one (subst P same it.2)
+      one (rw same at it.2)
   chain_forth entities i j name other is is' (more {b = k} step rest) =
       let it = edge_forth entities i k name is step in
       more it.2 (chain_forth entities k j it.0 other it.1 is' rest)
@@ -149,31 +144,27 @@ module _ {Z : Type 0} (items : List (PlainName × Expr)) (indices : List (PlainN
         let it = edge_back entities name middle step in
         let onwards = chain_back entities middle other rest in
         let same : it.1 ≡ onwards.0 = index_once (item_names items) once it.1 onwards.0 middle it.3 onwards.2 in
-        let P : ℕ → Type 0 = λ each. LeadsTo targets it.0 each in
-        (it.0, onwards.1, it.2, onwards.3, more (subst P same it.4) onwards.4)
+        (it.0, onwards.1, it.2, onwards.3, more (rw same at it.4) onwards.4)
 
     -- where no index is on a cycle, no common type does
     pub no_cycle_among : ((i : ℕ) → ¬ Chain (LeadsTo targets) i i) → HasNoCycle items
     no_cycle_among none entities name chain =
         let it = chain_back entities name name chain in
         let same : it.0 ≡ it.1 = index_once (item_names items) once it.0 it.1 name it.2 it.3 in
-        let P : ℕ → Type 0 = λ each. Chain (LeadsTo targets) it.0 each in
-        none it.0 (subst P (sym same) it.4)
+        none it.0 (rw (← same) at it.4)
 
   -- an order of the indices is one of the common types
   pub order_of_indices : (order : List ℕ) → IsOrder targets order → IsElaborationOrder items order
   order_of_indices order in_order =
-      let P : ℕ → Type 0 = λ each. (item_index : ℕ) → (Contains order item_index → item_index < each) × (item_index < each → Contains order item_index) in
       record {
-        indices = subst P (sym as_many) in_order.each;
+        indices = rw as_many in_order.each;
         after = λ before rest item_index item split is reference refers may name among in_names.
             let found = (targets_at item_index item is).each reference refers may name among (numbered.each name in_names) in
             let stands : slice_get (item_names items) found.0 ≡ Some name = numbered.sound name found.0 found.1 in
-            let within : found.0 < length (item_names items) = slice_get_within (item_names items) found.0 name stands in
-            let Q : ℕ → Type 0 = λ each. found.0 < each in (
+            let within : found.0 < length (item_names items) = slice_get_within (item_names items) found.0 name stands in (
               found.0,
               in_order.after before rest item_index found.0 split
-                  (found.2, subst Q (length-map items (λ it. it.0) ∙ as_many) within),
+                  (found.2, rw (length-map items (λ it. it.0), as_many) at within),
               stands,
             );
       }

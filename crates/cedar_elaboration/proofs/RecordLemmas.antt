@@ -1,10 +1,9 @@
 -- Attributes that are elaborated one after another.
-use Rattle.std.proofs.Common.{◌≡◌, ◌⊎◌, Bool, false, List, [], ◌∷◌, ◌++◌, map, ap, sym, subst, ◌∙◌, refl, inl, inr, ⊎_elim, append_assoc, string_bytes, Contains}
+use Rattle.std.proofs.Common.{◌≡◌, ◌⊎◌, Bool, false, List, [], ◌∷◌, ◌++◌, map, ap, sym, ◌∙◌, refl, inl, inr, append_assoc, string_bytes, Contains}
 use Rattle.std.proofs.lemmas.Bool.{false≢true}
 use Rattle.std.proofs.lemmas.List.{map-append, append-nil}
 use Rattle.std.proofs.lemmas.Simd.{map-map}
 use Rattle.std.specs.BTreeMap.{IsOrdered}
-use Rattle.std.specs.List.Sorted.{IsStrictlySortedBy}
 use Rattle.std.specs.Map.{keys_of}
 use Rattle.std.specs.String.{string_cmp}
 use Rattle.std.specs.declared.alloc.Global.{Global}
@@ -15,9 +14,9 @@ use Rattle.cedar_below.specs.Text.{Text, text_cmp}
 use Rattle.cedar_below.specs.declared.internal_name.InternalName.{InternalName}
 use Rattle.cedar_declarations.specs.Defined.{Defined}
 use Rattle.cedar_declarations.specs.Fault.{Fault, open_record, reserved_name, type_not_defined, unknown_extension_type, out_of_memory}
-use Rattle.cedar_declarations.specs.Mentions.{HasOpenRecord, MembersHaveOpenRecord, MembersMentionExtension, MembersRefer, MentionsExtension, Refers}
+use Rattle.cedar_declarations.specs.Mentions.{HasOpenRecord, MembersHaveOpenRecord, MembersMentionExtension, MembersRefer}
 use Rattle.cedar_declarations.specs.ResolvedExpr.{resolved_expr, resolved_record, resolved_reference}
-use Rattle.cedar_declarations.specs.ElaboratesTo.{ElaboratesTo, MembersElaborateTo, as_record, as_no_member, as_member}
+use Rattle.cedar_declarations.specs.ElaboratesTo.{MembersElaborateTo, as_record, as_no_member, as_member}
 use Rattle.cedar_names.proofs.ExprLemmas.{record_type_expr-entries, flag_and_expr-parts}
 use Rattle.cedar_names.specs.Expr.{Expr, record_expr, Members, no_member, member, members_from}
 use Rattle.cedar_names.specs.Reference.{Reference}
@@ -81,9 +80,10 @@ have_open-right (member name required expr rest) others holds = inr (have_open-r
 have_open-cases : (members others : Members) → MembersHaveOpenRecord (append_members members others)
     → MembersHaveOpenRecord members ⊎ MembersHaveOpenRecord others
 have_open-cases no_member others holds = inr holds
-have_open-cases (member name required expr rest) others holds =
-    ⊎_elim (λ here. inl (inl here)) (λ later. ⊎_elim (λ front. inl (inr front)) (λ back. inr back)
-    (have_open-cases rest others later)) holds
+have_open-cases (member name required expr rest) others holds = elim holds [
+  | inl here ↦ inl (inl here)
+  | inr later ↦ elim (have_open-cases rest others later) [ inl front ↦ inl (inr front) | inr back ↦ inr back ]
+]
 
 -- an extension type in attributes that come after others is one of all
 mention-right : (members others : Members) (word : Text) → MembersMentionExtension others word
@@ -95,9 +95,10 @@ mention-right (member name required expr rest) others word mentions = inr (menti
 mention-cases : (members others : Members) (word : Text) → MembersMentionExtension (append_members members others) word
     → MembersMentionExtension members word ⊎ MembersMentionExtension others word
 mention-cases no_member others word mentions = inr mentions
-mention-cases (member name required expr rest) others word mentions =
-    ⊎_elim (λ here. inl (inl here)) (λ later. ⊎_elim (λ front. inl (inr front)) (λ back. inr back)
-    (mention-cases rest others word later)) mentions
+mention-cases (member name required expr rest) others word mentions = elim mentions [
+  | inl here ↦ inl (inl here)
+  | inr later ↦ elim (mention-cases rest others word later) [ inl front ↦ inl (inr front) | inr back ↦ inr back ]
+]
 
 -- a reference in attributes that come after others is one of all
 pub refer-right : (members others : Members) (reference : Reference) → MembersRefer others reference
@@ -109,9 +110,10 @@ refer-right (member name required expr rest) others reference refers = inr (refe
 pub refer-cases : (members others : Members) (reference : Reference) → MembersRefer (append_members members others) reference
     → MembersRefer members reference ⊎ MembersRefer others reference
 refer-cases no_member others reference refers = inr refers
-refer-cases (member name required expr rest) others reference refers =
-    ⊎_elim (λ here. inl (inl here)) (λ later. ⊎_elim (λ front. inl (inr front)) (λ back. inr back)
-    (refer-cases rest others reference later)) refers
+refer-cases (member name required expr rest) others reference refers = elim refers [
+  | inl here ↦ inl (inl here)
+  | inr later ↦ elim (refer-cases rest others reference later) [ inl front ↦ inl (inr front) | inr back ↦ inr back ]
+]
 
 -- the refusal of the type of an attribute is that of its record
 fault_of_member : (defined : Defined) (extensions : List PlainName) (front : Members) (name : Text) (required : Bool)
@@ -196,8 +198,7 @@ pub ElaboratedSoFar-none : (scope : TypeScope) (it : RecordType InternalName) (l
 ElaboratedSoFar-none scope it left items same nothing = record {
   done = [];
   split = same;
-  elaborated = λ defined knows. let P : Items → Type 0 = λ each. MembersElaborateTo defined no_member (fields_from (plain_attributes each)) in
-      subst P (sym nothing) as_no_member;
+  elaborated = λ defined knows. rw nothing as_no_member;
   closed = λ holds. holds;
   extensions = λ word mentions. absurd mentions;
 }
@@ -222,16 +223,14 @@ module _ (scope : TypeScope) (it : RecordType InternalName) (left rest : Entries
   Covers-next defined knows =
       let whole = resolved_record-split it so_far.done left rest name attribute so_far.split is in
       Covers-part defined scope (resolved_record it) (attribute_expr attribute)
-      (λ reference refers. let P : Expr → Type 0 = λ each. Refers each reference in
-      subst P (sym whole) (refer-right (resolved_members so_far.done) (member (string_bytes name)
+      (λ reference refers. rw whole (refer-right (resolved_members so_far.done) (member (string_bytes name)
       (out-TypeOfAttribute InternalName attribute).required (attribute_expr attribute) (resolved_members rest)) reference (inl refers)))
       knows
 
   -- the refusal of the type of the next entry is that of the record type
   pub fault_of_next : (fault : Fault) → IsRefusal scope (attribute_expr attribute) fault → IsRefusal scope (resolved_record it) fault
   fault_of_next fault at_fault = record {
-    each = λ defined knows. let P : Expr → Type 0 = λ each. IsExprFault defined (extensions_in_scope scope) each fault in
-        subst P (sym (resolved_record-split it so_far.done left rest name attribute so_far.split is))
+    each = λ defined knows. rw (resolved_record-split it so_far.done left rest name attribute so_far.split is)
         (fault_of_member defined (extensions_in_scope scope) (resolved_members so_far.done) (string_bytes name)
         (out-TypeOfAttribute InternalName attribute).required (attribute_expr attribute) (resolved_members rest)
         (out-RecordType InternalName it).additional_attributes fault (at_fault.each defined (Covers-next defined knows)));
@@ -252,21 +251,22 @@ module _ (scope : TypeScope) (it : RecordType InternalName) (left rest : Entries
       resolved_members-append so_far.done ((name, attribute) ∷ [])
       ∙ ap (append_members front) (resolved_members-one name attribute []) in
       let fields = plain_attributes-push items name' declared (string_bytes name) required ty same_name same in
-      let R : Members → Type 0 = λ each. ¬ MembersHaveOpenRecord each in
-      let S : Members → Type 0 = λ each. (word : Text) → MembersMentionExtension each word
-      → Contains (extensions_in_scope scope) (extension_name word) in
       record {
         done = so_far.done ++ (name, attribute) ∷ [];
         split = so_far.split ∙ (ap (λ others. so_far.done ++ others) is ∙ sym (append_assoc so_far.done ((name, attribute) ∷ []) rest));
         elaborated = λ defined knows.
-            let P : Members → Type 0 = λ each. MembersElaborateTo defined each (fields_from (plain_attributes (items ++ (name', declared) ∷ []))) in
-            let Q : Fields → Type 0 = λ each. MembersElaborateTo defined (append_members front last) each in
-            subst P (sym members) (subst Q (sym fields) (MembersElaborateTo-append defined (so_far.elaborated defined knows)
-            (as_member (one defined (Covers-next defined knows)) as_no_member)));
-        closed = subst R (sym members) (λ holds. ⊎_elim so_far.closed (λ here. ⊎_elim closed (λ none. none) here)
-            (have_open-cases front last holds));
-        extensions = subst S (sym members) (λ word mentions. ⊎_elim (so_far.extensions word)
-            (λ here. ⊎_elim (extensions word) (λ none. absurd none) here) (mention-cases front last word mentions));
+            rw (members, fields) (MembersElaborateTo-append defined (so_far.elaborated defined knows)
+            (as_member (one defined (Covers-next defined knows)) as_no_member));
+        closed = rw members (λ holds. elim (have_open-cases front last holds) [
+          | inl here ↦ so_far.closed here
+          | inr (inl here) ↦ closed here
+          | inr (inr none) ↦ none
+        ]);
+        extensions = rw members (λ word mentions. elim (mention-cases front last word mentions) [
+          | inl here ↦ so_far.extensions word here
+          | inr (inl here) ↦ extensions word here
+          | inr (inr none) ↦ absurd none
+        ]);
       }
 
 module _ (scope : TypeScope) (it : RecordType InternalName) (items : Items) (left : Entries) (nothing : left ≡ [])
@@ -284,31 +284,25 @@ module _ (scope : TypeScope) (it : RecordType InternalName) (items : Items) (lef
       let plain : List (Text × (Bool × Expr)) =
       map (λ entry. (string_bytes entry.0, flag_and_expr InternalName resolved_reference entry.1)) all in
       let P : Entries → Type 0 = λ entries. MembersElaborateTo defined (resolved_members entries) (fields_from (plain_attributes items)) in
-      let elaborated : P all = subst P ElaboratedSoFar-done (so_far.elaborated defined knows) in
-      let Q : List Text → Type 0 = IsStrictlySortedBy text_cmp in
+      let elaborated : P all = rw ElaboratedSoFar-done at (so_far.elaborated defined knows) in
       let names : field_names (fields_from (plain_attributes items)) ≡ map string_bytes (keys_of all) =
       MembersElaborateTo-names defined plain elaborated
       ∙ (map-map (λ item. item.0) (λ entry. (string_bytes entry.0, flag_and_expr InternalName resolved_reference entry.1)) all
       ∙ sym (map-map string_bytes (λ entry. entry.0) all)) in
       let in_order : IsSortedByName (fields_from (plain_attributes items)) =
-      subst Q (sym names) (IsStrictlySortedBy-map string_cmp text_cmp string_bytes (λ a b. refl) _ ordered) in
-      let R : Fields → Type 0 = MembersElaborateTo defined (resolved_members all) in
-      let S : Expr → Type 0 = λ each. ElaboratesTo defined each (record_of fields ClosedAttributes) in
-      subst S (sym (record_type_expr-entries InternalName resolved_reference it))
-      (as_record (subst R (sym (fields_from-HoldsLast (plain_attributes items) fields in_order sorted_by_name holds)) elaborated))
+      rw names (IsStrictlySortedBy-map string_cmp text_cmp string_bytes (λ a b. refl) _ ordered) in
+      rw (record_type_expr-entries InternalName resolved_reference it)
+      (as_record (rw (← fields_from-HoldsLast (plain_attributes items) fields in_order sorted_by_name holds) at elaborated))
 
   -- a record type without additional attributes whose attributes are closed is closed
   pub record_closed : (out-RecordType InternalName it).additional_attributes ≡ false → ¬ HasOpenRecord (resolved_record it)
-  record_closed listed holds =
-      let P : Entries → Type 0 = λ entries. ¬ MembersHaveOpenRecord (resolved_members entries) in
-      ⊎_elim (λ additional. false≢true (sym listed ∙ additional))
-      (subst P ElaboratedSoFar-done so_far.closed)
-      (subst HasOpenRecord (record_type_expr-entries InternalName resolved_reference it) holds)
+  record_closed listed holds = elim (rw (record_type_expr-entries InternalName resolved_reference it) at holds) [
+    | inl additional ↦ false≢true (sym listed ∙ additional)
+    | inr there ↦ rw ElaboratedSoFar-done at so_far.closed there
+  ]
 
   -- the extension types of a record type are those of its attributes
   pub record_extensions : CoversExtensions scope (resolved_record it)
   record_extensions word mentions =
-      let P : Entries → Type 0 = λ entries. MembersMentionExtension (resolved_members entries) word → Contains (extensions_in_scope scope) (extension_name word) in
-      let Q : Expr → Type 0 = λ each. MentionsExtension each word in
-      subst P ElaboratedSoFar-done (so_far.extensions word)
-      (subst Q (record_type_expr-entries InternalName resolved_reference it) mentions)
+      (rw ElaboratedSoFar-done at (so_far.extensions word))
+      (rw (record_type_expr-entries InternalName resolved_reference it) at mentions)

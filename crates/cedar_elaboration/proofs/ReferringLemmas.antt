@@ -1,5 +1,5 @@
 -- Indices of common types that references may name, collected one after another.
-use Rattle.std.proofs.Common.{◌≡◌, ◌⊎◌, ℕ, List, [], ◌∷◌, ◌++◌, map, ap, sym, subst, ◌∙◌, refl, inl, inr, ⊎_elim, append_assoc, Contains, Result, Ok, Err, OnOk}
+use Rattle.std.proofs.Common.{◌≡◌, ◌⊎◌, ℕ, List, [], ◌∷◌, ◌++◌, map, ap, sym, ◌∙◌, refl, inl, inr, append_assoc, Contains, Result, Ok, Err, OnOk}
 use Rattle.std.proofs.lemmas.List.{append-nil}
 use Rattle.std.proofs.lemmas.List.Elements.{Contains-append_left, Contains-push, Contains-push_cases}
 use Rattle.cedar_below.specs.PlainName.{PlainName}
@@ -39,12 +39,14 @@ module _ (indices : List (PlainName × ℕ)) where
       → AddsIndices indices First before middle → AddsIndices indices Second middle after → AddsIndices indices All before after
   adds_both First Second All before middle after either first second one other = record {
     kept = λ item_index among. other.kept item_index (one.kept item_index among);
-    only = λ item_index among. ⊎_elim
-        (λ there. ⊎_elim (λ old. inl old) (λ it. inr (it.0, first it.0 it.1, it.2)) (one.only item_index there))
-        (λ it. inr (it.0, second it.0 it.1, it.2)) (other.only item_index among);
-    each = λ reference refers may name among stands. ⊎_elim
-        (λ it. let found = one.each reference it may name among stands in (found.0, found.1, other.kept found.0 found.2))
-        (λ it. other.each reference it may name among stands) (either reference refers);
+    only = λ item_index among. elim (other.only item_index among) [
+      | inl there ↦ elim (one.only item_index there) [ inl old ↦ inl old | inr it ↦ inr (it.0, first it.0 it.1, it.2) ]
+      | inr it ↦ inr (it.0, second it.0 it.1, it.2)
+    ];
+    each = λ reference refers may name among stands. elim (either reference refers) [
+      | inl it ↦ let found = one.each reference it may name among stands in (found.0, found.1, other.kept found.0 found.2)
+      | inr it ↦ other.each reference it may name among stands
+    ];
   }
 
   -- references that are the same add the same
@@ -54,7 +56,7 @@ module _ (indices : List (PlainName × ℕ)) where
       → AddsIndices indices One before after → AddsIndices indices Other before after
   adds_alike One Other before after to from one = record {
     kept = one.kept;
-    only = λ item_index among. ⊎_elim (λ old. inl old) (λ it. inr (it.0, to it.0 it.1, it.2)) (one.only item_index among);
+    only = λ item_index among. elim (one.only item_index among) [ inl old ↦ inl old | inr it ↦ inr (it.0, to it.0 it.1, it.2) ];
     each = λ reference refers. one.each reference (from reference refers);
   }
 
@@ -62,8 +64,7 @@ module _ (indices : List (PlainName × ℕ)) where
   name_alone : (kind : ReferenceType) (name other : PlainName) (reference : Reference) → reference_to_one kind name ≡ reference
       → Contains reference.possibilities other → name ≡ other
   name_alone kind name other reference same among =
-      let P : Reference → Type 0 = λ each. Contains each.possibilities other in
-      Contains-single name other (subst P (sym same) among)
+      Contains-single name other (rw (← same) at among)
 
   -- a reference to a common type that has an index adds this
   pub adds_index : (kind : ReferenceType) (name : PlainName) (item_index : ℕ) (items : List ℕ) → MayNameCommon kind
@@ -71,13 +72,12 @@ module _ (indices : List (PlainName × ℕ)) where
       → AddsIndices indices (Refers (named (reference_to_one kind name))) items (items ++ item_index ∷ [])
   adds_index kind name item_index items may stands = record {
     kept = λ each among. Contains-append_left items (item_index ∷ []) each among;
-    only = λ each among. ⊎_elim (λ old. inl old)
-        (λ same. let P : ℕ → Type 0 = λ k. Contains indices (name, k) in
-        inr (reference_to_one kind name, refl, (may, name, refl, subst P same stands)))
-        (Contains-push_cases items item_index each among);
+    only = λ each among. elim (Contains-push_cases items item_index each among) [
+      | inl old ↦ inl old
+      | inr same ↦ inr (reference_to_one kind name, refl, (may, name, refl, rw same at stands))
+    ];
     each = λ reference refers may' other among stands'. let same = name_alone kind name other reference refers among in
-        let P : PlainName → Type 0 = λ each. Contains indices (each, item_index) in
-        (item_index, subst P same stands, Contains-push items item_index);
+        (item_index, rw same at stands, Contains-push items item_index);
   }
 
   -- a reference that may name no common type, or to none that has an index, adds nothing
@@ -88,17 +88,14 @@ module _ (indices : List (PlainName × ℕ)) where
     kept = λ each among. among;
     only = λ each among. inl among;
     each = λ reference refers may other among stands. let same = name_alone kind name other reference refers among in
-        let P : Reference → Type 0 = λ each. MayNameCommon each.kind in
-        let Q : PlainName → Type 0 = λ each. Contains (map (λ it. it.0) indices) each in
-        absurd (absent (subst P (sym refers) may) (subst Q (sym same) stands));
+        absurd (absent (rw (← refers) at may) (rw same stands));
   }
 
   -- what the elements of a set add, the set adds
   pub set_adds : {E : Type 0} (result : Result Unit E) (expr element : Expr) (before after : List ℕ) → expr ≡ set_expr element
       → OnOk result (AddsIndices indices (Refers element) before after) → OnOk result (AddsIndices indices (Refers expr) before after)
   set_adds (Ok x) expr element before after same adds =
-      let P : Expr → Type 0 = λ each. AddsIndices indices (Refers each) before after in
-      subst P (sym same)
+      rw same
       (adds_alike (Refers element) (Refers (set_expr element)) before after (λ reference it. it) (λ reference it. it) adds)
   set_adds (Err x) expr element before after same adds = tt
 
@@ -119,7 +116,7 @@ module _ (indices : List (PlainName × ℕ)) where
       → MembersRefer (append_members members others) reference
   refer-left no_member others reference refers = absurd refers
   refer-left (member name required expr rest) others reference refers =
-      ⊎_elim (λ here. inl here) (λ later. inr (refer-left rest others reference later)) refers
+      elim refers [ inl here ↦ inl here | inr later ↦ inr (refer-left rest others reference later) ]
 
   -- one more has
   pub AddedSoFar-more : (it : RecordType InternalName) (before middle after : List ℕ) (left rest : Entries) (name : String Global)
@@ -133,15 +130,17 @@ module _ (indices : List (PlainName × ℕ)) where
       let members : resolved_members (so_far.done ++ (name, attribute) ∷ []) ≡ append_members front last =
       resolved_members-append so_far.done ((name, attribute) ∷ [])
       ∙ ap (append_members front) (resolved_members-one name attribute []) in
-      let P : Members → Type 0 = λ each. AddsIndices indices (MembersRefer each) before after in
       record {
         done = so_far.done ++ (name, attribute) ∷ [];
         split = so_far.split ∙ (ap (λ others. so_far.done ++ others) is ∙ sym (append_assoc so_far.done ((name, attribute) ∷ []) rest));
-        added = subst P (sym members)
+        added = rw members
             (adds_both (MembersRefer front) (Refers (attribute_expr attribute)) (MembersRefer (append_members front last))
             before middle after
-            (λ reference refers. ⊎_elim (λ old. inl old) (λ new. ⊎_elim (λ here. inr here) (λ none. absurd none) new)
-            (refer-cases front last reference refers))
+            (λ reference refers. elim (refer-cases front last reference refers) [
+              | inl old ↦ inl old
+              | inr (inl here) ↦ inr here
+              | inr (inr none) ↦ absurd none
+            ])
             (λ reference refers. refer-left front last reference refers)
             (λ reference refers. refer-right front last reference (inl refers))
             so_far.added adds);
@@ -153,10 +152,7 @@ module _ (indices : List (PlainName × ℕ)) where
   record_adds it before after left nothing so_far =
       let all : so_far.done ≡ entries_of it =
       sym (so_far.split ∙ (ap (λ others. so_far.done ++ others) nothing ∙ append-nil so_far.done)) in
-      let P : Entries → Type 0 = λ each. AddsIndices indices (MembersRefer (resolved_members each)) before after in
-      let Q : Expr → Type 0 = λ each. AddsIndices indices (Refers each) before after in
       let whole = record_type_expr-entries InternalName resolved_reference it in
-      subst Q (sym whole)
-      (adds_alike (MembersRefer (resolved_members (entries_of it)))
+      rw whole (adds_alike (MembersRefer (resolved_members (entries_of it)))
       (Refers (record_expr (resolved_members (entries_of it)) (out-RecordType InternalName it).additional_attributes)) before after (λ reference refers. refers)
-      (λ reference refers. refers) (subst P all so_far.added))
+      (λ reference refers. refers) (rw all at so_far.added))

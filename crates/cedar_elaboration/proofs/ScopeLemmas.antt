@@ -1,5 +1,5 @@
 -- References to what is known.
-use Rattle.std.proofs.Common.{◌≡◌, ◌⊎◌, List, [], ◌∷◌, map, sym, subst, refl, inl, inr, ⊎_elim, Contains, arith, Result, Ok, Err, IfOk, OnOk}
+use Rattle.std.proofs.Common.{◌≡◌, ◌⊎◌, List, [], ◌∷◌, map, subst, refl, inl, inr, Contains, arith, Result, Ok, Err, IfOk, OnOk}
 use Rattle.cedar_below.proofs.Lists.{Contains-cons, Contains-cons_cases, Contains-preimage}
 use Rattle.cedar_below.specs.PlainName.{PlainName, IsReserved}
 use Rattle.cedar_below.specs.Text.{Text}
@@ -7,7 +7,7 @@ use Rattle.cedar_declarations.proofs.OccurrenceLemmas.{Contains-image, Contains-
 use Rattle.cedar_declarations.specs.Defined.{Defined, IsCommon, names_of}
 use Rattle.cedar_declarations.specs.Fault.{Fault, reserved_name, type_not_defined, unknown_extension_type, out_of_memory}
 use Rattle.cedar_declarations.specs.Mentions.{MembersRefer, Refers}
-use Rattle.cedar_declarations.specs.Names.{IsDefined, IsEntity, IsUnresolved, MayNameCommon, MayNameEntity, ResolvesTo}
+use Rattle.cedar_declarations.specs.Names.{IsEntity, IsUnresolved, MayNameCommon, MayNameEntity, ResolvesTo}
 use Rattle.cedar_declarations.specs.Resolved.{reference_to_one}
 use Rattle.cedar_declarations.specs.ElaboratesTo.{ElaboratesTo, MembersElaborateTo, as_set, as_record, as_entity, as_common, as_extension, as_no_member, as_member}
 use Rattle.cedar_names.specs.Expr.{Expr, Members, extension_expr, named, set_expr}
@@ -68,15 +68,14 @@ module _ (defined : Defined) (scope : TypeScope) (kind : ReferenceType) (name : 
       → (MayNameEntity kind → ¬ Contains (set_names scope.entities.now) name)
       → IsUnresolved (names_of defined) (reference_to_one kind name)
   unresolved absent no_entity other among is_defined =
-      let same : name ≡ other = ⊎_elim (λ here. here) (λ none. absurd (omega (arith, none.1)))
-      (Contains-cons_cases name [] other among) in
-      let P : PlainName → Type 0 = IsDefined (names_of defined) kind in
-      ⊎_elim
-      (λ common. let it = Contains-preimage (λ each. each.0) defined.common name common.1 in
-      let Q : PlainName → Type 0 = λ each. Contains defined.common (each, it.0.1) in
-      no_common absent it.0.1 (common.0, subst Q it.2 it.1))
-      (λ entity. no_entity entity.0 ((knows.entities name).0 entity.1))
-      (subst P (sym same) is_defined)
+      let same : name ≡ other = elim (Contains-cons_cases name [] other among) [ inl here ↦ here | inr none ↦ absurd (omega (arith, none.1)) ] in
+      elim (rw (← same) at is_defined) [
+        | inl common ↦
+            let it = Contains-preimage (λ each. each.0) defined.common name common.1 in
+            let Q : PlainName → Type 0 = λ each. Contains defined.common (each, it.0.1) in
+            no_common absent it.0.1 (common.0, subst Q it.2 it.1)
+        | inr entity ↦ no_entity entity.0 ((knows.entities name).0 entity.1)
+      ]
 
   -- the refusal of a reserved entity type is that of the reference to it
   pub fault_of_entity : (MayNameCommon kind → ¬ Contains (map (λ it. it.0) (elaborated_types scope.common.now)) name)
@@ -84,10 +83,10 @@ module _ (defined : Defined) (scope : TypeScope) (kind : ReferenceType) (name : 
       → (fault ≡ out_of_memory) ⊎ ((fault ≡ reserved_name name) × MayNameEntity kind
       × Contains (set_names scope.entities.now) name × IsReserved name)
       → IsExprFault defined (extensions_in_scope scope) (named (reference_to_one kind name)) fault
-  fault_of_entity absent fault at_fault =
-      let P : Fault → Type 0 = IsExprFault defined (extensions_in_scope scope) (named (reference_to_one kind name)) in
-      ⊎_elim (λ wanting. subst P (sym wanting) tt)
-      (λ it. subst P (sym it.0) (reference_to_one kind name, refl, reserved_entity absent it.1 it.2 it.3)) at_fault
+  fault_of_entity absent fault at_fault = elim at_fault [
+    | inl wanting ↦ rw wanting tt
+    | inr it ↦ rw it.0 (reference_to_one kind name, refl, reserved_entity absent it.1 it.2 it.3)
+  ]
 
   -- the refusal of a reference that resolves to nothing
   pub fault_of_reference : (MayNameCommon kind → ¬ Contains (map (λ it. it.0) (elaborated_types scope.common.now)) name)
@@ -95,12 +94,10 @@ module _ (defined : Defined) (scope : TypeScope) (kind : ReferenceType) (name : 
       → (fault : Fault) → fault ≡ type_not_defined (reference_to_one kind name ∷ [])
       → IsExprFault defined (extensions_in_scope scope) (named (reference_to_one kind name)) fault
   fault_of_reference absent no_entity fault is =
-      let P : Fault → Type 0 = IsExprFault defined (extensions_in_scope scope) (named (reference_to_one kind name)) in
-      let Q : Reference → Type 0 = IsUnresolved (names_of defined) in
-      subst P (sym is) (
+      rw is (
         λ same. cc,
         λ reference among. let here = Contains-single (reference_to_one kind name) reference among in
-            (here, subst Q here (unresolved absent no_entity)),
+            (here, rw (← here) (unresolved absent no_entity)),
       )
 
 -- the name without a path and with the base name is that of the extension type
@@ -113,8 +110,7 @@ pub fault_of_extension : (scope : TypeScope) (word : Text) (fault : Fault)
     × ¬ Contains (extensions_in_scope scope) (extension_name word))
     → IsRefusal scope (extension_expr word) fault
 fault_of_extension scope word fault at_fault = record {
-  each = λ defined knows. let P : Fault → Type 0 = IsExprFault defined (extensions_in_scope scope) (extension_expr word) in
-      ⊎_elim (λ wanting. subst P (sym wanting) tt) (λ it. subst P (sym it.0) (refl, refl, it.1)) at_fault;
+  each = λ defined knows. elim at_fault [ inl wanting ↦ rw wanting tt | inr it ↦ rw it.0 (refl, refl, it.1) ];
 }
 
 mutual
@@ -124,11 +120,9 @@ mutual
   resolves_each defined (as_set element) reference refers = resolves_each defined element reference refers
   resolves_each defined (as_record members) reference refers = members_resolve defined members reference refers
   resolves_each defined (as_entity other name resolves is_entity none) reference refers =
-      let P : Reference → Type 0 = λ each. ResolvesTo (names_of defined) each name in
-      (name, subst P refers resolves)
+      (name, rw refers at resolves)
   resolves_each defined (as_common other name body resolves is_common elaborated) reference refers =
-      let P : Reference → Type 0 = λ each. ResolvesTo (names_of defined) each name in
-      (name, subst P refers resolves)
+      (name, rw refers at resolves)
   resolves_each defined _ reference refers = absurd refers
 
   -- the same of the attributes of a record
@@ -136,8 +130,10 @@ mutual
       → (reference : Reference) → MembersRefer members reference
       → (name : PlainName) × ResolvesTo (names_of defined) reference name
   members_resolve defined as_no_member reference refers = absurd refers
-  members_resolve defined (as_member first rest) reference refers =
-      ⊎_elim (resolves_each defined first reference) (members_resolve defined rest reference) refers
+  members_resolve defined (as_member first rest) reference refers = elim refers [
+    | inl here ↦ resolves_each defined first reference here
+    | inr there ↦ members_resolve defined rest reference there
+  ]
 
 -- what is elaborated refers to nothing that doesn't resolve
 pub resolved_if_elaborated : (scope : TypeScope) (expr : Expr) {E : Type 0} (result : Result «Type» E)
@@ -149,16 +145,13 @@ resolved_if_elaborated scope expr (Err error) is_elaborated = tt
 pub ElaboratesTo-as : (defined : Defined) {expr other : Expr} {ty ty' : Ty} → expr ≡ other → ty ≡ ty'
     → ElaboratesTo defined other ty' → ElaboratesTo defined expr ty
 ElaboratesTo-as defined {expr = expr} {ty' = ty'} same same' elaborated =
-    let P : Ty → Type 0 = ElaboratesTo defined expr in
-    let Q : Expr → Type 0 = λ each. ElaboratesTo defined each ty' in
-    subst P (sym same') (subst Q (sym same) elaborated)
+    rw (same', same) elaborated
 
 -- a set type is elaborated as the type of sets of what its elements are
 pub set_elaborated : (scope : TypeScope) (expr element : Expr) (ty ty' : Ty) → expr ≡ set_expr element → ty ≡ set_of ty'
     → ElaboratesAs scope element ty' → ElaboratesAs scope expr ty
 set_elaborated scope expr element ty ty' same same' elaborated defined knows =
-    let P : Expr → Type 0 = Covers defined scope in
-    let whole : Covers defined scope (set_expr element) = subst P same knows in
+    let whole : Covers defined scope (set_expr element) = rw same at knows in
     ElaboratesTo-as defined same same'
     (as_set (elaborated defined (Covers-part defined scope (set_expr element) element (λ reference refers. refers) whole)))
 
@@ -171,10 +164,8 @@ fault_in_set defined extensions element fault at_fault = at_fault
 pub fault_of_set : (scope : TypeScope) (expr element : Expr) (fault : Fault) → expr ≡ set_expr element
     → IsRefusal scope element fault → IsRefusal scope expr fault
 fault_of_set scope expr element fault same at_fault = record {
-  each = λ defined knows. let P : Expr → Type 0 = Covers defined scope in
-      let whole : Covers defined scope (set_expr element) = subst P same knows in
-      let Q : Expr → Type 0 = λ each. IsExprFault defined (extensions_in_scope scope) each fault in
-      subst Q (sym same) (fault_in_set defined (extensions_in_scope scope) element fault
+  each = λ defined knows. let whole : Covers defined scope (set_expr element) = rw same at knows in
+      rw same (fault_in_set defined (extensions_in_scope scope) element fault
       (at_fault.each defined (Covers-part defined scope (set_expr element) element (λ reference refers. refers) whole)));
 }
 

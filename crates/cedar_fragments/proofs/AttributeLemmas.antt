@@ -94,33 +94,31 @@ ids_all all left ids nothing so_far =
 
 -- an id that is asked for is the one
 id_where-only : (asked : Bool) (id other : Text) → Contains (id_where asked id) other → (asked ≡ true) × (id ≡ other)
-id_where-only true id other among = ⊎_elim (λ same. (refl, same)) (λ later. absurd (omega (arith, later.1))) (Contains-cons_cases id [] other among)
+id_where-only true id other among = elim (Contains-cons_cases id [] other among) [ inl same ↦ (refl, same) | inr later ↦ absurd (omega (arith, later.1)) ]
 id_where-only false id other among = absurd (omega (arith, among.1))
 
 -- a listed id is that of an action with attributes
 listed_action : (entries : Actions) (id : Text) → Contains (with_attributes entries) id
     → (entry : String Global × ActionType RawName) × Contains entries entry × (is_some entry.1.attributes ≡ true) × (string_bytes entry.0 ≡ id)
 listed_action [] id among = absurd (omega (arith, among.1))
-listed_action (entry ∷ entries) id among =
-    ⊎_elim
-    (λ here. let found = id_where-only (is_some entry.1.attributes) (string_bytes entry.0) id here in
-    (entry, Contains-cons entry entries entry (inl refl), found.0, found.1))
-    (λ later. let other = listed_action entries id later in
-    (other.0, Contains-cons entry entries other.0 (inr other.1), other.2, other.3))
-    (Contains-append_cases (id_of entry) (with_attributes entries) id among)
+listed_action (entry ∷ entries) id among = elim (Contains-append_cases (id_of entry) (with_attributes entries) id among) [
+  | inl here ↦
+      let found = id_where-only (is_some entry.1.attributes) (string_bytes entry.0) id here in
+      (entry, Contains-cons entry entries entry (inl refl), found.0, found.1)
+  | inr later ↦
+      let other = listed_action entries id later in
+      (other.0, Contains-cons entry entries other.0 (inr other.1), other.2, other.3)
+]
 
 -- the id of an action with attributes is listed
 action_listed : (entries : Actions) (entry : String Global × ActionType RawName) → Contains entries entry
     → is_some entry.1.attributes ≡ true → Contains (with_attributes entries) (string_bytes entry.0)
 action_listed [] entry among has = absurd (omega (arith, among.1))
-action_listed (first ∷ rest) entry among has =
-    let P : Bool → Type 0 = λ asked. Contains (id_where asked (string_bytes entry.0)) (string_bytes entry.0) in
-    let Q : String Global × ActionType RawName → Type 0 = λ each. Contains (id_of each) (string_bytes entry.0) in
-    ⊎_elim
-    (λ same. Contains-append_left (id_of first) (with_attributes rest) (string_bytes entry.0)
-    (subst Q (sym same) (subst P (sym has) (0, omega arith, refl))))
-    (λ later. Contains-append_right (id_of first) (with_attributes rest) (string_bytes entry.0) (action_listed rest entry later has))
-    (Contains-cons_cases first rest entry among)
+action_listed (first ∷ rest) entry among has = elim (Contains-cons_cases first rest entry among) [
+  | inl same ↦ Contains-append_left (id_of first) (with_attributes rest) (string_bytes entry.0)
+      (rw (same, has) (0, omega arith, refl))
+  | inr later ↦ Contains-append_right (id_of first) (with_attributes rest) (string_bytes entry.0) (action_listed rest entry later has)
+]
 
 -- whether what is declared is an action with attributes
 abbrev has_attributes : Body → Bool
@@ -139,8 +137,7 @@ ids_exact namespace entries id = (
       (body, subst P found.3 (Contains-image _ entries found.0 found.1), found.2),
   λ has.
       let found = Contains-preimage _ entries _ has.1 in
-      let P : Text → Type 0 = Contains (with_attributes entries) in
-      subst P (ap (λ (it : Declaration). it.id) found.2)
+      rw (ap (λ (it : Declaration). it.id) found.2) at
       (action_listed entries found.0 found.1 (ap (λ (it : Declaration). has_attributes it.body) found.2 ∙ has.2)),
 )
 
@@ -152,8 +149,7 @@ none_listed front entry back nothing = absent entry.1.attributes refl
     absent : (attributes : _) → entry.1.attributes ≡ attributes → attributes ≡ None
     absent None is = refl
     absent (Some values) is =
-        let P : List Text → Type 0 = λ ids. Contains ids (string_bytes entry.0) in
-        let listed = subst P nothing (action_listed (front ++ entry ∷ back) entry
+        let listed = rw nothing at (action_listed (front ++ entry ∷ back) entry
         (Contains-append_right front (entry ∷ back) entry (0, omega arith, refl)) (ap is_some is)) in
         absurd (omega (arith, listed.1))
 
@@ -187,8 +183,7 @@ ids_in_order (entry ∷ entries) sorted =
 pub ids_of_map : (entries : Actions) (ids : List (String Global)) → IsStrictlySortedBy string_cmp (keys_of entries)
     → map string_bytes ids ≡ with_attributes entries → IsStrictlySortedBy text_cmp (map string_bytes ids)
 ids_of_map entries ids ordered listed =
-    let P : List Text → Type 0 = IsStrictlySortedBy text_cmp in
-    subst P (sym listed) (ids_in_order entries (subst P (map-map _ _ _)
+    rw listed (ids_in_order entries (rw (map-map _ _ _) at
     (IsStrictlySortedBy-map string_cmp text_cmp string_bytes (λ a b. refl) (keys_of entries) ordered)))
 
 -- the fault of actions with attributes
@@ -197,14 +192,13 @@ pub attributes_fault : (namespace : Option PlainName) (entries : Actions) (ids :
     → (action_attributes (map string_bytes ids) ≡ out_of_memory)
     ⊎ IsDefinitionFault (action_declarations RawName (raw_reference namespace) namespace entries) (action_attributes (map string_bytes ids))
 attributes_fault namespace entries ids listed ordered some =
-    let P : Text → List Text → Type 0 = λ id each. Contains each id in
     inr (
       tt,
       λ extensions. (
         some_mapped ids some,
         ordered,
         namespace,
-        λ id among. (ids_exact namespace entries id).0 (subst (P id) listed among),
+        λ id among. (ids_exact namespace entries id).0 (rw listed at among),
       ),
     )
   where
@@ -218,9 +212,7 @@ pub attributes_named : (namespace : Option PlainName) (entries : Actions) (ids :
     → NamesAllWithAttributes (action_declarations RawName (raw_reference namespace) namespace entries) namespace
     (action_attributes (map string_bytes ids))
 attributes_named namespace entries ids listed id =
-    let P : List Text → Type 0 = λ each. Contains each id
-    ↔ HasAttributes (action_declarations RawName (raw_reference namespace) namespace entries) namespace id in
-    subst P (sym listed) (ids_exact namespace entries id)
+    rw listed (ids_exact namespace entries id)
 
 -- where no id is listed, the next action has no attributes
 pub next_has_none : (all left rest : Actions) (ids : List (String Global)) (done : Actions) (entry : String Global × ActionType RawName)
@@ -247,8 +239,10 @@ named_in_all others part namespace no_actions (action_attributes ids) named =
       λ among. let has = (named id).0 among in (has.0, Contains-append_right others part _ has.1, has.2),
       λ has. (named id).1 (
         has.0,
-        ⊎_elim (λ here. absurd (no_actions _ has.0 here refl)) (λ there. there)
-            (Contains-append_cases others part _ has.1),
+        elim (Contains-append_cases others part _ has.1) [
+          | inl here ↦ absurd (no_actions _ has.0 here refl)
+          | inr there ↦ there
+        ],
         has.2,
       ),
     )
@@ -260,13 +254,15 @@ pub no_actions_among : (namespace : Option PlainName) (common : List (CommonType
     → Contains (common_declarations RawName (raw_reference namespace) namespace common
     ++ entity_declarations RawName (raw_reference namespace) namespace entities) it → ¬ (it.body ≡ action body)
 no_actions_among namespace common entities it body among is =
-    ⊎_elim
-    (λ here. let found = Contains-preimage _ common it here in
-    no_common (ap (λ (each : Declaration). each.body) found.2 ∙ is))
-    (λ there. let found = Contains-preimage _ entities it there in
-    no_entity (ap (λ (each : Declaration). each.body) found.2 ∙ is))
-    (Contains-append_cases (common_declarations RawName (raw_reference namespace) namespace common)
-    (entity_declarations RawName (raw_reference namespace) namespace entities) it among)
+    elim (Contains-append_cases (common_declarations RawName (raw_reference namespace) namespace common)
+    (entity_declarations RawName (raw_reference namespace) namespace entities) it among) [
+      | inl here ↦
+          let found = Contains-preimage _ common it here in
+          no_common (ap (λ (each : Declaration). each.body) found.2 ∙ is)
+      | inr there ↦
+          let found = Contains-preimage _ entities it there in
+          no_entity (ap (λ (each : Declaration). each.body) found.2 ∙ is)
+    ]
   where
     no_common : {definition : Expr} → ¬ (common_type definition ≡ action body)
     no_common wrong = cc

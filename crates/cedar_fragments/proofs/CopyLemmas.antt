@@ -56,6 +56,5 @@ module _ (N : Type 0) (alike : N → N → Type 0) where
 pub same_namespace : (namespace copy : Option InternalName) → option_map located_name copy ≡ option_map located_name namespace
     → option_map name_of copy ≡ option_map name_of namespace
 same_namespace None None e = refl
-same_namespace None (Some copy) e = cc
-same_namespace (Some name) None e = cc
 same_namespace (Some name) (Some copy) e = ap (option_map (λ (it : LocatedName). it.name)) e
+same_namespace _ _ e = cc

@@ -1,7 +1,9 @@
 -- Faults of definitions, passed on to the whole, and bags of several definitions.
-use Rattle.std.proofs.Common.{◌≡◌, ◌⊎◌, List, [], ◌∷◌, ◌++◌, map, ap, sym, ◌∙◌, refl, subst, inl, inr, ⊎_elim, Contains, arith}
+use Rattle.std.proofs.Common.{◌≡◌, ◌⊎◌, List, [], ◌∷◌, ◌++◌, map, ap, sym, ◌∙◌, refl, subst, inl, inr, ⊎_elim, Contains, arith, Result, IfErr}
 use Rattle.std.proofs.lemmas.List.Elements.{Contains-append_left, Contains-append_right}
+use Rattle.std.proofs.lemmas.Result.{err_from_is_err_and}
 use Rattle.std.specs.List.{AllByRecursion, flat_map}
+use Rattle.std.specs.Result.{IsErrAnd}
 use Rattle.cedar_below.proofs.Lists.{Contains-cons_cases}
 use Rattle.cedar_below.specs.Lists.{Included}
 use Rattle.cedar_declarations.specs.Bag.{Bag}
@@ -14,7 +16,7 @@ use Rattle.cedar_names.specs.Declaration.{Declaration}
 pub refusal_included : (part whole : Bag) → Included part whole → (fault : Fault)
     → (fault ≡ out_of_memory) ⊎ IsDefinitionFault part fault → (fault ≡ out_of_memory) ⊎ IsDefinitionFault whole fault
 refusal_included part whole included fault =
-    ⊎_elim (λ memory. inl memory) (λ at_fault. inr (fault_included part whole included fault at_fault))
+    elim [ inl memory ↦ inl memory | inr at_fault ↦ inr (fault_included part whole included fault at_fault) ]
 
 -- the parts of three lists that are put together
 pub first_included : (xs ys zs : Bag) → Included xs (xs ++ ys ++ zs)
@@ -35,12 +37,10 @@ module _ {A : Type 0} (f : A → Bag) where
   -- those of one are among those of all
   pub flat_map-included : (xs : List A) (x : A) → Contains xs x → Included (f x) (flat_map f xs)
   flat_map-included [] x here it among = absurd (omega (arith, here.1))
-  flat_map-included (first ∷ rest) x here it among =
-      ⊎_elim
-      (λ same. let P : A → Type 0 = λ each. Contains (f each) it in
-      Contains-append_left (f first) (flat_map f rest) it (subst P (sym same) among))
-      (λ later. Contains-append_right (f first) (flat_map f rest) it (flat_map-included rest x later it among))
-      (Contains-cons_cases first rest x here)
+  flat_map-included (first ∷ rest) x here it among = elim (Contains-cons_cases first rest x here) [
+    | inl same ↦ Contains-append_left (f first) (flat_map f rest) it (rw same among)
+    | inr later ↦ Contains-append_right (f first) (flat_map f rest) it (flat_map-included rest x later it among)
+  ]
 
   -- what holds of each declaration of each holds of each of all
   pub flat_map-each : (P : Declaration → Type 0) (xs : List A) → AllByRecursion (AllByRecursion P) (map f xs) → AllByRecursion P (flat_map f xs)
@@ -50,3 +50,8 @@ module _ {A : Type 0} (f : A → Bag) where
 -- the same bags in turn are the same together
 pub flat_map-same : {A B : Type 0} (f : A → Bag) (g : B → Bag) (xs : List A) (ys : List B) → map f xs ≡ map g ys → flat_map f xs ≡ flat_map g ys
 flat_map-same f g xs ys same = flat_map-map f xs ∙ (ap (flat_map (λ bag. bag)) same ∙ sym (flat_map-map g ys))
+
+-- what holds of the error that `?` passes on holds of that of the result
+pub exit_holds : {T E : Type 0} (P : E → Type 0) (result : Result T E) (error : E) → IsErrAnd result (λ it. it ≡ error) → P error
+    → IfErr result P
+exit_holds P result error passed holds = let exit = err_from_is_err_and result passed in rw (exit.1, exit.2) holds

@@ -24,6 +24,5 @@ FragmentsSoFar all made left = ListedSoFar (AllByRecursion IsSound) entry_declar
 pub next_entry : (all left rest : Written) (made : List (ValidatorNamespaceDef ConditionalName ConditionalName))
     (entry : Option Name × NamespaceDefinition RawName) → left ≡ entry ∷ rest → FragmentsSoFar all made left → Contains all entry
 next_entry all left rest made entry is so_far =
-    let P : Written → Type 0 = λ entries. Contains entries entry in
-    subst P (sym (so_far.split ∙ ap (λ others. so_far.done ++ others) is))
+    rw (so_far.split, ap (λ others. so_far.done ++ others) is)
     (Contains-append_right so_far.done (entry ∷ rest) entry (0, omega arith, refl))

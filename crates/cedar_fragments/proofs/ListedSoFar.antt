@@ -26,21 +26,18 @@ module _ {A B C : Type 0} (P : C → Type 0) (f : A → C) (g : B → C) where
   pub ListedSoFar-more : (all left rest : List A) (made pushed : List B) (x : A) (y : B) → left ≡ x ∷ rest
       → pushed ≡ made ++ y ∷ [] → g y ≡ f x → P (f x) → ListedSoFar P f g all made left → ListedSoFar P f g all pushed rest
   ListedSoFar-more all left rest made pushed x y is is_pushed one holds so_far =
-      let Q : List C → Type 0 = AllByRecursion P in
       record {
         done = so_far.done ++ x ∷ [];
         split = so_far.split ∙ (ap (λ others. so_far.done ++ others) is ∙ sym (append_assoc so_far.done (x ∷ []) rest));
         same = one_more g f made pushed so_far.done y x is_pushed so_far.same one;
-        each = subst Q (sym (map-append f so_far.done (x ∷ []))) (AllByRecursion-push P (map f so_far.done) (f x) so_far.each holds);
+        each = rw (map-append f so_far.done (x ∷ [])) (AllByRecursion-push P (map f so_far.done) (f x) so_far.each holds);
       }
 
   -- the next one is among all
   pub listed_next : (all left rest : List A) (made : List B) (x : A) → left ≡ x ∷ rest → ListedSoFar P f g all made left
       → Contains (map f all) (f x)
   listed_next all left rest made x is so_far =
-      let Q : List C → Type 0 = λ shown. Contains shown (f x) in
-      subst Q
-      (sym (ap (map f) (so_far.split ∙ ap (λ others. so_far.done ++ others) is) ∙ map-append f so_far.done (x ∷ rest)))
+      rw (ap (map f) (so_far.split ∙ ap (λ others. so_far.done ++ others) is), map-append f so_far.done (x ∷ rest))
       (Contains-append_right (map f so_far.done) (f x ∷ map f rest) (f x) (0, omega arith, refl))
 
   -- where none is left, all items are done
@@ -55,5 +52,4 @@ module _ {A B C : Type 0} (P : C → Type 0) (f : A → C) (g : B → C) where
   -- where none is left, the fact holds of all
   pub listed_each : (all left : List A) (made : List B) → left ≡ [] → ListedSoFar P f g all made left → AllByRecursion P (map f all)
   listed_each all left made nothing so_far =
-      let Q : List A → Type 0 = λ items. AllByRecursion P (map f items) in
-      subst Q (done_all all left made nothing so_far) so_far.each
+      rw (done_all all left made nothing so_far) at so_far.each

@@ -1,5 +1,5 @@
 -- Refusals that name the actions with attributes of a definition.
-use Rattle.std.proofs.Common.{◌≡◌, ◌⊎◌, List, [], ◌∷◌, Option, Contains, arith, subst, sym, ⊎_elim}
+use Rattle.std.proofs.Common.{◌≡◌, ◌⊎◌, List, [], ◌∷◌, Option, Contains, arith, subst, sym, ⊎_elim, inl, inr}
 use Rattle.std.specs.Option.{option_map}
 use Rattle.cedar_below.proofs.Lists.{Contains-cons_cases}
 use Rattle.cedar_below.specs.Lists.{Included}
@@ -35,29 +35,25 @@ named_included part whole included _ named = tt
 pub none_named : (fragments : List (Fragment RawName)) (bag : Bag) (extensions : Extensions) → HasNoDefinitionFault bag
     → (fault : Fault) → (fault ≡ out_of_memory) ⊎ IsFault bag extensions fault → NamesAllOfADefinition fragments fault
 none_named fragments bag extensions none (action_attributes ids) =
-    ⊎_elim (λ memory. cc) (λ at_fault. absurd (none extensions (action_attributes ids) tt at_fault))
+    elim [ inl memory ↦ cc | inr at_fault ↦ absurd (none extensions (action_attributes ids) tt at_fault) ]
 none_named fragments bag extensions none _ = λ either. tt
 
 -- an item of a list of one is that one
 the_only : {A : Type 0} (only x : A) → Contains (only ∷ []) x → only ≡ x
-the_only only x among = ⊎_elim (λ same. same) (λ none. absurd (omega (arith, none.1))) (Contains-cons_cases only [] x among)
+the_only only x among = elim (Contains-cons_cases only [] x among) [ inl same ↦ same | inr none ↦ absurd (omega (arith, none.1)) ]
 
 -- what names all of a definition of one fragment does so of fragments that it is among
 pub named_among : (fragments : List (Fragment RawName)) (fragment : Fragment RawName) → Contains fragments fragment
     → (fault : Fault) → NamesAllOfADefinition (fragment ∷ []) fault → NamesAllOfADefinition fragments fault
 named_among fragments fragment among =
     named_included (fragment ∷ []) fragments
-    (λ other there. subst (Contains fragments) (the_only fragment other there) among)
+    (λ other there. rw (the_only fragment other there) at among)
 
 -- what names all of a definition of one fragment with a single definition names all of that
 pub named_of_only : (fragment : Fragment RawName) (entry : Option Name × NamespaceDefinition RawName)
     → fragment.0.entries ≡ entry ∷ [] → (fault : Fault) → NamesAllOfADefinition (fragment ∷ []) fault
     → NamesAllWithAttributes (entry_declarations entry) (option_map plain_name entry.0) fault
 named_of_only fragment entry alone (action_attributes ids) named =
-    let P : Option Name × NamespaceDefinition RawName → Type 0 = λ it.
-    NamesAllWithAttributes (entry_declarations it) (option_map plain_name it.0) (action_attributes ids) in
-    let Q : Fragment RawName → Type 0 = λ it. Contains it.0.entries named.1 in
-    let R : List (Option Name × NamespaceDefinition RawName) → Type 0 = λ entries. Contains entries named.1 in
-    let within = subst R alone (subst Q (sym (the_only fragment named.0 named.2)) named.3) in
-    subst P (sym (the_only entry named.1 within)) named.4
+    let within = rw (← the_only fragment named.0 named.2, alone) at named.3 in
+    rw (the_only entry named.1 within) named.4
 named_of_only fragment entry alone _ named = tt

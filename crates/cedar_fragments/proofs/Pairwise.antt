@@ -30,33 +30,28 @@ module _ {X Y A B : Type 0} (R : A → B → Type 0) (f : X → A) (g : Y → B)
   -- at first none has
   pub turn_none : (all left : List X) (made : List Y) → left ≡ all → made ≡ [] → TurnSoFar R f g all made left
   turn_none all left made same nothing =
-      let P : List Y → Type 0 = λ ys. HoldsPairwise R [] (map g ys) in record { done = []; split = sym same; turn = subst P (sym nothing) tt }
+      record { done = []; split = sym same; turn = rw nothing tt }
 
   -- one more has
   pub turn_more : (all left rest : List X) (made pushed : List Y) (x : X) (y : Y) → left ≡ x ∷ rest → pushed ≡ made ++ y ∷ [] → R (f x) (g y)
       → TurnSoFar R f g all made left → TurnSoFar R f g all pushed rest
   turn_more all left rest made pushed x y is grown one so_far =
-      let P : List A → Type 0 = λ xs. HoldsPairwise R xs (map g pushed) in
-      let Q : List B → Type 0 = λ ys. HoldsPairwise R (map f so_far.done ++ f x ∷ []) ys in
       record {
         done = so_far.done ++ x ∷ [];
         split = so_far.split ∙ (ap (λ others. so_far.done ++ others) is ∙ sym (append_assoc so_far.done (x ∷ []) rest));
-        turn = subst P (sym (map-append f so_far.done (x ∷ [])))
-            (subst Q (sym (ap (map g) grown ∙ map-append g made (y ∷ [])))
-            (pairwise_append R (map f so_far.done) (f x ∷ []) (map g made) (g y ∷ []) so_far.turn (one, tt)));
+        turn = rw (map-append f so_far.done (x ∷ []), ap (map g) grown, map-append g made (y ∷ []))
+            (pairwise_append R (map f so_far.done) (f x ∷ []) (map g made) (g y ∷ []) so_far.turn (one, tt));
       }
 
   -- where none is left, all have
   pub turn_all : (all left : List X) (made : List Y) → left ≡ [] → TurnSoFar R f g all made left → HoldsPairwise R (map f all) (map g made)
   turn_all all left made nothing so_far =
-      let P : List X → Type 0 = λ xs. HoldsPairwise R (map f xs) (map g made) in
-      subst P (sym (so_far.split ∙ (ap (λ others. so_far.done ++ others) nothing ∙ append-nil so_far.done))) so_far.turn
+      rw (so_far.split, ap (λ others. so_far.done ++ others) nothing, append-nil so_far.done) so_far.turn
 
   -- the next one is among all
   pub turn_next : (all left rest : List X) (made : List Y) (x : X) → left ≡ x ∷ rest → TurnSoFar R f g all made left → Contains all x
   turn_next all left rest made x is so_far =
-      let P : List X → Type 0 = λ xs. Contains xs x in
-      subst P (sym (so_far.split ∙ ap (λ others. so_far.done ++ others) is))
+      rw (so_far.split, ap (λ others. so_far.done ++ others) is)
       (Contains-append_right so_far.done (x ∷ rest) x (Contains-cons x rest x (inl refl)))
 
 -- entries of one key whose values are related
@@ -79,21 +74,18 @@ module _ {K V W : Type 0} (R : V → W → Type 0) where
   -- at first none has
   pub related_none : (all left : List (K × V)) (made : List (K × W)) → all ≡ left → made ≡ [] → RelatedSoFar R all made left
   related_none all left made same nothing =
-      let P : List (K × W) → Type 0 = HoldsPairwise (SameKey R) [] in record { done = []; split = same; turn = subst P (sym nothing) tt }
+      record { done = []; split = same; turn = rw nothing tt }
 
   -- one more has, which goes to the end of the map
   pub related_more : {O : K → K → Ordering} → IsTotalOrder O → (all left rest : List (K × V)) (made : List (K × W)) (key : K) (value : V)
       (other : W) → IsStrictlySortedBy O (keys_of all) → left ≡ (key, value) ∷ rest → R value other → RelatedSoFar R all made left
       → RelatedSoFar R all (insert_entry O made key other) rest
   related_more {O = O} total all left rest made key value other ordered is one so_far =
-      let P : List K → Type 0 = IsStrictlySortedBy O in
-      let Q : List K → Type 0 = AllByRecursion (λ other. O key other ≡ Greater) in
       let keys : keys_of all ≡ keys_of so_far.done ++ key ∷ keys_of rest =
       ap keys_of (so_far.split ∙ ap (λ others. so_far.done ++ others) is) ∙ map-append (λ entry. entry.0) so_far.done ((key, value) ∷ rest) in
       let above : AllByRecursion (λ other. O key other ≡ Greater) (keys_of made) =
-      subst Q (same_keys so_far.done made so_far.turn) (above_front total (keys_of so_far.done) key (keys_of rest) (subst P keys ordered)) in
-      let S : List (K × W) → Type 0 = λ entries. RelatedSoFar R all entries rest in
-      subst S (sym (insert_entry-end O made key other above)) (record {
+      rw (same_keys so_far.done made so_far.turn) at (above_front total (keys_of so_far.done) key (keys_of rest) (rw keys at ordered)) in
+      rw (insert_entry-end O made key other above) (record {
         done = so_far.done ++ (key, value) ∷ [];
         split = so_far.split ∙ (ap (λ others. so_far.done ++ others) is ∙ sym (append_assoc so_far.done ((key, value) ∷ []) rest));
         turn = pairwise_append (SameKey R) so_far.done ((key, value) ∷ []) made ((key, other) ∷ []) so_far.turn ((refl, one), tt);
@@ -102,5 +94,4 @@ module _ {K V W : Type 0} (R : V → W → Type 0) where
   -- where none is left, all have
   pub related_all : (all left : List (K × V)) (made : List (K × W)) → left ≡ [] → RelatedSoFar R all made left → HoldsPairwise (SameKey R) all made
   related_all all left made nothing so_far =
-      let P : List (K × V) → Type 0 = λ entries. HoldsPairwise (SameKey R) entries made in
-      subst P (sym (so_far.split ∙ (ap (λ others. so_far.done ++ others) nothing ∙ append-nil so_far.done))) so_far.turn
+      rw (so_far.split, ap (λ others. so_far.done ++ others) nothing, append-nil so_far.done) so_far.turn

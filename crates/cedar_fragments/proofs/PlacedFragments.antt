@@ -1,5 +1,5 @@
 -- The references of fragments fit their positions.
-use Rattle.std.proofs.Common.{◌≡◌, List, ◌++◌, Option, None, Some, map, ap, sym, subst, ⊎_elim, ◌∙◌, arith, Contains}
+use Rattle.std.proofs.Common.{◌≡◌, List, ◌++◌, Option, None, Some, map, ap, sym, subst, ⊎_elim, ◌∙◌, arith, Contains, inl, inr}
 use Rattle.std.proofs.lemmas.List.Elements.{Contains-append_cases}
 use Rattle.std.specs.List.{flat_map}
 use Rattle.cedar_below.proofs.Lists.{Contains-preimage}
@@ -37,28 +37,32 @@ module _ (N : Type 0) (refer : ReferenceType → N → Reference) (fits : (name 
   requests_fit : (it : Option (ActionRequests N)) (reference : Reference)
       → IsPrincipalOrResource (fragment_requests N refer it) reference → reference.kind ≡ Entity
   requests_fit None reference place = absurd place
-  requests_fit (Some it) reference place =
-      ⊎_elim (named_fit it.principals.items reference) (named_fit it.resources.items reference) place
+  requests_fit (Some it) reference place = elim place [
+    | inl here ↦ named_fit it.principals.items reference here
+    | inr there ↦ named_fit it.resources.items reference there
+  ]
 
   module _ (A : Type 0) (refer_action : ReferenceType → A → Reference) where
     -- the references of a definition do
     definition_fits : (definition : ValidatorNamespaceDef N A) (it : Declaration) (reference : Reference)
         → Contains (definition_declarations N refer A refer_action definition) it → IsEntityTypePosition it.body reference → reference.kind ≡ Entity
     definition_fits definition it reference among place =
-        let P : Declaration → Type 0 = λ each. IsEntityTypePosition each.body reference in
         let common = common_type_declarations N refer definition.common_types in
         let entities = entity_type_declarations N refer definition.entity_types in
         let actions = action_fragment_declarations N refer A refer_action definition.actions in
-        ⊎_elim
-        (λ types. ⊎_elim
-        (λ here. let found = Contains-preimage (common_type_declaration N refer) definition.common_types.defs.items it here in
-        absurd (subst P (sym found.2) place))
-        (λ here. let found = Contains-preimage (entity_type_declaration N refer) definition.entity_types.defs.items it here in
-        parents_fit found.0.fragment reference (subst P (sym found.2) place))
-        (Contains-append_cases common entities it types))
-        (λ here. let found = Contains-preimage (action_fragment_declaration N refer A refer_action) definition.actions.defs.items it here in
-        requests_fit found.0.fragment.requests reference (subst P (sym found.2) place))
-        (Contains-append_cases (common ++ entities) actions it among)
+        elim (Contains-append_cases (common ++ entities) actions it among) [
+          | inl types ↦ elim (Contains-append_cases common entities it types) [
+            | inl here ↦
+                let found = Contains-preimage (common_type_declaration N refer) definition.common_types.defs.items it here in
+                absurd (rw (← found.2) at place)
+            | inr here ↦
+                let found = Contains-preimage (entity_type_declaration N refer) definition.entity_types.defs.items it here in
+                parents_fit found.0.fragment reference (rw (← found.2) at place)
+          ]
+          | inr here ↦
+              let found = Contains-preimage (action_fragment_declaration N refer A refer_action) definition.actions.defs.items it here in
+              requests_fit found.0.fragment.requests reference (rw (← found.2) at place)
+        ]
 
     -- the references of some fragments do
     pub fragments_fit : (fragments : List (ValidatorSchemaFragment N A))

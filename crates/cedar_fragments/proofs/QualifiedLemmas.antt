@@ -41,9 +41,10 @@ module _ (names : Names) where
   refused_one P reference holds (error.TypeNotDefined it) alone =
       λ other there.
       let Q : List Reference → Type 0 = λ each. Contains each other in
-      let R : Reference → Type 0 = λ each. P each × IsUnresolved names each in
-      ⊎_elim (λ same. subst R same (holds, alone.0)) (λ none. absurd (omega (arith, none.1)))
-      (Contains-cons_cases reference [] other (subst Q alone.1 there))
+      elim (Contains-cons_cases reference [] other (subst Q alone.1 there)) [
+        | inl same ↦ rw (← same) (holds, alone.0)
+        | inr none ↦ absurd (omega (arith, none.1))
+      ]
   refused_one P reference holds (error.Memory memory) alone = tt
 
   -- the attribute is the one resolved
@@ -91,14 +92,10 @@ module _ (names : Names) where
       → HoldsPairwise (SameKey ResolvesAttribute) (out-RecordType ConditionalName written).attributes.entries it.attributes.entries
       → Resolves names (positional_record written) (resolved_record (roll-RecordType InternalName it))
   resolved_record_type written it additional turn =
-      let P : Expr → Type 0 = λ each. Resolves names each (resolved_record (roll-RecordType InternalName it)) in
       let after = members_from (map (λ each. (string_bytes each.0, flag_and_expr InternalName resolved_reference each.1)) it.attributes.entries) in
-      let before = members_from (map (λ each. (string_bytes each.0, positional_attribute each.1)) (out-RecordType ConditionalName written).attributes.entries) in
-      let Q : Expr → Type 0 = λ each. Resolves names (record_expr before (out-RecordType ConditionalName written).additional_attributes) each in
-      subst P (sym (record_type_expr-entries ConditionalName positional_reference written))
-      (subst Q (sym (record_type_expr-made InternalName resolved_reference it ∙ ap (λ each. record_expr after each) additional))
+      rw (record_type_expr-entries ConditionalName positional_reference written, record_type_expr-made InternalName resolved_reference it, ap (λ each. record_expr after each) additional)
       (resolves_record (out-RecordType ConditionalName written).additional_attributes
-      (resolved_members (out-RecordType ConditionalName written).attributes.entries it.attributes.entries turn)))
+      (resolved_members (out-RecordType ConditionalName written).attributes.entries it.attributes.entries turn))
 
 -- a reference in the type of an attribute stands in the record type
 refers_member : (front : List (String Global × TypeOfAttribute ConditionalName)) (key : String Global) (attribute : TypeOfAttribute ConditionalName)
@@ -106,8 +103,7 @@ refers_member : (front : List (String Global × TypeOfAttribute ConditionalName)
     → Refers (positional_expr (out-TypeOfAttribute ConditionalName attribute).ty) reference
     → MembersRefer (members_from (map (λ entry. (string_bytes entry.0, positional_attribute entry.1)) (front ++ (key, attribute) ∷ back))) reference
 refers_member [] key attribute back reference refers =
-    let P : Bool × Expr → Type 0 = λ each. Refers each.1 reference in
-    inl (subst P (sym (flag_and_expr-parts ConditionalName positional_reference attribute)) refers)
+    inl (rw (flag_and_expr-parts ConditionalName positional_reference attribute) refers)
 refers_member (entry ∷ front) key attribute back reference refers = inr (refers_member front key attribute back reference refers)
 
 -- also where the record type has the attribute among others
@@ -116,19 +112,14 @@ pub refers_record : (written : RecordType ConditionalName) (front left rest : Li
     → left ≡ (key, attribute) ∷ rest → (reference : Reference)
     → Refers (positional_expr (out-TypeOfAttribute ConditionalName attribute).ty) reference → Refers (positional_record written) reference
 refers_record written front left rest key attribute split is reference refers =
-    let P : Expr → Type 0 = λ each. Refers each reference in
-    let Q : List (String Global × TypeOfAttribute ConditionalName) → Type 0 = λ entries.
-    MembersRefer (members_from (map (λ entry. (string_bytes entry.0, positional_attribute entry.1)) entries)) reference in
-    subst P (sym (record_type_expr-entries ConditionalName positional_reference written))
-    (subst Q (sym (split ∙ ap (λ others. front ++ others) is)) (refers_member front key attribute rest reference refers))
+    rw (record_type_expr-entries ConditionalName positional_reference written, split, ap (λ others. front ++ others) is) (refers_member front key attribute rest reference refers)
 
 module _ (names : Names) where
   -- an expression is the one resolved if what it is does
   pub resolves_as : {written before resolved after : Expr} → written ≡ before → resolved ≡ after → Resolves names before after
       → Resolves names written resolved
   resolves_as {before = before} {resolved = resolved} is becomes qualifies =
-      let P : Expr → Type 0 = λ each. Resolves names each resolved in
-      let Q : Expr → Type 0 = λ each. Resolves names before each in subst P (sym is) (subst Q (sym becomes) qualifies)
+      rw (is, becomes) qualifies
 
   -- a name is resolved by the full name that it resolves to
   pub resolves_name : (kind : ReferenceType) (name : ConditionalName) (found : InternalName) → ResolvesTo names (positional_reference kind name) (name_of found)
@@ -137,8 +128,8 @@ module _ (names : Names) where
 
 -- the reference stands in the expression that is it
 pub refers_name : {expr : Expr} {reference : Reference} → expr ≡ named reference → Refers expr reference
-refers_name {reference = reference} is = let P : Expr → Type 0 = λ each. Refers each reference in subst P (sym is) refl
+refers_name {reference = reference} is = rw is
 
 -- what stands in an expression stands in the one that it is
 pub refers_as : {expr other : Expr} → expr ≡ other → (reference : Reference) → Refers other reference → Refers expr reference
-refers_as is reference refers = let P : Expr → Type 0 = λ each. Refers each reference in subst P (sym is) refers
+refers_as is reference refers = rw is refers

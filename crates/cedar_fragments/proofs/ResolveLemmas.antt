@@ -19,23 +19,20 @@ module _ {A B : Type 0} (P : B → Type 0) (f : A → B) where
       ap (map f) (sym (take-append-drop i items) ∙ ap (λ rest. take i items ++ rest) (drop-cons items i item lt))
       ∙ (map-append f (take i items) (get_or items i item ∷ drop (suc i) items)
       ∙ ap (λ each. map f (take i items) ++ f each ∷ map f (drop (suc i) items)) (sym is)) in
-      let Q : List B → Type 0 = λ others. IsFirst P others (f item) in
-      inr (not_first, subst Q (sym split) (first_after (map f (take i items)) (f item) (map f (drop (suc i) items)) none holds))
+      inr (not_first, rw split (first_after (map f (take i items)) (f item) (map f (drop (suc i) items)) none holds))
 
   -- one more of which it doesn't hold
   pub none_more : (items : List A) (i : ℕ) (item : A) → i < length items → item ≡ get_or items i item → ¬ P (f item)
       → AllByRecursion (λ other. ¬ P other) (map f (take i items)) → AllByRecursion (λ other. ¬ P other) (map f (take (i + 1) items))
   none_more items i item lt is not_it none =
-      let Q : List B → Type 0 = AllByRecursion (λ other. ¬ P other) in
-      subst Q (ap (λ each. map f (take i items) ++ f each ∷ []) is ∙ sym (map_more f items i item lt))
+      rw (ap (λ each. map f (take i items) ++ f each ∷ []) is, ← map_more f items i item lt) at
       (AllByRecursion-append (λ other. ¬ P other) (map f (take i items)) (f item ∷ []) none (not_it, tt))
 
   -- where it holds of none, it doesn't hold of any
   pub none_of : (first : A) (items : List A) (i : ℕ) → length items ≤ i → ¬ P (f first)
       → AllByRecursion (λ other. ¬ P other) (map f (take i items)) → (x : B) → Contains (f first ∷ map f items) x → ¬ P x
   none_of first items i le not_first none x among =
-      let Q : List A → Type 0 = λ each. AllByRecursion (λ other. ¬ P other) (map f each) in
-      AllByRecursion-at (λ other. ¬ P other) (f first ∷ map f items) x (not_first, subst Q (take_all i items le) none) among
+      AllByRecursion-at (λ other. ¬ P other) (f first ∷ map f items) x (not_first, rw (take_all i items le) at none) among
 
   -- where it holds of the item at a place after those of which it doesn't, it holds first of the one taken from there
   pub first_taken : (first : A) (items tail : List A) (i : ℕ) (seen taken : A) → tail ≡ items → i < length items
@@ -44,5 +41,4 @@ module _ {A B : Type 0} (P : B → Type 0) (f : A → B) where
   first_taken first items tail i seen taken same lt sees takes not_first none holds =
       let takes' : taken ≡ get_or items i taken = takes ∙ ap (λ each. get_or each i taken) same in
       let is : seen ≡ taken = sees ∙ (ap (λ each. get_or each i seen) same ∙ (get_or_default items i seen taken lt ∙ sym takes')) in
-      let Q : A → Type 0 = λ each. P (f each) in
-      first_at first items i taken lt takes' not_first none (subst Q is holds)
+      first_at first items i taken lt takes' not_first none (rw is at holds)

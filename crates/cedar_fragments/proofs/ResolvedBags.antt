@@ -42,9 +42,10 @@ module _ (names : Names) where
   pub unresolvable_included : (part bag : Bag) → Included part bag → (fault : Fault) → IsUnresolvableBag names part fault → IsUnresolvableBag names bag fault
   unresolvable_included part bag included fault =
       unresolvable_wider names (HasToResolve part) (HasToResolve bag) (IsAnyParent part) (IsAnyParent bag) (IsRequested part) (IsRequested bag)
-      (λ reference. ⊎_elim
-      (λ stands. inl (stands.0, (stands.1.0, included stands.1.0 stands.1.1, stands.1.2), stands.2))
-      (λ place. inr (place.0, included place.0 place.1, place.2)))
+      (λ reference. elim [
+        | inl stands ↦ inl (stands.0, (stands.1.0, included stands.1.0 stands.1.1, stands.1.2), stands.2)
+        | inr place ↦ inr (place.0, included place.0 place.1, place.2)
+      ])
       (λ parent found. (found.0, included found.0 found.1, found.2)) (λ reference found. (found.0, included found.0 found.1, found.2)) fault
 
   -- references of a part of a bag that are refused can't be resolved in the bag
@@ -60,10 +61,10 @@ module _ (names : Names) where
   resolved_append xs xs' ys ys' front back = (
     pairwise_append (ResolvesDeclaration names) xs xs' ys ys' front.0 back.0,
     λ reference name requested resolves.
-        ⊎_elim
-        (λ here. front.1 reference name (requested.0, here, requested.2) resolves)
-        (λ there. back.1 reference name (requested.0, there, requested.2) resolves)
-        (Contains-append_cases xs xs' requested.0 requested.1),
+        elim (Contains-append_cases xs xs' requested.0 requested.1) [
+          | inl here ↦ front.1 reference name (requested.0, here, requested.2) resolves
+          | inr there ↦ back.1 reference name (requested.0, there, requested.2) resolves
+        ],
   )
 
   -- several bags that are resolved in turn are resolved together
@@ -79,8 +80,7 @@ module _ (names : Names) where
       → NoneIsReserved names (IsRequested (map f xs))
   none_requested f xs none reference name requested resolves =
       let found = Contains-preimage f xs requested.0 requested.1 in
-      let P : Declaration → Type 0 = λ it. IsRequestedIn it.body reference in
-      absurd (none found.0 reference (subst P (sym found.2) requested.2))
+      absurd (none found.0 reference (rw found.2 requested.2))
 
 -- what can't be resolved in a declaration can't be in a bag that has it
 pub unresolvable_declaration : (names : Names) (bag : Bag) (it : Declaration) → Contains bag it → (fault : Fault)

@@ -15,13 +15,12 @@ use Rattle.cedar_fragments.specs.HeldNames.{HasAlso, StandsWhere}
 
 -- an answer that says so is a tie
 pub is_eq-Equal : (answer : Ordering) → is_eq answer ≡ true → answer ≡ Equal
-is_eq-Equal Less e = cc
 is_eq-Equal Equal e = refl
-is_eq-Equal Greater e = cc
+is_eq-Equal _ e = cc
 
 -- what stands in a list of one item is that item
 pub only : {P : Type 0} (one item : P) → Contains (one ∷ []) item → one ≡ item
-only one item among = ⊎_elim (λ same. same) (λ nothing. absurd (omega (arith, nothing.1))) (Contains-cons_cases one [] item among)
+only one item among = elim (Contains-cons_cases one [] item among) [ inl same ↦ same | inr nothing ↦ absurd (omega (arith, nothing.1)) ]
 
 -- keys that tie exactly where they stand for the same
 module _ {K P : Type 0} (R : K → K → Ordering) (f : K → P) (tie : (a b : K) → (R a b ≡ Equal) ↔ (f a ≡ f b)) where
@@ -45,7 +44,7 @@ module _ {K P : Type 0} (R : K → K → Ordering) (f : K → P) (tie : (a b : K
   pub inserted : (keys : List K) (key : K) → HasAlso (map f (insert_key R keys key)) (map f keys) (f key ∷ [])
   inserted [] key item = (
     λ among. inr among,
-    ⊎_elim (λ nothing. absurd (omega (arith, nothing.1))) (λ among. among),
+    elim [ inl nothing ↦ absurd (omega (arith, nothing.1)) | inr among ↦ among ],
   )
   inserted (first ∷ rest) key item = placed (R key first) refl (inserted rest key item)
     where
@@ -54,41 +53,58 @@ module _ {K P : Type 0} (R : K → K → Ordering) (f : K → P) (tie : (a b : K
           → (Contains (map f (match_ordering answer (key ∷ first ∷ rest) (first ∷ rest) (first ∷ insert_key R rest key))) item
           ↔ (Contains (f first ∷ map f rest) item ⊎ Contains (f key ∷ []) item))
       placed Less is later = (
-        λ among. ⊎_elim (λ same. inr (Contains-cons (f key) [] item (inl same))) (λ others. inl others)
-            (Contains-cons_cases (f key) (f first ∷ map f rest) item among),
-        ⊎_elim (λ others. Contains-cons (f key) (f first ∷ map f rest) item (inr others))
-            (λ one. Contains-cons (f key) (f first ∷ map f rest) item (inl (only (f key) item one))),
+        λ among. elim (Contains-cons_cases (f key) (f first ∷ map f rest) item among) [
+          | inl same ↦ inr (Contains-cons (f key) [] item (inl same))
+          | inr others ↦ inl others
+        ],
+        elim [
+          | inl others ↦ Contains-cons (f key) (f first ∷ map f rest) item (inr others)
+          | inr one ↦ Contains-cons (f key) (f first ∷ map f rest) item (inl (only (f key) item one))
+        ],
       )
       placed Equal is later = (
         λ among. inl among,
-        ⊎_elim (λ others. others)
-            (λ one. Contains-cons (f first) (map f rest) item (inl (sym ((tie key first).0 is) ∙ only (f key) item one))),
+        elim [
+          | inl others ↦ others
+          | inr one ↦ Contains-cons (f first) (map f rest) item (inl (sym ((tie key first).0 is) ∙ only (f key) item one))
+        ],
       )
       placed Greater is later = (
-        λ among. ⊎_elim (λ same. inl (Contains-cons (f first) (map f rest) item (inl same)))
-            (λ there. ⊎_elim (λ others. inl (Contains-cons (f first) (map f rest) item (inr others))) (λ one. inr one) (later.0 there))
-            (Contains-cons_cases (f first) (map f (insert_key R rest key)) item among),
-        ⊎_elim
-            (λ others. ⊎_elim (λ same. Contains-cons (f first) (map f (insert_key R rest key)) item (inl same))
-            (λ there. Contains-cons (f first) (map f (insert_key R rest key)) item (inr (later.1 (inl there))))
-            (Contains-cons_cases (f first) (map f rest) item others))
-            (λ one. Contains-cons (f first) (map f (insert_key R rest key)) item (inr (later.1 (inr one)))),
+        λ among. elim (Contains-cons_cases (f first) (map f (insert_key R rest key)) item among) [
+          | inl same ↦ inl (Contains-cons (f first) (map f rest) item (inl same))
+          | inr there ↦ elim (later.0 there) [
+            | inl others ↦ inl (Contains-cons (f first) (map f rest) item (inr others))
+            | inr one ↦ inr one
+          ]
+        ],
+        elim [
+          | inl others ↦ elim (Contains-cons_cases (f first) (map f rest) item others) [
+            | inl same ↦ Contains-cons (f first) (map f (insert_key R rest key)) item (inl same)
+            | inr there ↦ Contains-cons (f first) (map f (insert_key R rest key)) item (inr (later.1 (inl there)))
+          ]
+          | inr one ↦ Contains-cons (f first) (map f (insert_key R rest key)) item (inr (later.1 (inr one)))
+        ],
       )
 
 -- nothing more
 pub HasAlso-none : {P : Type 0} (items : List P) → HasAlso items items []
-HasAlso-none items item = (λ among. inl among, ⊎_elim (λ among. among) (λ nothing. absurd (omega (arith, nothing.1))))
+HasAlso-none items item = (λ among. inl among, elim [ inl among ↦ among | inr nothing ↦ absurd (omega (arith, nothing.1)) ])
 
 -- some more, and then others
 pub HasAlso-more : {P : Type 0} (before middle after more others : List P) → HasAlso middle before more → HasAlso after middle others
     → HasAlso after before (more ++ others)
 HasAlso-more before middle after more others first second item = (
-  λ among. ⊎_elim
-      (λ there. ⊎_elim (λ here. inl here) (λ here. inr (Contains-append_left more others item here)) ((first item).0 there))
-      (λ here. inr (Contains-append_right more others item here)) ((second item).0 among),
-  ⊎_elim (λ here. (second item).1 (inl ((first item).1 (inl here))))
-      (λ here. ⊎_elim (λ there. (second item).1 (inl ((first item).1 (inr there)))) (λ there. (second item).1 (inr there))
-      (Contains-append_cases more others item here)),
+  λ among. elim ((second item).0 among) [
+    | inl there ↦ elim ((first item).0 there) [ inl here ↦ inl here | inr here ↦ inr (Contains-append_left more others item here) ]
+    | inr here ↦ inr (Contains-append_right more others item here)
+  ],
+  elim [
+    | inl here ↦ (second item).1 (inl ((first item).1 (inl here)))
+    | inr here ↦ elim (Contains-append_cases more others item here) [
+      | inl there ↦ (second item).1 (inl ((first item).1 (inr there)))
+      | inr there ↦ (second item).1 (inr there)
+    ]
+  ],
 )
 
 module _ {D P : Type 0} (f : D → P) (before : List P) (items : List D) where
@@ -97,15 +113,13 @@ module _ {D P : Type 0} (f : D → P) (before : List P) (items : List D) where
       → name ≡ f item → HasAlso middle before (map f (take i items)) → HasAlso after middle (name ∷ [])
       → HasAlso after before (map f (take (i + 1) items))
   HasAlso-next middle after i item name lt is named so_far added =
-      let Q : List P → Type 0 = HasAlso after before in
-      subst Q ((λ j. map f (take i items) ++ (named ∙ ap f is) j ∷ []) ∙ sym (map_more f items i item lt))
+      rw ((λ j. map f (take i items) ++ (named ∙ ap f is) j ∷ []) ∙ sym (map_more f items i item lt)) at
       (HasAlso-more before middle after (map f (take i items)) (name ∷ []) so_far added)
 
   -- all of them
   pub HasAlso-all : (after : List P) (i : ℕ) → length items ≤ i → HasAlso after before (map f (take i items)) → HasAlso after before (map f items)
   HasAlso-all after i le so_far =
-      let Q : List P → Type 0 = HasAlso after before in
-      subst Q (ap (map f) (take_all i items le)) so_far
+      rw (ap (map f) (take_all i items le)) at so_far
 
 module _ {D P : Type 0} (f : D → List P) (before : List P) (items : List D) where
   -- the next ones more
@@ -113,26 +127,26 @@ module _ {D P : Type 0} (f : D → List P) (before : List P) (items : List D) wh
       → HasAlso middle before (flat_map f (take i items)) → HasAlso after middle (f item)
       → HasAlso after before (flat_map f (take (i + 1) items))
   HasAlso-next_ones middle after i item lt is so_far added =
-      let Q : List P → Type 0 = HasAlso after before in
       let more : flat_map f (take i items) ++ f item ≡ flat_map f (take (i + 1) items) =
       flat_map_more f [] (take i items) item
       ∙ ap (flat_map f) (ap (λ one. take i items ++ one ∷ []) is ∙ sym (take_more items i item lt)) in
-      subst Q more (HasAlso-more before middle after (flat_map f (take i items)) (f item) so_far added)
+      rw more at (HasAlso-more before middle after (flat_map f (take i items)) (f item) so_far added)
 
   -- all of them
   pub HasAlso-all_ones : (after : List P) (i : ℕ) → length items ≤ i → HasAlso after before (flat_map f (take i items))
       → HasAlso after before (flat_map f items)
   HasAlso-all_ones after i le so_far =
-      let Q : List P → Type 0 = HasAlso after before in
-      subst Q (ap (flat_map f) (take_all i items le)) so_far
+      rw (ap (flat_map f) (take_all i items le)) at so_far
 
 -- more than nothing
 pub SameItems-from_none : {P : Type 0} (after before more : List P) → before ≡ [] → HasAlso after before more → SameItems after more
-SameItems-from_none {P = P} after before more nothing also item =
-    let Q : List P → Type 0 = λ items. Contains items item in (
-      λ among. ⊎_elim (λ here. absurd (omega (arith, (subst Q nothing here).1))) (λ there. there) ((also item).0 among),
-      λ there. (also item).1 (inr there),
-    )
+SameItems-from_none {P = P} after before more nothing also item = (
+  λ among. elim ((also item).0 among) [
+    | inl here ↦ absurd (omega (arith, (rw nothing at here).1))
+    | inr there ↦ there
+  ],
+  λ there. (also item).1 (inr there),
+)
 
 -- what some items give was added, and others are left
 pub record AddedSoFar {D P : Type 0} (f : D → P) (before : List P) (all : List D) (after : List P) (left : List D) : Type 0 where
@@ -149,16 +163,14 @@ module _ {D P : Type 0} (f : D → P) (before : List P) where
   pub added_more : (all left rest : List D) (middle after : List P) (item : D) (name : P) → left ≡ item ∷ rest → name ≡ f item
       → HasAlso after middle (name ∷ []) → AddedSoFar f before all middle left → AddedSoFar f before all after rest
   added_more all left rest middle after item name is named also so_far =
-      let Q : List P → Type 0 = HasAlso after before in
       record {
         done = so_far.done ++ item ∷ [];
         split = so_far.split ∙ (ap (λ others. so_far.done ++ others) is ∙ sym (append_assoc so_far.done (item ∷ []) rest));
-        added = subst Q ((λ i. map f so_far.done ++ named i ∷ []) ∙ sym (map-append f so_far.done (item ∷ [])))
+        added = rw ((λ i. map f so_far.done ++ named i ∷ []) ∙ sym (map-append f so_far.done (item ∷ []))) at
             (HasAlso-more before middle after (map f so_far.done) (name ∷ []) so_far.added also);
       }
 
   -- where none is left, all were
   pub added_all : (all left : List D) (after : List P) → left ≡ [] → AddedSoFar f before all after left → HasAlso after before (map f all)
   added_all all left after nothing so_far =
-      let Q : List D → Type 0 = λ items. HasAlso after before (map f items) in
-      subst Q (sym (so_far.split ∙ (ap (λ others. so_far.done ++ others) nothing ∙ append-nil so_far.done))) so_far.added
+      rw (so_far.split, ap (λ others. so_far.done ++ others) nothing, append-nil so_far.done) so_far.added

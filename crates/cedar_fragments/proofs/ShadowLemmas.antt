@@ -36,28 +36,32 @@ ids_of entries = map (λ entry. string_bytes entry.0) entries
 -- the entries with one more have its id too
 ids_inserted : (entries : Entries) (id : String Global) (uid : EntityUID) (text : Text)
     → (Contains (ids_of entries) text ⊎ (string_bytes id ≡ text)) → Contains (ids_of (insert_entry string_cmp entries id uid)) text
-ids_inserted [] id uid text has =
-    ⊎_elim (λ nothing. absurd (omega (arith, nothing.1))) (λ same. Contains-cons (string_bytes id) [] text (inl same)) has
+ids_inserted [] id uid text has = elim has [
+  | inl nothing ↦ absurd (omega (arith, nothing.1))
+  | inr same ↦ Contains-cons (string_bytes id) [] text (inl same)
+]
 ids_inserted (first ∷ rest) id uid text has = placed (string_cmp id first.0) refl (ids_inserted rest id uid text)
   where
     placed : (answer : Ordering) → string_cmp id first.0 ≡ answer
         → ((Contains (ids_of rest) text ⊎ (string_bytes id ≡ text)) → Contains (ids_of (insert_entry string_cmp rest id uid)) text)
         → Contains (ids_of (match_ordering answer ((id, uid) ∷ first ∷ rest) ((first.0, uid) ∷ rest)
         (first ∷ insert_entry string_cmp rest id uid))) text
-    placed Less is later =
-        ⊎_elim (λ here. Contains-cons (string_bytes id) (ids_of (first ∷ rest)) text (inr here))
-        (λ same. Contains-cons (string_bytes id) (ids_of (first ∷ rest)) text (inl same)) has
-    placed Equal is later =
-        ⊎_elim (λ here. here)
-        (λ same. Contains-cons (string_bytes first.0) (ids_of rest) text
-        (inl (sym ((text_cmp-Equal (string_bytes id) (string_bytes first.0)).0 is) ∙ same))) has
-    placed Greater is later =
-        ⊎_elim
-        (λ here. ⊎_elim
-        (λ same. Contains-cons (string_bytes first.0) (ids_of (insert_entry string_cmp rest id uid)) text (inl same))
-        (λ there. Contains-cons (string_bytes first.0) (ids_of (insert_entry string_cmp rest id uid)) text (inr (later (inl there))))
-        (Contains-cons_cases (string_bytes first.0) (ids_of rest) text here))
-        (λ same. Contains-cons (string_bytes first.0) (ids_of (insert_entry string_cmp rest id uid)) text (inr (later (inr same)))) has
+    placed Less is later = elim has [
+      | inl here ↦ Contains-cons (string_bytes id) (ids_of (first ∷ rest)) text (inr here)
+      | inr same ↦ Contains-cons (string_bytes id) (ids_of (first ∷ rest)) text (inl same)
+    ]
+    placed Equal is later = elim has [
+      | inl here ↦ here
+      | inr same ↦ Contains-cons (string_bytes first.0) (ids_of rest) text
+          (inl (sym ((text_cmp-Equal (string_bytes id) (string_bytes first.0)).0 is) ∙ same))
+    ]
+    placed Greater is later = elim has [
+      | inl here ↦ elim (Contains-cons_cases (string_bytes first.0) (ids_of rest) text here) [
+        | inl same ↦ Contains-cons (string_bytes first.0) (ids_of (insert_entry string_cmp rest id uid)) text (inl same)
+        | inr there ↦ Contains-cons (string_bytes first.0) (ids_of (insert_entry string_cmp rest id uid)) text (inr (later (inl there)))
+      ]
+      | inr same ↦ Contains-cons (string_bytes first.0) (ids_of (insert_entry string_cmp rest id uid)) text (inr (later (inr same)))
+    ]
 
 -- each entry is that of a plain action
 abbrev pub ArePlain : List PlainUid → Entries → Type 0
@@ -74,8 +78,7 @@ plain_inserted actions (first ∷ rest) id uid all one = placed (string_cmp id f
         (first ∷ insert_entry string_cmp rest id uid))
     placed Less is later = (one, all)
     placed Equal is later =
-        let P : Text → Type 0 = λ text. IsPlainAction actions text (uid_of uid) in
-        (subst P ((text_cmp-Equal (string_bytes id) (string_bytes first.0)).0 is) one, all.1)
+        (rw ((text_cmp-Equal (string_bytes id) (string_bytes first.0)).0 is) at one, all.1)
     placed Greater is later = (all.0, later)
 
 -- of some actions those with unqualified types are listed by id, and others are left
@@ -88,11 +91,10 @@ pub record PlainSoFar (all : List EntityUID) (entries : Entries) (left : List En
 -- at first none is
 pub PlainSoFar-none : (all left : List EntityUID) (entries : Entries) → all ≡ left → entries ≡ [] → PlainSoFar all entries left
 PlainSoFar-none all left entries same nothing =
-    let P : Entries → Type 0 = ArePlain (map uid_of all) in
     record {
       done = [];
       split = same;
-      each = subst P (sym nothing) tt;
+      each = rw nothing tt;
       listed = λ uid among. absurd (omega (arith, among.1));
     }
 
@@ -100,15 +102,15 @@ PlainSoFar-none all left entries same nothing =
 done_cases : (done : List EntityUID) (x : EntityUID) (uid : PlainUid) → Contains (map uid_of (done ++ x ∷ [])) uid
     → Contains (map uid_of done) uid ⊎ (uid_of x ≡ uid)
 done_cases done x uid among =
-    let P : List PlainUid → Type 0 = λ uids. Contains uids uid in
-    ⊎_elim (λ here. inl here) (λ one. inr (only (uid_of x) uid one))
-    (Contains-append_cases (map uid_of done) (uid_of x ∷ []) uid (subst P (map-append uid_of done (x ∷ [])) among))
+    elim (Contains-append_cases (map uid_of done) (uid_of x ∷ []) uid (rw (map-append uid_of done (x ∷ [])) at among)) [
+      | inl here ↦ inl here
+      | inr one ↦ inr (only (uid_of x) uid one)
+    ]
 
 -- one more that is left is among all
 pub left_among : (all done left rest : List EntityUID) (x : EntityUID) → all ≡ done ++ left → left ≡ x ∷ rest → Contains (map uid_of all) (uid_of x)
 left_among all done left rest x split is =
-    let P : List EntityUID → Type 0 = λ uids. Contains (map uid_of uids) (uid_of x) in
-    subst P (sym (split ∙ ap (λ others. done ++ others) is))
+    rw (split, ap (λ others. done ++ others) is)
     (Contains-image uid_of (done ++ x ∷ rest) x (Contains-append_right done (x ∷ rest) x (0, omega arith, refl)))
 
 -- one more that is plain is listed
@@ -124,30 +126,31 @@ PlainSoFar-listed all left rest entries more x copy id is plain same named pushe
       each = plain_inserted (map uid_of all) entries id copy so_far.each
           (subst Q (sym same) (left_among all so_far.done left rest x so_far.split is, plain, sym named));
       listed = λ uid among unqualified. ids_inserted entries id copy uid.eid
-          (⊎_elim (λ here. inl (so_far.listed uid here unqualified))
-          (λ this. inr (named ∙ ap (λ (each : PlainUid). each.eid) this)) (done_cases so_far.done x uid among));
+          (elim (done_cases so_far.done x uid among) [
+            | inl here ↦ inl (so_far.listed uid here unqualified)
+            | inr this ↦ inr (named ∙ ap (λ (each : PlainUid). each.eid) this)
+          ]);
     })
 
 -- one more that isn't plain is passed
 pub PlainSoFar-passed : (all left rest : List EntityUID) (entries : Entries) (x : EntityUID) → left ≡ x ∷ rest
     → ¬ IsUnqualified (uid_of x).ty → PlainSoFar all entries left → PlainSoFar all entries rest
 PlainSoFar-passed all left rest entries x is qualified so_far =
-    let Q : PlainUid → Type 0 = λ each. IsUnqualified each.ty in
     record {
       done = so_far.done ++ x ∷ [];
       split = so_far.split ∙ (ap (λ others. so_far.done ++ others) is ∙ sym (append_assoc so_far.done (x ∷ []) rest));
       each = so_far.each;
-      listed = λ uid among unqualified. ⊎_elim (λ here. so_far.listed uid here unqualified)
-          (λ this. absurd (qualified (subst Q (sym this) unqualified))) (done_cases so_far.done x uid among);
+      listed = λ uid among unqualified. elim (done_cases so_far.done x uid among) [
+        | inl here ↦ so_far.listed uid here unqualified
+        | inr this ↦ absurd (qualified (rw (← this) at unqualified))
+      ];
     }
 
 -- where none is left, all are listed
 pub plain_listed : (all left : List EntityUID) (entries : Entries) → left ≡ [] → PlainSoFar all entries left
     → (uid : PlainUid) → Contains (map uid_of all) uid → IsUnqualified uid.ty → Contains (ids_of entries) uid.eid
 plain_listed all left entries nothing so_far =
-    let P : List EntityUID → Type 0 = λ each. (uid : PlainUid) → Contains (map uid_of each) uid → IsUnqualified uid.ty
-    → Contains (ids_of entries) uid.eid in
-    subst P (sym (so_far.split ∙ (ap (λ others. so_far.done ++ others) nothing ∙ append-nil so_far.done))) so_far.listed
+    rw (so_far.split, ap (λ others. so_far.done ++ others) nothing, append-nil so_far.done) so_far.listed
 
 -- what a look-up by id finds is plain and has the id
 pub looked_up : (actions : List PlainUid) (entries : Entries) (text : Text) (uid : EntityUID) → ArePlain actions entries
@@ -164,9 +167,7 @@ looked_up actions (entry ∷ rest) text uid all found =
         let same : string_bytes entry.0 ≡ text =
         sym ((text_cmp-Equal text (string_bytes entry.0)).0 (is_eq-Equal (text_cmp text (string_bytes entry.0)) is)) in
         let this : entry.1 ≡ uid = same_Some entry.1 uid here in
-        let P : Text → Type 0 = λ each. IsPlainAction actions each (uid_of uid) in
-        let Q : EntityUID → Type 0 = λ each. IsPlainAction actions (string_bytes entry.0) (uid_of each) in
-        subst P same (subst Q this all.0)
+        rw (this, same) at all.0
     decided false is there later = later there
 
 -- an id that a look-up doesn't find is none of theirs
@@ -180,9 +181,10 @@ not_looked_up (entry ∷ rest) text found among =
         → cond answer (Some entry.1) (lookup (λ key. is_eq (text_cmp text (string_bytes key))) rest) ≡ None
         → (lookup (λ key. is_eq (text_cmp text (string_bytes key))) rest ≡ None → ¬ Contains (ids_of rest) text) → ⊥
     decided true is here later = let wrong : Some entry.1 ≡ None = here in cc
-    decided false is there later =
-        ⊎_elim (λ same. false≢true (sym is ∙ ap is_eq ((text_cmp-Equal text (string_bytes entry.0)).1 (sym same))))
-        (later there) (Contains-cons_cases (string_bytes entry.0) (ids_of rest) text among)
+    decided false is there later = elim (Contains-cons_cases (string_bytes entry.0) (ids_of rest) text among) [
+      | inl same ↦ false≢true (sym is ∙ ap is_eq ((text_cmp-Equal text (string_bytes entry.0)).1 (sym same)))
+      | inr right ↦ later there right
+    ]
 
 -- of some items a fact holds, and others are left
 pub record PassedSoFar {A B : Type 0} (P : B → Type 0) (f : A → B) (all left : List A) : Type 0 where
@@ -198,26 +200,25 @@ module _ {A B : Type 0} (P : B → Type 0) (f : A → B) where
   -- it holds of one more
   pub PassedSoFar-more : (all left rest : List A) (x : A) → left ≡ x ∷ rest → P (f x) → PassedSoFar P f all left → PassedSoFar P f all rest
   PassedSoFar-more all left rest x is holds so_far =
-      let Q : List B → B → Type 0 = λ items item. Contains items item in
       record {
         done = so_far.done ++ x ∷ [];
         split = so_far.split ∙ (ap (λ others. so_far.done ++ others) is ∙ sym (append_assoc so_far.done (x ∷ []) rest));
-        each = λ y among. ⊎_elim (λ here. so_far.each y here) (λ one. subst P (only (f x) y one) holds)
-            (Contains-append_cases (map f so_far.done) (f x ∷ []) y
-            (subst (λ items. Q items y) (map-append f so_far.done (x ∷ [])) among));
+        each = λ y among. elim (Contains-append_cases (map f so_far.done) (f x ∷ []) y
+            (rw (map-append f so_far.done (x ∷ [])) at among)) [
+              | inl here ↦ so_far.each y here
+              | inr one ↦ rw (only (f x) y one) at holds
+            ];
       }
 
   -- where none is left, it holds of all
   pub passed_all : (all left : List A) → left ≡ [] → PassedSoFar P f all left → (x : B) → Contains (map f all) x → P x
   passed_all all left nothing so_far =
-      let Q : List A → Type 0 = λ items. (x : B) → Contains (map f items) x → P x in
-      subst Q (sym (so_far.split ∙ (ap (λ others. so_far.done ++ others) nothing ∙ append-nil so_far.done))) so_far.each
+      rw (so_far.split, ap (λ others. so_far.done ++ others) nothing, append-nil so_far.done) so_far.each
 
   -- the next one is among all
   pub passed_next : (all left rest : List A) (x : A) → left ≡ x ∷ rest → PassedSoFar P f all left → Contains (map f all) (f x)
   passed_next all left rest x is so_far =
-      let Q : List A → Type 0 = λ items. Contains (map f items) (f x) in
-      subst Q (sym (so_far.split ∙ ap (λ others. so_far.done ++ others) is))
+      rw (so_far.split, ap (λ others. so_far.done ++ others) is)
       (Contains-image f (so_far.done ++ x ∷ rest) x (Contains-append_right so_far.done (x ∷ rest) x (0, omega arith, refl)))
 
 -- an action of an unqualified type is shadowed by none
@@ -230,8 +231,7 @@ pub not_shadowed : (actions : List PlainUid) (entries : Entries) (uid : PlainUid
     → ((plain : PlainUid) → Contains actions plain → IsUnqualified plain.ty → Contains (ids_of entries) plain.eid)
     → ¬ Contains (ids_of entries) uid.eid → (plain : PlainUid) → Contains actions plain → ¬ ShadowsAction plain uid
 not_shadowed actions entries uid all absent plain among shadows =
-    let P : Text → Type 0 = Contains (ids_of entries) in
-    absent (subst P shadows.2 (all plain among shadows.0))
+    absent (rw shadows.2 at (all plain among shadows.0))
 
 -- the unqualified name that would shadow a name is the one of its base name
 pub shadow_is : (plain made name : PlainName) → made.base ≡ name.base → made.path ≡ [] → ShadowsType plain name → plain ≡ made

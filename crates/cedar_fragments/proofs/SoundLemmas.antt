@@ -26,8 +26,10 @@ use Rattle.cedar_names.specs.declared.json_schema.raw_name.RawName.{RawName}
 -- what holds of each item holds of one
 pub AllByRecursion-at : {A : Type 0} (P : A → Type 0) (xs : List A) (x : A) → AllByRecursion P xs → Contains xs x → P x
 AllByRecursion-at P [] x all among = absurd (omega (arith, among.1))
-AllByRecursion-at P (first ∷ rest) x all among =
-    ⊎_elim (λ same. subst P same all.0) (λ later. AllByRecursion-at P rest x all.1 later) (Contains-cons_cases first rest x among)
+AllByRecursion-at P (first ∷ rest) x all among = elim (Contains-cons_cases first rest x among) [
+  | inl same ↦ rw same at all.0
+  | inr later ↦ AllByRecursion-at P rest x all.1 later
+]
 
 -- what holds of each item of two lists holds of each of both together
 pub AllByRecursion-append : {A : Type 0} (P : A → Type 0) (xs ys : List A) → AllByRecursion P xs → AllByRecursion P ys → AllByRecursion P (xs ++ ys)
@@ -39,19 +41,15 @@ sound_entity : (bag : Bag) → AllByRecursion IsSound bag → (name : PlainName)
     → Contains (declared_entities bag) (name, body) → (¬ IsActionType name) × ¬ Contains name.path reserved_word
 sound_entity bag sound name body among =
     let declared = entity_declaration bag name body among in
-    let P : Body → Type 0 = GivesNoCause declared.0 in
-    let Q : PlainName → Type 0 = λ each. (¬ IsActionType each) × ¬ Contains each.path reserved_word in
-    subst Q declared.3 (subst P declared.2 (AllByRecursion-at IsSound bag declared.0 sound declared.1))
+    rw (← declared.3) (rw declared.2 at (AllByRecursion-at IsSound bag declared.0 sound declared.1))
 
 -- a declared action that is sound
 sound_action : (bag : Bag) → AllByRecursion IsSound bag → (uid : PlainUid) (body : ActionBody)
     → Contains (declared_actions bag) (uid, body) → ¬ Contains uid.ty.path reserved_word
 sound_action bag sound uid body among =
     let declared = action_declaration bag uid body among in
-    let P : Body → Type 0 = GivesNoCause declared.0 in
-    let Q : PlainUid → Type 0 = λ each. ¬ Contains each.ty.path reserved_word in
-    let no_cause : GivesNoCause declared.0 (action body) = subst P declared.2 (AllByRecursion-at IsSound bag declared.0 sound declared.1) in
-    subst Q declared.3 no_cause.1
+    let no_cause : GivesNoCause declared.0 (action body) = rw declared.2 at (AllByRecursion-at IsSound bag declared.0 sound declared.1) in
+    rw (← declared.3) no_cause.1
 
 -- an action with attributes isn't sound
 sound_attributes : (bag : Bag) → AllByRecursion IsSound bag → (namespace : Option PlainName) (id : Text) → ¬ HasAttributes bag namespace id
@@ -69,18 +67,16 @@ sound_bag bag sound extensions (action_attributes ids) of at_fault = listed ids 
     listed (id ∷ rest) some has = sound_attributes bag sound at_fault.2 id (has id (0, omega arith, refl))
 sound_bag bag sound extensions (action_entity_type name) of at_fault =
     (sound_entity bag sound name at_fault.0 at_fault.1).0 at_fault.2
-sound_bag bag sound extensions (reserved_name name) of at_fault =
-    ⊎_elim
-    (λ among. let entity = Contains-preimage _ (declared_entities bag) name among in
-    let P : PlainName → Type 0 = λ each. Contains each.path reserved_word in
-    (sound_entity bag sound entity.0.0 entity.0.1 entity.1).1 (subst P (sym entity.2) at_fault.1))
-    (λ among. let uid = Contains-preimage _ (action_uids bag) name among in
-    let declared = Contains-preimage _ (declared_actions bag) uid.0 uid.1 in
-    let P : PlainName → Type 0 = λ each. Contains each.path reserved_word in
-    let Q : PlainUid → Type 0 = λ each. Contains each.ty.path reserved_word in
-    sound_action bag sound declared.0.0 declared.0.1 declared.1
-    (subst Q (sym declared.2) (subst P (sym uid.2) at_fault.1)))
-    at_fault.0
+sound_bag bag sound extensions (reserved_name name) of at_fault = elim at_fault.0 [
+  | inl among ↦
+      let entity = Contains-preimage _ (declared_entities bag) name among in
+      (sound_entity bag sound entity.0.0 entity.0.1 entity.1).1 (rw entity.2 at_fault.1)
+  | inr among ↦
+      let uid = Contains-preimage _ (action_uids bag) name among in
+      let declared = Contains-preimage _ (declared_actions bag) uid.0 uid.1 in
+      sound_action bag sound declared.0.0 declared.0.1 declared.1
+      (rw (declared.2, uid.2) at_fault.1)
+]
 sound_bag bag sound extensions _ of at_fault = of
 
 -- an entity type that some declarations declare is declared by all of them
@@ -88,16 +84,14 @@ entity_included : (part whole : Bag) → Included part whole → (name : PlainNa
     → Contains (declared_entities part) (name, body) → Contains (declared_entities whole) (name, body)
 entity_included part whole included name body among =
     let declared = entity_declaration part name body among in
-    let P : PlainName → Type 0 = λ each. Contains (declared_entities whole) (each, body) in
-    subst P declared.3 (declares_entity whole declared.0 body (included declared.0 declared.1) declared.2)
+    rw declared.3 at (declares_entity whole declared.0 body (included declared.0 declared.1) declared.2)
 
 -- an action that some declarations declare is declared by all of them
 action_included : (part whole : Bag) → Included part whole → (uid : PlainUid) (body : ActionBody)
     → Contains (declared_actions part) (uid, body) → Contains (declared_actions whole) (uid, body)
 action_included part whole included uid body among =
     let declared = action_declaration part uid body among in
-    let P : PlainUid → Type 0 = λ each. Contains (declared_actions whole) (each, body) in
-    subst P declared.3 (declares_action whole declared.0 body (included declared.0 declared.1) declared.2)
+    rw declared.3 at (declares_action whole declared.0 body (included declared.0 declared.1) declared.2)
 
 -- the fault of some declarations is that of all of them
 pub fault_included : (part whole : Bag) → Included part whole → (fault : Fault) → IsDefinitionFault part fault → IsDefinitionFault whole fault
@@ -114,19 +108,18 @@ fault_included part whole included (action_entity_type name) at_fault = (
 fault_included part whole included (reserved_name name) at_fault = (
   tt,
   λ extensions. let found = at_fault.1 extensions in (
-    ⊎_elim
-        (λ among. let entity = Contains-preimage _ (declared_entities part) name among in
-        let P : PlainName → Type 0 = Contains (map (λ it. it.0) (declared_entities whole)) in
-        inl (subst P entity.2 (Contains-image _ (declared_entities whole) entity.0
-        (entity_included part whole included entity.0.0 entity.0.1 entity.1))))
-        (λ among. let uid = Contains-preimage _ (action_uids part) name among in
-        let declared = Contains-preimage _ (declared_actions part) uid.0 uid.1 in
-        let P : PlainName → Type 0 = Contains (map (λ each. each.ty) (action_uids whole)) in
-        let Q : PlainUid → Type 0 = Contains (action_uids whole) in
-        inr (subst P uid.2 (Contains-image _ (action_uids whole) uid.0
-        (subst Q declared.2 (Contains-image _ (declared_actions whole) declared.0
-        (action_included part whole included declared.0.0 declared.0.1 declared.1))))))
-        found.0,
+    elim found.0 [
+      | inl among ↦
+          let entity = Contains-preimage _ (declared_entities part) name among in
+          inl (rw (← entity.2) (Contains-image _ (declared_entities whole) entity.0
+          (entity_included part whole included entity.0.0 entity.0.1 entity.1)))
+      | inr among ↦
+          let uid = Contains-preimage _ (action_uids part) name among in
+          let declared = Contains-preimage _ (declared_actions part) uid.0 uid.1 in
+          inr (rw (← uid.2) (Contains-image _ (action_uids whole) uid.0
+          (rw (← declared.2) (Contains-image _ (declared_actions whole) declared.0
+          (action_included part whole included declared.0.0 declared.0.1 declared.1)))))
+    ],
     found.1,
   ),
 )
@@ -142,13 +135,12 @@ pub fault_of_entity : (bag : Bag) (namespace : Option PlainName) (id : Text) (bo
 fault_of_entity bag namespace id body fault among refused =
     let it : Declaration = record { namespace = namespace; id = id; body = entity_type body } in
     let declared : Contains (declared_entities bag) (declared_name it, body) = declares_entity bag it body among refl in
-    let P : Fault → Type 0 = IsDefinitionFault bag in
-    ⊎_elim (λ memory. inl memory)
-    (λ other. inr (⊎_elim
-    (λ is_action. subst P (sym is_action.0) (tt, λ extensions. (body, declared, is_action.1)))
-    (λ reserved. subst P (sym reserved.0)
-    (tt, λ extensions. (inl (Contains-image _ (declared_entities bag) (declared_name it, body) declared), reserved.1)))
-    other)) refused
+    elim refused [
+      | inl memory ↦ inl memory
+      | inr (inl is_action) ↦ inr (rw is_action.0 (tt, λ extensions. (body, declared, is_action.1)))
+      | inr (inr reserved) ↦ inr (rw reserved.0
+          (tt, λ extensions. (inl (Contains-image _ (declared_entities bag) (declared_name it, body) declared), reserved.1)))
+    ]
 
 -- the refusal of the uid of an action is a fault of the declarations among which it is
 pub fault_of_action : (bag : Bag) (namespace : Option PlainName) (id : Text) (body : ActionBody) (fault : Fault)
@@ -159,25 +151,27 @@ pub fault_of_action : (bag : Bag) (namespace : Option PlainName) (id : Text) (bo
 fault_of_action bag namespace id body fault among refused =
     let it : Declaration = record { namespace = namespace; id = id; body = action body } in
     let declared : Contains (declared_actions bag) (declared_uid it, body) = declares_action bag it body among refl in
-    let P : Fault → Type 0 = IsDefinitionFault bag in
-    ⊎_elim (λ memory. inl memory)
-    (λ reserved. inr (subst P (sym reserved.0) (
-      tt,
-      λ extensions. (
-        inr (Contains-image _ (action_uids bag) (declared_uid it)
-            (Contains-image _ (declared_actions bag) (declared_uid it, body) declared)),
-        reserved.1,
-      ),
-    ))) refused
+    elim refused [
+      | inl memory ↦ inl memory
+      | inr reserved ↦ inr (rw reserved.0 (
+        tt,
+        λ extensions. (
+          inr (Contains-image _ (action_uids bag) (declared_uid it)
+              (Contains-image _ (declared_actions bag) (declared_uid it, body) declared)),
+          reserved.1,
+        ),
+      ))
+    ]
 
 -- the refusal of the name of an entity type names no actions
 pub name_names_none : (name : PlainName) (A B : Type 0) (fault : Fault)
     → (fault ≡ out_of_memory) ⊎ (((fault ≡ action_entity_type name) × A) ⊎ ((fault ≡ reserved_name name) × B))
     → NamesNoAttributes fault
-name_names_none name A B fault refused =
-    ⊎_elim (λ memory. subst NamesNoAttributes (sym memory) tt)
-    (λ other. ⊎_elim (λ is_action. subst NamesNoAttributes (sym is_action.0) tt)
-    (λ reserved. subst NamesNoAttributes (sym reserved.0) tt) other) refused
+name_names_none name A B fault refused = elim refused [
+  | inl memory ↦ rw memory tt
+  | inr (inl is_action) ↦ rw is_action.0 tt
+  | inr (inr reserved) ↦ rw reserved.0 tt
+]
 
 -- common types give no cause
 pub common_sound : (namespace : Option PlainName) (entries : List (CommonTypeId × CommonType RawName))

@@ -37,7 +37,7 @@ use Rattle.std.specs.List.{AllByRecursion}
 -- what has to resolve in a declaration has to in a bag that has it
 pub to_resolve : (bag : Bag) (it : Declaration) → Contains bag it → (reference : Reference) → HasToResolveIn it.body reference
     → HasToResolve bag reference
-to_resolve bag it among reference = ⊎_elim (λ stands. inl (stands.0, (it, among, stands.1), stands.2)) (λ place. inr (it, among, place))
+to_resolve bag it among reference = elim [ inl stands ↦ inl (stands.0, (it, among, stands.1), stands.2) | inr place ↦ inr (it, among, place) ]
 
 -- what is declared under one name is resolved as its body is
 pub resolves_declared : (names : Names) (name : PlainName) (body resolved : Body) → ResolvesBody names body resolved
@@ -74,7 +74,7 @@ pub action_unreserved : (defs : AllDefs) (uid : PlainUid) → Contains (held_nam
 action_unreserved defs uid among =
     let found = Contains-preimage uid_of defs.action_defs.keys uid among in
     let it : EntityUID = found.0 in
-    let P : PlainUid → Type 0 = λ each. ¬ IsReserved each.ty in subst P found.2 it.ty.0.unreserved
+    rw (← found.2) it.ty.0.unreserved
 
 -- references to one name each that are the same are to the same name
 same_name : (kind kind' : ReferenceType) (x y : PlainName) → reference_to_one kind x ≡ reference_to_one kind' y → x ≡ y
@@ -90,8 +90,7 @@ module _ (names : Names) (references : List ConditionalName) (resolved : List In
       (map (positional_reference Entity) references) (map (resolved_reference Entity) resolved) turn in
       let found = turn_forth (λ y x. ResolvesReference names x y) (map (resolved_reference Entity) resolved)
       (map (positional_reference Entity) references) back (resolved_reference Entity item) (Contains-image (resolved_reference Entity) resolved item among) in
-      let P : PlainName → Type 0 = ResolvesTo names found.0 in
-      (found.0, found.1, subst P (sym (same_name Entity found.0.kind (name_of item) found.2.0 found.2.2)) found.2.1)
+      (found.0, found.1, rw (← same_name Entity found.0.kind (name_of item) found.2.0 found.2.2) at found.2.1)
 
   -- where none of the names is reserved, none of the references resolves to a reserved name
   pub none_reserved : AllByRecursion (λ name. ¬ IsReserved name) (map name_of resolved)
@@ -103,5 +102,5 @@ module _ (names : Names) (references : List ConditionalName) (resolved : List In
       let same : name_of item.0 ≡ found.2.0 = same_name Entity reference.kind (name_of item.0) found.2.0 (item.2 ∙ found.2.2) in
       let one : name ≡ found.2.0 = IsFirst-same (IsDefined names reference.kind) reference.possibilities name found.2.0 resolves found.2.1 in
       let P : PlainName → Type 0 = λ each. ¬ IsReserved each in
-      subst P (same ∙ sym one)
+      rw (one, ← same)
       (AllByRecursion-at P (map name_of resolved) (name_of item.0) unreserved (Contains-image name_of resolved item.0 item.1))

@@ -1,5 +1,5 @@
 -- Whether something holds of some item of a list, one item after another.
-use Rattle.std.proofs.Common.{◌≡◌, ◌<◌, ◌+◌, ◌↔◌, ◌⊎◌, ◌++◌, ℕ, List, [], ◌∷◌, length, take, get_or, Any, Contains, inl, inr, ⊎_elim, ap, refl, sym, subst, ◌∙◌, arith}
+use Rattle.std.proofs.Common.{◌≡◌, ◌<◌, ◌+◌, ◌↔◌, ◌⊎◌, ◌++◌, ℕ, List, [], ◌∷◌, length, take, get_or, Any, Contains, inl, inr, ap, refl, sym, arith}
 use Rattle.std.proofs.lemmas.List.{take_more}
 use Rattle.std.proofs.lemmas.List.Elements.{Contains-push_cases}
 use Rattle.cedar_below.proofs.Lists.{Contains-cons, Contains-cons_cases}
@@ -22,17 +22,20 @@ module _ {A : Type 0} (P : A → Type 0) where
   any_cons x xs = (
     λ any.
         let item = item_of_any (x ∷ xs) any in
-        ⊎_elim (λ same. inl (subst P (sym same) item.2)) (λ later. inr (any_of_item xs item.0 later item.2))
-        (Contains-cons_cases x xs item.0 item.1),
-    ⊎_elim
-        (λ here. any_of_item (x ∷ xs) x (Contains-cons x xs x (inl refl)) here)
-        (λ later. let item = item_of_any xs later in any_of_item (x ∷ xs) item.0 (Contains-cons x xs item.0 (inr item.1)) item.2),
+        elim (Contains-cons_cases x xs item.0 item.1) [
+          | inl same ↦ inl (rw same item.2)
+          | inr later ↦ inr (any_of_item xs item.0 later item.2)
+        ],
+    elim [
+      | inl here ↦ any_of_item (x ∷ xs) x (Contains-cons x xs x (inl refl)) here
+      | inr later ↦ let item = item_of_any xs later in any_of_item (x ∷ xs) item.0 (Contains-cons x xs item.0 (inr item.1)) item.2
+    ],
   )
 
   -- where it doesn't hold of the first, the others decide
   pub any_skips : {Whole : Type 0} (x : A) (xs : List A) → Whole ↔ Any P (x ∷ xs) → ¬ P x → Whole ↔ Any P xs
   any_skips x xs so_far fails = (
-    λ whole. ⊎_elim (λ here. absurd (fails here)) (λ later. later) ((any_cons x xs).0 (so_far.0 whole)),
+    λ whole. elim ((any_cons x xs).0 (so_far.0 whole)) [ inl here ↦ absurd (fails here) | inr later ↦ later ],
     λ later. so_far.1 ((any_cons x xs).1 (inr later)),
   )
 
@@ -42,13 +45,14 @@ module _ {A : Type 0} (P : A → Type 0) where
 
   -- where no others are left, it holds of none
   pub any_ends : {Whole : Type 0} (xs : List A) → Whole ↔ Any P xs → xs ≡ [] → ¬ Whole
-  any_ends xs so_far none whole = let Q : List A → Type 0 = Any P in any_of_none (subst Q none (so_far.0 whole))
+  any_ends xs so_far none whole = any_of_none (rw none at (so_far.0 whole))
 
   -- where it holds of none of the first, nor of the next one, it holds of none of these
   pub any_more : (xs : List A) (i : ℕ) (x : A) → i < length xs → x ≡ get_or xs i x → ¬ Any P (take i xs) → ¬ P x
       → ¬ Any P (take (i + 1) xs)
   any_more xs i x within is none fails any =
-      let Q : List A → Type 0 = Any P in
-      let item = item_of_any (take i xs ++ x ∷ []) (subst Q (take_more xs i x within ∙ ap (λ one. take i xs ++ one ∷ []) (sym is)) any) in
-      ⊎_elim (λ before. none (any_of_item (take i xs) item.0 before item.2)) (λ same. fails (subst P (sym same) item.2))
-      (Contains-push_cases (take i xs) x item.0 item.1)
+      let item = item_of_any (take i xs ++ x ∷ []) (rw (take_more xs i x within, ap (λ one. take i xs ++ one ∷ []) (sym is)) at any) in
+      elim (Contains-push_cases (take i xs) x item.0 item.1) [
+        | inl before ↦ none (any_of_item (take i xs) item.0 before item.2)
+        | inr same ↦ fails (rw same item.2)
+      ]

@@ -1,5 +1,5 @@
 -- Open records that are folded by joins, in permissive mode: there always is a join, an open record.
-use Rattle.std.proofs.Common.{◌≡◌, ◌≢◌, List, [], ◌∷◌, Some, Ok, Err, map, ap, inl, inr, refl, subst}
+use Rattle.std.proofs.Common.{◌≡◌, ◌≢◌, List, [], ◌∷◌, Some, Ok, Err, map, ap, inl, inr, refl}
 use Rattle.cedar_below.specs.PlainName.{PlainName}
 use Rattle.cedar_below.specs.declared.validation_mode.ValidationMode.TheVariants.{Permissive}
 use Rattle.cedar_declarations.specs.PlainSchema.{SchemaEntityType}
@@ -33,8 +33,7 @@ module _ (types : List (PlainName × SchemaEntityType)) where
   joined_to fields [] answer is = (fields, is)
   joined_to fields (member ∷ rest) answer (inl (join, right, formed, more)) =
       let above = above_open fields join right.0.0.0 in
-      let P : Ty → Type 0 = λ start. IsReduceAnswer Permissive start (map (open_record types) rest) answer in
-      joined_to above.0 rest answer (subst P above.1 more)
+      joined_to above.0 rest answer (rw above.1 at more)
   joined_to fields (member ∷ rest) answer (inr (given, right, is)) = absurd (right.0 (open_bound fields (declared_fields types member)))
 
   -- the open records of what some entity types declare are joined to an open record
@@ -44,8 +43,7 @@ module _ (types : List (PlainName × SchemaEntityType)) where
   joined_open [] some answer is = absurd (some refl)
   joined_open (member ∷ rest) some answer (inl (join, right, formed, more)) =
       let above = above_open (declared_fields types member) join right.0.0.1.0 in
-      let P : Ty → Type 0 = λ start. IsReduceAnswer Permissive start (map (open_record types) rest) answer in
-      joined_to above.0 rest answer (subst P above.1 more)
+      joined_to above.0 rest answer (rw above.1 at more)
   joined_open (member ∷ rest) some answer (inr (given, right, is)) =
       absurd (right.0 (open_record types member, (upper_is_join Permissive never (open_record types member) tt).0.0))
 
@@ -71,9 +69,8 @@ module _ (types : List (PlainName × SchemaEntityType)) where
 
 -- where there is an only name, there is just it
 pub only_is : (names : List PlainName) (name : PlainName) → Some name ≡ only_name names → names ≡ name ∷ []
-only_is [] name is = absurd cc
 only_is (first ∷ []) name is = cc
-only_is (first ∷ other ∷ rest) name is = absurd cc
+only_is _ name is = absurd cc
 
 -- the attributes of a record type, none of any other
 abbrev pub fields_in : Ty → Fields

@@ -1,5 +1,5 @@
 -- What is known of the attributes of a union of clean types: what the least clean bound of open records has.
-use Rattle.std.proofs.Common.{◌≡◌, Bool, true, false, IsTrue, List, [], ◌∷◌, Option, None, Some, Ok, map, ap, refl, sym, subst, ◌∙◌, inl, inr, ⊎_elim, Contains, arith}
+use Rattle.std.proofs.Common.{◌≡◌, Bool, true, false, IsTrue, List, [], ◌∷◌, Option, None, Some, Ok, map, ap, refl, sym, ◌∙◌, inl, inr, Contains, arith}
 use Rattle.std.proofs.lemmas.Bool.{false≢true}
 use Rattle.std.specs.List.{AllByRecursion}
 use Rattle.cedar_below.proofs.Lists.{Contains-cons, Contains-cons_cases}
@@ -25,9 +25,10 @@ use Rattle.cedar_type_rules.specs.declared.open_tag.OpenTag.TheVariants.{OpenAtt
 -- what holds of all images of some items holds of each
 each_of : {A B : Type 0} (f : A → B) (P : B → Type 0) (xs : List A) → AllByRecursion P (map f xs) → (x : A) → Contains xs x → P (f x)
 each_of f P [] all x among = absurd (omega (arith, among.1))
-each_of {A} f P (y ∷ ys) all x among =
-    let Q : A → Type 0 = λ z. P (f z) in
-    ⊎_elim (λ same. subst Q same all.0) (λ later. each_of f P ys all.1 x later) (Contains-cons_cases y ys x among)
+each_of {A} f P (y ∷ ys) all x among = elim (Contains-cons_cases y ys x among) [
+  | inl same ↦ rw same at all.0
+  | inr later ↦ each_of f P ys all.1 x later
+]
 
 -- and what holds of each holds of all
 of_each : {A B : Type 0} (f : A → B) (P : B → Type 0) (xs : List A) → ((x : A) → Contains xs x → P (f x)) → AllByRecursion P (map f xs)
@@ -103,21 +104,20 @@ module _ (types : List (PlainName × SchemaEntityType)) (members : List PlainNam
       λ bound common.
           let found = common_known name bound common in
           let same = only_field known name required found.0 ty found.1 known_ascends has found.2 in
-          let P : Ty → Type 0 = λ each. Below Permissive each bound in
-          subst P (sym same.1) found.3,
+          rw same.1 found.3,
     );
     required = λ name required ty has. (
       λ is member flag own among also.
           let below = HasBelow-of Permissive (declared_fields types member) known name required ty (member_below member among) has in
           let same = only_field (declared_fields types member) name below.0 flag below.1 own (clean member among).1 below.2 also in
-          subst IsTrue same.0 (below.3 is),
+          rw same.0 at (below.3 is),
       λ all.
           let common = known_common name required ty has in
           let found = known_below name true ty common.1
           (λ member among. let own = common.0 member among in
           (own.0, own.1, own.2, (λ _. all member own.0 own.1 among own.2), own.3)) in
           let same = only_field known name required found.0 ty found.1 known_ascends has found.2 in
-          subst IsTrue (sym same.0) (found.3 refl),
+          rw same.0 (found.3 refl),
     );
   }
 

@@ -11,7 +11,7 @@ use Rattle.cedar_declarations.specs.EntityTypeKind.{kind_fields, kind_tags}
 use Rattle.cedar_schema_elements.specs.ValidatorEntityType.{entity_type_of}
 use Rattle.cedar_schema_elements.specs.declared.entity_type.ValidatorEntityType.{ValidatorEntityType}
 use Rattle.cedar_queries.specs.Leaves.{IsLeaf, field_types, inner_types, leaves, leaves_of, leaves_of_fields, part_count, parts, parts_of_fields, shown_types}
-use Rattle.cedar_type_rules.specs.Ty.{Ty, never, truth, long, text, any_entity, union_of, any_set, set_of, record_of, extension_of, Fields, end, field}
+use Rattle.cedar_type_rules.specs.Ty.{Ty, set_of, record_of, Fields, end, field}
 use Rattle.cedar_types.specs.Meaning.{ty_of}
 use Rattle.cedar_types.specs.declared.types.Type.{«Type»}
 
@@ -51,52 +51,24 @@ part_count-fields (field name required ty rest) = ap (λ others. parts ty + othe
 pub leaves-inside : (ty : Ty) → ¬ IsLeaf ty → leaves ty ≡ leaves_of (inner_types ty)
 leaves-inside (set_of ty) parted = sym (append-nil (leaves ty))
 leaves-inside (record_of fields openness) parted = sym (leaves_of-fields fields)
-leaves-inside never parted = absurd (parted tt)
-leaves-inside (truth known) parted = absurd (parted tt)
-leaves-inside long parted = absurd (parted tt)
-leaves-inside text parted = absurd (parted tt)
-leaves-inside any_entity parted = absurd (parted tt)
-leaves-inside (union_of names) parted = absurd (parted tt)
-leaves-inside any_set parted = absurd (parted tt)
-leaves-inside (extension_of name) parted = absurd (parted tt)
+leaves-inside _ parted = absurd (parted tt)
 
 -- a type that isn't a leaf is made of one type more than those right inside it
 pub parts-inside : (ty : Ty) → ¬ IsLeaf ty → parts ty ≡ 1 + part_count (inner_types ty)
 parts-inside (set_of ty) parted = omega arith
 parts-inside (record_of fields openness) parted = ap (λ others. 1 + others) (sym (part_count-fields fields))
-parts-inside never parted = absurd (parted tt)
-parts-inside (truth known) parted = absurd (parted tt)
-parts-inside long parted = absurd (parted tt)
-parts-inside text parted = absurd (parted tt)
-parts-inside any_entity parted = absurd (parted tt)
-parts-inside (union_of names) parted = absurd (parted tt)
-parts-inside any_set parted = absurd (parted tt)
-parts-inside (extension_of name) parted = absurd (parted tt)
+parts-inside _ parted = absurd (parted tt)
 
 -- the only leaf of a leaf is itself
 pub leaves-of_leaf : (ty : Ty) → IsLeaf ty → leaves ty ≡ ty ∷ []
-leaves-of_leaf never leaf = refl
-leaves-of_leaf (truth known) leaf = refl
-leaves-of_leaf long leaf = refl
-leaves-of_leaf text leaf = refl
-leaves-of_leaf any_entity leaf = refl
-leaves-of_leaf (union_of names) leaf = refl
-leaves-of_leaf any_set leaf = refl
-leaves-of_leaf (extension_of name) leaf = refl
-leaves-of_leaf _ leaf = absurd leaf
+leaves-of_leaf (set_of ty) leaf = absurd leaf
+leaves-of_leaf (record_of fields openness) leaf = absurd leaf
+leaves-of_leaf _ leaf = refl
 
 -- a type is made of at least itself
 pub parts-some : (ty : Ty) → 0 < parts ty
 parts-some (set_of ty) = omega arith
-parts-some (record_of fields openness) = omega arith
-parts-some never = omega arith
-parts-some (truth known) = omega arith
-parts-some long = omega arith
-parts-some text = omega arith
-parts-some any_entity = omega arith
-parts-some (union_of names) = omega arith
-parts-some any_set = omega arith
-parts-some (extension_of name) = omega arith
+parts-some _ = omega arith
 
 -- one more type that is borrowed
 pub shown-push : (all before : List (Bor «Type»)) (one : Bor «Type») → all ≡ before ++ one ∷ []

@@ -1,5 +1,5 @@
 -- What is found by name or by uid, as plain data.
-use Rattle.std.proofs.Common.{◌≡◌, Bool, true, false, cond, List, [], ◌∷◌, Option, Some, None, is_some, map, ap, refl, sym, subst, ◌∙◌, Contains}
+use Rattle.std.proofs.Common.{◌≡◌, Bool, true, false, cond, List, [], ◌∷◌, Option, Some, None, is_some, map, ap, refl, sym, ◌∙◌, Contains}
 use Rattle.std.proofs.lemmas.Map.Made.{is_some-lookup}
 use Rattle.cedar_table.specs.Entries.{Entries, get_by}
 use Rattle.std.specs.Bool.{Decides}
@@ -47,8 +47,7 @@ found-Decides : {K V : Type 0} (key : K) (test : K → Bool) → ((other : K) �
 found-Decides {K} key test tests entries = (
   λ found.
       let some = some_of test (map (λ entry. entry.0) entries) (sym (is_some-lookup test entries) ∙ found) in
-      let P : K → Type 0 = Contains (map (λ entry. entry.0) entries) in
-      subst P (sym ((tests some.0).0 some.2)) some.1,
+      rw ((tests some.0).0 some.2) some.1,
   λ among. is_some-lookup test entries ∙ any_of test (map (λ entry. entry.0) entries) key among ((tests key).1 refl),
 )
 
@@ -68,8 +67,7 @@ module _ {K V P D : Type 0} (cmp : K → K → Ordering) (plain_cmp : P → P �
       (Contains (map (λ (it : P × D). it.0) (map (λ entry. (name entry.0, shown entry.1)) values.entries)) (name key))
   key_known =
       let plain : List (P × D) = map (λ entry. (name entry.0, shown entry.1)) values.entries in
-      let S : Bool → Type 0 = λ b. Decides b (Contains (map (λ (it : P × D). it.0) plain) (name key)) in
-      subst S (ap is_some value_found ∙ mapped (get_by (cmp key) values))
+      rw (ap is_some value_found, mapped (get_by (cmp key) values)) at
       (found-Decides (name key) (λ other. is_eq (plain_cmp (name key) other)) (test (name key)) plain)
     where
       mapped : (o : Option V) → is_some (option_map shown o) ≡ is_some o

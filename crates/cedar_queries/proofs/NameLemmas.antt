@@ -1,5 +1,5 @@
 -- Whether a name is one of some, and whether there are any.
-use Rattle.std.proofs.Common.{◌≡◌, ◌↔◌, Bool, IsTrue, List, refl, sym, subst, Contains}
+use Rattle.std.proofs.Common.{◌≡◌, ◌↔◌, Bool, IsTrue, List, refl, Contains}
 use Rattle.std.specs.Bool.{Decides, one_answer}
 use Rattle.std.specs.Ordering.{is_eq}
 use Rattle.cedar_below.specs.PlainName.{PlainName, name_cmp}
@@ -11,8 +11,7 @@ pub has_name-Decides : (names : List PlainName) (name : PlainName) → Decides (
 has_name-Decides names name = (
   λ found.
       let some = some_of (λ other. is_eq (name_cmp name other)) names found in
-      let P : PlainName → Type 0 = Contains names in
-      subst P (sym ((name_test name some.0).0 some.2)) some.1,
+      rw ((name_test name some.0).0 some.2) some.1,
   λ among. any_of (λ other. is_eq (name_cmp name other)) names name among ((name_test name name).1 refl),
 )
 

@@ -1,5 +1,5 @@
 -- The keys of entries whose values pass a test, one entry after another, and their order.
-use Rattle.std.proofs.Common.{◌≡◌, ◌≤◌, Bool, true, false, cond, List, [], ◌∷◌, length, map, ap, refl, arith, ⊎_elim, inl, inr, sym, subst, ◌∙◌, Contains}
+use Rattle.std.proofs.Common.{◌≡◌, ◌≤◌, Bool, true, false, cond, List, [], ◌∷◌, length, map, ap, refl, arith, inl, inr, ◌∙◌, Contains}
 use Rattle.std.proofs.lemmas.List.{length-map}
 use Rattle.std.specs.List.{AllByRecursion, filter}
 use Rattle.std.specs.List.Sorted.{IsStrictlySortedBy}
@@ -60,14 +60,12 @@ few_keys test entries =
 pub Contains-kept : {A : Type 0} (p : A → Bool) (items : List A) (item : A) → Contains items item → p item ≡ true
     → Contains (filter p items) item
 Contains-kept p [] item among passes = absurd (omega (arith, among.1))
-Contains-kept {A} p (first ∷ rest) item among passes =
-    let P : Bool → Type 0 = λ b. Contains (cond b (first ∷ filter p rest) (filter p rest)) item in
-    ⊎_elim
-    (λ same.
-    let here : p first ≡ true = ap p same ∙ passes in
-    subst P (sym here) (Contains-cons first (filter p rest) item (inl same)))
-    (λ later.
-    let kept = Contains-kept p rest item later passes in
-    elim (p first) as (λ b. Contains (cond b (first ∷ filter p rest) (filter p rest)) item)
-    [ true ↦ Contains-cons first (filter p rest) item (inr kept) | false ↦ kept ])
-    (Contains-cons_cases first rest item among)
+Contains-kept {A} p (first ∷ rest) item among passes = elim (Contains-cons_cases first rest item among) [
+  | inl same ↦
+      let here : p first ≡ true = ap p same ∙ passes in
+      rw here (Contains-cons first (filter p rest) item (inl same))
+  | inr later ↦
+      let kept = Contains-kept p rest item later passes in
+      elim (p first) as (λ b. Contains (cond b (first ∷ filter p rest) (filter p rest)) item)
+      [ true ↦ Contains-cons first (filter p rest) item (inr kept) | false ↦ kept ]
+]

@@ -1,5 +1,5 @@
 -- The names that are collected are those that the bag defines.
-use Rattle.std.proofs.Common.{◌≡◌, List, ◌++◌, not, map, ap, sym, subst, ◌∙◌, inl, inr, ⊎_elim, append_assoc, Contains}
+use Rattle.std.proofs.Common.{◌≡◌, List, ◌++◌, not, map, ap, sym, inl, inr, append_assoc, Contains}
 use Rattle.std.proofs.lemmas.List.{map-append}
 use Rattle.std.proofs.lemmas.List.Elements.{Contains-append_left, Contains-append_right, Contains-append_cases}
 use Rattle.std.specs.List.{filter}
@@ -24,22 +24,28 @@ use Rattle.cedar_resolution.specs.BuiltIn.{free_aliases}
 SameItems-append : {A : Type 0} (xs ys xs' ys' : List A) → SameItems xs ys → SameItems xs' ys'
     → SameItems (xs ++ xs') (ys ++ ys')
 SameItems-append xs ys xs' ys' front back item = (
-  λ among. ⊎_elim (λ here. Contains-append_left ys ys' item ((front item).0 here))
-      (λ there. Contains-append_right ys ys' item ((back item).0 there))
-      (Contains-append_cases xs xs' item among),
-  λ among. ⊎_elim (λ here. Contains-append_left xs xs' item ((front item).1 here))
-      (λ there. Contains-append_right xs xs' item ((back item).1 there))
-      (Contains-append_cases ys ys' item among),
+  λ among. elim (Contains-append_cases xs xs' item among) [
+    | inl here ↦ Contains-append_left ys ys' item ((front item).0 here)
+    | inr there ↦ Contains-append_right ys ys' item ((back item).0 there)
+  ],
+  λ among. elim (Contains-append_cases ys ys' item among) [
+    | inl here ↦ Contains-append_left xs xs' item ((front item).1 here)
+    | inr there ↦ Contains-append_right xs xs' item ((back item).1 there)
+  ],
 )
 
 -- a list with some items and some more has the same ones as others with these after one another
 also_appended : {A : Type 0} (after before more xs ys : List A) → HasAlso after before more → SameItems before xs → SameItems more ys
     → SameItems after (xs ++ ys)
 also_appended after before more xs ys also front back item = (
-  λ among. ⊎_elim (λ here. Contains-append_left xs ys item ((front item).0 here))
-      (λ there. Contains-append_right xs ys item ((back item).0 there)) ((also item).0 among),
-  λ among. (also item).1 (⊎_elim (λ here. inl ((front item).1 here)) (λ there. inr ((back item).1 there))
-      (Contains-append_cases xs ys item among)),
+  λ among. elim ((also item).0 among) [
+    | inl here ↦ Contains-append_left xs ys item ((front item).0 here)
+    | inr there ↦ Contains-append_right xs ys item ((back item).0 there)
+  ],
+  λ among. (also item).1 (elim (Contains-append_cases xs ys item among) [
+    | inl here ↦ inl ((front item).1 here)
+    | inr there ↦ inr ((back item).1 there)
+  ]),
 )
 
 -- what stands in one list does in another with the same items, also of images
@@ -47,8 +53,7 @@ image_included : {A B : Type 0} (f : A → B) (xs ys : List A) → ((x : A) → 
     → Contains (map f xs) y → Contains (map f ys) y
 image_included {B = B} f xs ys included y among =
     let found = Contains-preimage f xs y among in
-    let P : B → Type 0 = Contains (map f ys) in
-    subst P found.2 (Contains-image f ys found.0 (included found.0 found.1))
+    rw found.2 at (Contains-image f ys found.0 (included found.0 found.1))
 
 -- lists with the same items have the same images
 SameItems-image : {A B : Type 0} (f : A → B) (xs ys : List A) → SameItems xs ys → SameItems (map f xs) (map f ys)
@@ -69,14 +74,11 @@ names_in bag = record {
 pub just_declared : (held names : Names) (bag : Bag) → HoldsJust held names → AreTheDeclaredNames names bag
     → HoldsJust held (names_in bag)
 just_declared held names bag just declared =
-    let P : List PlainName → Type 0 = SameItems held.common in
-    let Q : List PlainName → Type 0 = SameItems held.entities in
-    let R : List PlainUid → Type 0 = SameItems held.actions in
     record {
-      common = subst P declared.common just.common;
-      entities = subst Q declared.entities just.entities;
+      common = rw declared.common at just.common;
+      entities = rw declared.entities at just.entities;
       actions
-          = subst R declared.actions just.actions;
+          = rw declared.actions at just.actions;
     }
 
 module _ (bag : Bag) (extensions : Extensions) (held : Names) (just : HoldsJust held (names_in bag)) where
@@ -111,10 +113,7 @@ module _ (bag : Bag) (extensions : Extensions) (held : Names) (just : HoldsJust 
   same_common types common are also =
       let key = λ (it : PlainName × Expr). it.0 in
       let declared = declared_common bag in
-      let P : List PlainName → Type 0 = SameItems common in
-      subst P (ap (λ others. map key declared ++ map key others) are
-      ∙ (sym (map-append key declared (built_ins extensions ++ aliases bag extensions))
-      ∙ ap (map key) (sym (append_assoc declared (built_ins extensions) (aliases bag extensions)))))
+      rw (ap (λ others. map key declared ++ map key others) are, ← map-append key declared (built_ins extensions ++ aliases bag extensions), ap (map key) (sym (append_assoc declared (built_ins extensions) (aliases bag extensions)))) at
       (also_appended common held.common (map key types) (names_in bag).common (map key types) also just.common
       (λ name. (λ among. among, λ among. among)))
 

@@ -1,5 +1,5 @@
 -- What can't be resolved in the bag of some fragments is a fault of it.
-use Rattle.std.proofs.Common.{◌≡◌, ◌⊎◌, List, ◌++◌, map, Option, Some, None, ap, sym, subst, refl, inl, inr, ⊎_elim, arith, Contains}
+use Rattle.std.proofs.Common.{◌≡◌, ◌⊎◌, List, ◌++◌, map, Option, Some, None, ap, sym, refl, inl, inr, arith, Contains}
 use Rattle.std.proofs.lemmas.List.Elements.{Contains-append_cases}
 use Rattle.cedar_below.proofs.Lists.{Contains-preimage}
 use Rattle.cedar_below.specs.EntityType.{type_name}
@@ -19,13 +19,13 @@ use Rattle.cedar_fragments.proofs.DeclaredNames.{names_are_declared}
 use Rattle.cedar_fragments.specs.ActionDeclarations.{fragment_requests, action_fragment_declarations}
 use Rattle.cedar_fragments.specs.FragmentDeclarations.{conditional_definition, conditional_fragment, conditional_bag}
 use Rattle.cedar_fragments.specs.HeldNames.{definition_names, fragment_names, declared_names, HoldsJust}
-use Rattle.cedar_fragments.specs.QualifyFault.{IsParentIn, IsRequestedIn, IsAnyParent, IsRequested, IsUnresolvableBag}
+use Rattle.cedar_fragments.specs.QualifyFault.{IsParentIn, IsAnyParent, IsRequested, IsUnresolvableBag}
 use Rattle.cedar_fragments.specs.TypeDeclarations.{common_type_declarations, entity_type_declarations}
 use Rattle.cedar_fragments.specs.declared.namespace.actions.ActionRequests.{ActionRequests}
 use Rattle.cedar_fragments.specs.declared.namespace.definition.ValidatorNamespaceDef.{ValidatorNamespaceDef}
 use Rattle.cedar_fragments.specs.declared.namespace.fragment.ValidatorSchemaFragment.{ValidatorSchemaFragment}
 use Rattle.cedar_names.specs.ConditionalExpr.{positional_reference}
-use Rattle.cedar_names.specs.Declaration.{Declaration, Body, common_type, entity_type, action}
+use Rattle.cedar_names.specs.Declaration.{Body, action}
 use Rattle.cedar_names.specs.Reference.{Reference, ActionReference}
 use Rattle.cedar_names.specs.declared.json_schema.conditional_name.ConditionalName.{ConditionalName}
 use Rattle.cedar_names.specs.declared.json_schema.reference_type.ReferenceType.TheVariants.{Entity}
@@ -36,19 +36,17 @@ parent_of : (bag : Bag) (parent : ActionReference) → IsAnyParent bag parent
     → (uid : PlainUid) × IsActionParent bag uid parent
 parent_of bag parent found = by found.0.body refl found.2 where
   by : (body : Body) → found.0.body ≡ body → IsParentIn body parent → (uid : PlainUid) × IsActionParent bag uid parent
-  by (common_type definition) is none = absurd none
-  by (entity_type body) is none = absurd none
   by (action body) is is_parent =
-      let uid = declared_uid found.0 in
-      let P : Body → Type 0 = λ each. Contains (action_in uid each) (uid, body) in (
+      let uid = declared_uid found.0 in (
         uid,
         (
           body,
           Contains-given (λ it. action_in (declared_uid it) it.body) bag found.0 (uid, body) found.1
-              (subst P (sym is) (0, omega arith, refl)),
+              (rw is (0, omega arith, refl)),
           is_parent,
         ),
       )
+  by _ is none = absurd none
 
 -- references that are placed as those to entity types are of that kind
 positional_kind : (names : List ConditionalName) (reference : Reference)
@@ -62,8 +60,10 @@ positional_kind names reference among =
 requests_kind : (it : Option (ActionRequests ConditionalName)) (reference : Reference)
     → IsPrincipalOrResource (fragment_requests ConditionalName positional_reference it) reference → reference.kind ≡ Entity
 requests_kind None reference none = absurd none
-requests_kind (Some it) reference requested =
-    ⊎_elim (positional_kind it.principals.items reference) (positional_kind it.resources.items reference) requested
+requests_kind (Some it) reference requested = elim requested [
+  | inl here ↦ positional_kind it.principals.items reference here
+  | inr there ↦ positional_kind it.resources.items reference there
+]
 
 -- so they are in a definition
 definition_kind : (it : ValidatorNamespaceDef ConditionalName ConditionalName) (reference : Reference)
@@ -74,20 +74,19 @@ definition_kind it reference requested =
     let actions = action_fragment_declarations ConditionalName positional_reference ConditionalName positional_reference
     it.actions in
     let declaration = requested.0 in
-    let P : Declaration → Type 0 = λ each. IsRequestedIn each.body reference in
-    ⊎_elim
-    (λ types. ⊎_elim
-    (λ here.
-    let def = Contains-preimage _ it.common_types.defs.items declaration here in
-    let none : ⊥ = subst P (sym def.2) requested.2 in absurd none)
-    (λ here.
-    let def = Contains-preimage _ it.entity_types.defs.items declaration here in
-    let none : ⊥ = subst P (sym def.2) requested.2 in absurd none)
-    (Contains-append_cases common entities declaration types))
-    (λ here.
-    let def = Contains-preimage _ it.actions.defs.items declaration here in
-    requests_kind def.0.fragment.requests reference (subst P (sym def.2) requested.2))
-    (Contains-append_cases (common ++ entities) actions declaration requested.1)
+    elim (Contains-append_cases (common ++ entities) actions declaration requested.1) [
+      | inl types ↦ elim (Contains-append_cases common entities declaration types) [
+        | inl here ↦
+            let def = Contains-preimage _ it.common_types.defs.items declaration here in
+            let none : ⊥ = rw (← def.2) at requested.2 in absurd none
+        | inr here ↦
+            let def = Contains-preimage _ it.entity_types.defs.items declaration here in
+            let none : ⊥ = rw (← def.2) at requested.2 in absurd none
+      ]
+      | inr here ↦
+          let def = Contains-preimage _ it.actions.defs.items declaration here in
+          requests_kind def.0.fragment.requests reference (rw (← def.2) at requested.2)
+    ]
 
 module _ (fragments : List (ValidatorSchemaFragment ConditionalName ConditionalName)) where
   -- and in fragments
@@ -107,7 +106,7 @@ module _ (fragments : List (ValidatorSchemaFragment ConditionalName ConditionalN
       fragment.0.definitions.items name fragment.2 in
       let def = Contains-preimage (λ each. type_name each.name) definition.0.entity_types.defs.items name definition.2
       in
-      let P : PlainName → Type 0 = λ each. ¬ IsReserved each in subst P def.2 def.0.name.0.unreserved
+      rw (← def.2) def.0.name.0.unreserved
 
   -- no type of an action that fragments declare is reserved
   action_unreserved : (uid : PlainUid) → Contains (declared_names ConditionalName ConditionalName fragments).actions
@@ -118,7 +117,7 @@ module _ (fragments : List (ValidatorSchemaFragment ConditionalName ConditionalN
       let definition = Contains-flat_map (λ each. (definition_names ConditionalName ConditionalName each).actions)
       fragment.0.definitions.items uid fragment.2 in
       let def = Contains-preimage (λ each. uid_of each.uid) definition.0.actions.defs.items uid definition.2 in
-      let P : PlainUid → Type 0 = λ each. ¬ IsReserved each.ty in subst P def.2 def.0.uid.ty.0.unreserved
+      rw (← def.2) def.0.uid.ty.0.unreserved
 
   -- no name of an entity type that is defined is reserved
   entity_unreserved : (extensions : Extensions) (name : PlainName)
@@ -126,16 +125,13 @@ module _ (fragments : List (ValidatorSchemaFragment ConditionalName ConditionalN
   entity_unreserved extensions name among =
       let bag = conditional_bag fragments in
       let are = names_are_declared ConditionalName positional_reference ConditionalName positional_reference fragments in
-      let P : List PlainName → Type 0 = λ names. Contains names name in
-      ⊎_elim
-      (λ declared. type_unreserved name (subst P (sym are.entities) declared))
-      (λ of_action.
-      let uid = Contains-preimage (λ (uid : PlainUid). uid.ty) (action_uids bag) name of_action in
-      let Q : List PlainUid → Type 0 = λ uids. Contains uids uid.0 in
-      let R : PlainName → Type 0 = λ each. ¬ IsReserved each in
-      subst R uid.2 (action_unreserved uid.0 (subst Q (sym are.actions) uid.1)))
-      (Contains-append_cases (map (λ it. it.0) (declared_entities bag)) (map (λ uid. uid.ty)
-      (action_uids bag)) name among)
+      elim (Contains-append_cases (map (λ it. it.0) (declared_entities bag)) (map (λ uid. uid.ty)
+      (action_uids bag)) name among) [
+        | inl declared ↦ type_unreserved name (rw are.entities declared)
+        | inr of_action ↦
+            let uid = Contains-preimage (λ (uid : PlainUid). uid.ty) (action_uids bag) name of_action in
+            rw uid.2 at (action_unreserved uid.0 (rw are.actions uid.1))
+      ]
 
   module _ (extensions : Extensions) (held : Names) (just : HoldsJust held (defined_names
       (conditional_bag fragments) extensions)) where
@@ -145,10 +141,10 @@ module _ (fragments : List (ValidatorSchemaFragment ConditionalName ConditionalN
     none_reserved reference name requested resolves =
         let names = defined_names (conditional_bag fragments) extensions in
         let found = (first_defined held reference.kind reference.possibilities name resolves).1 in
-        ⊎_elim
-        (λ common. absurd (names_no_common reference.kind (requested_kind reference requested) common.0))
-        (λ entity. entity_unreserved extensions name entity.1)
-        (defined_there held names just reference.kind name found)
+        elim (defined_there held names just reference.kind name found) [
+          | inl common ↦ absurd (names_no_common reference.kind (requested_kind reference requested) common.0)
+          | inr entity ↦ entity_unreserved extensions name entity.1
+        ]
 
     -- what can't be resolved is a fault of the bag, or memory ran out
     pub resolution_fault : (fault : Fault) → IsUnresolvableBag held (conditional_bag fragments) fault

@@ -1,5 +1,5 @@
 -- Over the same names, whatever their order and repeats, references and bags are resolved alike.
-use Rattle.std.proofs.Common.{Option, Some, None, inl, inr, ⊎_elim, Contains}
+use Rattle.std.proofs.Common.{Option, Some, None, inl, inr, Contains}
 use Rattle.cedar_below.specs.PlainName.{PlainName}
 use Rattle.cedar_below.specs.PlainUid.{PlainUid}
 use Rattle.cedar_declarations.proofs.ResolutionLemmas.{IsFirst-like}
@@ -18,21 +18,23 @@ use Rattle.cedar_names.specs.declared.json_schema.reference_type.ReferenceType.{
 module _ (held names : Names) (just : HoldsJust held names) where
   -- what is defined in the one is in the other
   pub defined_there : (kind : ReferenceType) (name : PlainName) → IsDefined held kind name → IsDefined names kind name
-  defined_there kind name found =
-      ⊎_elim
-      (λ common. inl (common.0, (just.common name).0 common.1)) (λ entity. inr (
-        entity.0,
-        (just.entities name).0 entity.1,
-      )) found
+  defined_there kind name found = elim found [
+    | inl common ↦ inl (common.0, (just.common name).0 common.1)
+    | inr entity ↦ inr (
+      entity.0,
+      (just.entities name).0 entity.1,
+    )
+  ]
 
   -- and the other way round
   defined_here : (kind : ReferenceType) (name : PlainName) → IsDefined names kind name → IsDefined held kind name
-  defined_here kind name found =
-      ⊎_elim
-      (λ common. inl (common.0, (just.common name).1 common.1)) (λ entity. inr (
-        entity.0,
-        (just.entities name).1 entity.1,
-      )) found
+  defined_here kind name found = elim found [
+    | inl common ↦ inl (common.0, (just.common name).1 common.1)
+    | inr entity ↦ inr (
+      entity.0,
+      (just.entities name).1 entity.1,
+    )
+  ]
 
   -- a reference resolves alike
   resolves_alike : (reference : Reference) (name : PlainName) → ResolvesTo held reference name

@@ -1,5 +1,5 @@
 -- Base names that stand alone among others.
-use Rattle.std.proofs.Common.{◌≡◌, ◌↔◌, Bool, true, List, IsTrue, Contains, refl, subst, sym}
+use Rattle.std.proofs.Common.{◌≡◌, ◌↔◌, Bool, true, List, IsTrue, Contains, refl}
 use Rattle.std.specs.Cmp.{both_ways}
 use Rattle.std.specs.Ordering.{is_eq}
 use Rattle.cedar_below.specs.Lists.{SameItems}
@@ -14,11 +14,10 @@ pub taken_is : (names : List PlainName) (word : Text) (answer : Bool) → IsTrue
     → is_taken names word ≡ answer
 taken_is names word answer is =
     let test : PlainName → Bool = λ name. is_eq (name_cmp (alias_name word) name) in
-    let P : PlainName → Type 0 = Contains names in
     both_ways (is_taken names word) answer
     (λ taken.
     let found = some_of test names taken in
-    is.1 (subst P (sym ((name_test (alias_name word) found.0).0 found.2)) found.1))
+    is.1 (rw ((name_test (alias_name word) found.0).0 found.2) found.1))
     (λ told. any_of test names (alias_name word) (is.0 told) ((name_test (alias_name word) (alias_name word)).1 refl))
 
 -- a base name is taken by the one names where it is by others, the same ones

@@ -1,5 +1,5 @@
 -- Entries of maps that are put in or taken out, and what they declare.
-use Rattle.std.proofs.Common.{◌≡◌, ◌≢◌, ◌++◌, Bool, true, false, cond, List, [], ◌∷◌, Option, Some, None, map, ap, sym, subst, ◌∙◌, refl, inl, inr, append_assoc, Contains, All}
+use Rattle.std.proofs.Common.{◌≡◌, ◌≢◌, ◌++◌, Bool, true, false, cond, List, [], ◌∷◌, Option, Some, None, map, ap, sym, ◌∙◌, refl, inl, inr, append_assoc, Contains, All}
 use Rattle.std.proofs.lemmas.Bool.{false≢true}
 use Rattle.std.proofs.lemmas.List.Elements.{All-cons, All-head, All-tail, Contains-append_left}
 use Rattle.std.proofs.lemmas.List.Sorted.{Contains-permutation, IsPermutation-append_comm, IsPermutation-append_left, IsPermutation-append_right, IsPermutation-cons, IsPermutation-middle, IsPermutation-refl, IsPermutation-sym, IsPermutation-to_front, IsPermutation-trans}
@@ -28,18 +28,15 @@ use Rattle.cedar_schema_writer.specs.Parts.{plain_namespace}
 pub namespace_tie : (namespace other : Option Name) → is_at (option_cmp ((name_ord.ghosts).cmp) namespace) other ≡ true
     → plain_namespace other ≡ plain_namespace namespace
 namespace_tie None None tie = refl
-namespace_tie None (Some other) tie = absurd (false≢true tie)
-namespace_tie (Some namespace) None tie = absurd (false≢true tie)
 namespace_tie (Some namespace) (Some other) tie =
     ap Some (sym ((name_test (plain_name namespace) (plain_name other)).0 (sym (ap is_eq (name_ord-name_cmp namespace other)) ∙ tie)))
+namespace_tie _ _ tie = absurd (false≢true tie)
 
 -- two lists before a third may change places
 pub moved_before : {A : Type 0} (xs ys zs : List A) → IsPermutation (xs ++ (ys ++ zs)) (ys ++ (xs ++ zs))
 moved_before {A} xs ys zs =
-    let P : List A → Type 0 = λ items. IsPermutation items (ys ++ (xs ++ zs)) in
-    let Q : List A → Type 0 = IsPermutation ((xs ++ ys) ++ zs) in
-    subst P (append_assoc xs ys zs) (subst Q (append_assoc ys xs zs) (IsPermutation-append_left zs (xs ++ ys) (ys ++ xs)
-    (IsPermutation-append_comm xs ys)))
+    rw (append_assoc ys xs zs, append_assoc xs ys zs) at (IsPermutation-append_left zs (xs ++ ys) (ys ++ xs)
+    (IsPermutation-append_comm xs ys))
 
 module _ {K X : Type 0} where
   -- what is found stands under a key that passes
@@ -69,8 +66,7 @@ module _ {K X : Type 0} where
           → (k : K) × (test k ≡ true) × IsPermutation (f (k, v) ++ flat_map f (cond b es (e ∷ remove_entry test es))) (f e ++ flat_map f es)
       by true is first others =
           let value : e.1 ≡ v = cc in
-          let P : X → Type 0 = λ it. IsPermutation (f (e.0, it) ++ flat_map f es) (f e ++ flat_map f es) in
-          (e.0, is, subst P value (IsPermutation-refl (f e ++ flat_map f es)))
+          (e.0, is, rw (← value) (IsPermutation-refl (f e ++ flat_map f es)))
       by false is later others =
           let there = others later in (
             there.0,
@@ -113,7 +109,7 @@ module _ {K X : Type 0} where
       by (test e.0) found (λ later. value_found P test es v later (All-tail P e.1 (map (λ (it : K × X). it.1) es) all))
     where
       by : (b : Bool) → cond b (Some e.1) (lookup test es) ≡ Some v → (lookup test es ≡ Some v → P v) → P v
-      by true first others = let value : e.1 ≡ v = cc in subst P value (All-head P e.1 (map (λ (it : K × X). it.1) es) all)
+      by true first others = let value : e.1 ≡ v = cc in rw value at (All-head P e.1 (map (λ (it : K × X). it.1) es) all)
       by false later others = others later
 
 -- lists with a part in the middle that has one item more have one item more
@@ -134,10 +130,7 @@ one_more_end front item middle more grown =
 pub shown_inserted : {K X A : Type 0} (f : K × X → A) (cmp : K → K → Ordering) (es : List (K × X)) (k : K) (v : X)
     → lookup (is_at (cmp k)) es ≡ None → IsPermutation (f (k, v) ∷ map f es) (map f (insert_entry cmp es k v))
 shown_inserted {A = A} f cmp es k v absent =
-    let P : List A → Type 0 = λ items. IsPermutation (f (k, v) ∷ items) (map f (insert_entry cmp es k v)) in
-    let Q : List A → Type 0 = IsPermutation (f (k, v) ∷ flat_map (λ entry. f entry ∷ []) es) in
-    subst P (flat_map_single f es)
-    (subst Q (flat_map_single f (insert_entry cmp es k v)) (given_inserted (λ entry. f entry ∷ []) cmp es k v absent))
+    rw (flat_map_single f (insert_entry cmp es k v), flat_map_single f es) at (given_inserted (λ entry. f entry ∷ []) cmp es k v absent)
 
 -- something is there after an insertion
 pub inserted-some : {K X : Type 0} (cmp : K → K → Ordering) (es : List (K × X)) (k : K) (v : X) → insert_entry cmp es k v ≢ []
@@ -145,20 +138,17 @@ inserted-some cmp [] k v = λ same. cc
 inserted-some cmp (e ∷ es) k v = by (cmp k e.0) where
   by : (r : Ordering) → match_ordering r ((k, v) ∷ e ∷ es) ((e.0, v) ∷ es) (e ∷ insert_entry cmp es k v) ≢ []
   by Less = λ same. cc
-  by Equal = λ same. cc
-  by Greater = λ same. cc
+  by _ = λ same. cc
 
 -- what something shows is something, with whatever before and behind it
 pub middle-some : {X A : Type 0} (f : X → A) (front back : List A) (xs : List X) → xs ≢ [] → (front ++ map f xs) ++ back ≢ []
 middle-some f [] back [] some = λ same. some refl
-middle-some f [] back (x ∷ xs) some = λ same. cc
-middle-some f (first ∷ front) back xs some = λ same. cc
+middle-some f _ back _ some = λ same. cc
 
 -- the same at the end
 pub end-some : {X A : Type 0} (f : X → A) (front : List A) (xs : List X) → xs ≢ [] → front ++ map f xs ≢ []
 end-some f [] [] some = λ same. some refl
-end-some f [] (x ∷ xs) some = λ same. cc
-end-some f (first ∷ front) xs some = λ same. cc
+end-some f _ _ some = λ same. cc
 
 -- a key under which nothing is shown that is there finds nothing
 pub absent_key : {K X : Type 0} (test : K → Bool) (es : List (K × X)) → ((k : K) (v : X) → test k ≡ true → ¬ Contains es (k, v))
@@ -180,9 +170,7 @@ module _ (old taken new : Definitions) (namespace : Option Name) (definition cha
   put_again absent is grown =
       let show : Option Name × NamespaceDefinition RawName → List Declaration =
       λ entry. raw_declarations (plain_namespace entry.0) entry.1 in
-      let P : Definitions → Type 0 = λ entries. IsPermutation (definitions_bag old ++ item ∷ []) (definitions_bag entries) in
-      subst P (sym is)
-      (IsPermutation-trans _ _ _ (IsPermutation-to_front (definitions_bag old) item)
+      rw is (IsPermutation-trans _ _ _ (IsPermutation-to_front (definitions_bag old) item)
       (IsPermutation-trans _ _ _ (IsPermutation-cons item _ _ (IsPermutation-sym _ _ was))
       (IsPermutation-trans _ _ _
       (IsPermutation-append_left (definitions_bag taken) (item ∷ raw_declarations (plain_namespace namespace) definition)
@@ -198,6 +186,5 @@ module _ (old taken new : Definitions) (namespace : Option Name) (definition cha
 
 -- what ties is equal
 pub tied : (order : Ordering) → is_eq order ≡ true → order ≡ Equal
-tied Less tie = absurd (false≢true tie)
 tied Equal tie = refl
-tied Greater tie = absurd (false≢true tie)
+tied _ tie = absurd (false≢true tie)

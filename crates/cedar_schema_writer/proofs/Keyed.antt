@@ -1,5 +1,5 @@
 -- Entries of maps, against what their keys stand for.
-use Rattle.std.proofs.Common.{◌≡◌, ◌↔◌, IsTrue, Bool, List, is_some, map, sym, subst, ◌∙◌, Contains}
+use Rattle.std.proofs.Common.{◌≡◌, ◌↔◌, IsTrue, Bool, List, is_some, map, sym, ◌∙◌, Contains}
 use Rattle.std.proofs.lemmas.Map.Made.{is_some-lookup}
 use Rattle.std.specs.BTreeMap.{is_at}
 use Rattle.std.specs.Map.{keys_of, lookup}
@@ -32,10 +32,9 @@ module _ {K V P Q : Type 0} (f : K → P) (plain : K × V → P × Q) (keyed : (
   pub found-named : (test : K → Bool) (name : P) → ((key : K) → IsTrue (test key) ↔ (f key ≡ name)) → (es : List (K × V))
       → IsTrue (is_some (lookup test es)) ↔ Contains (map (λ (it : P × Q). it.0) (map plain es)) name
   found-named test name decides es =
-      let found = found-key f test name decides es in
-      let R : List P → Type 0 = λ names. Contains names name in (
-        λ there. subst R (sym (names_of_keys f plain keyed es)) (found.0 there),
-        λ among. found.1 (subst R (names_of_keys f plain keyed es) among),
+      let found = found-key f test name decides es in (
+        λ there. rw (names_of_keys f plain keyed es) (found.0 there),
+        λ among. found.1 (rw (names_of_keys f plain keyed es) at among),
       )
 
 -- entity types tie where they have one name

@@ -1,5 +1,5 @@
 -- Kinds of entity types and actions that are written, and whether they can be.
-use Rattle.std.proofs.Common.{◌≡◌, ◌↔◌, List, [], ◌∷◌, Option, None, Some, map, ap, sym, subst, ◌∙◌, refl, inl, inr, ⊎_elim, arith, string_bytes, Contains}
+use Rattle.std.proofs.Common.{◌≡◌, ◌↔◌, List, [], ◌∷◌, Option, None, Some, map, ap, sym, subst, ◌∙◌, refl, inl, inr, arith, string_bytes, Contains}
 use Rattle.std.proofs.lemmas.Simd.{map-map}
 use Rattle.cedar_below.proofs.Lists.{Contains-cons, Contains-preimage}
 use Rattle.cedar_below.specs.PlainName.{PlainName}
@@ -30,7 +30,7 @@ module _ {A B : Type 0} (f : A → B) where
   pub images : (items : List A) (b : B) → Contains (map f items) b ↔ ((a : A) × Contains items a × (f a ≡ b))
   images items b = (
     Contains-preimage f items b,
-    λ of. let S : B → Type 0 = Contains (map f items) in subst S of.2 (Contains-image f items of.0 of.1),
+    λ of. rw of.2 at (Contains-image f items of.0 of.1),
   )
 
   -- images of the items of which one fact holds are those of the items of which another holds that is the same
@@ -62,9 +62,8 @@ module _ (names : Names) (namespace : Option PlainName) (IsAbove : PlainName →
       → ((ty : Ty) → tags ≡ Some ty → IsSoundType names namespace ty) → IsSoundKind names namespace IsAbove
       (standard_kind fields openness tags)
   sound_standard fields openness tags attributes tag_type =
-      let P : Ty → Type 0 = IsSoundType names namespace in
       record {
-        types = λ ty. ⊎_elim (λ record_type. subst P (sym record_type) attributes) (λ is. tag_type ty is);
+        types = λ ty. elim [ inl record_type ↦ rw record_type attributes | inr is ↦ tag_type ty is ];
         without_parents = λ no. absurd no;
       }
 
@@ -81,8 +80,7 @@ module _ (names : Names) (namespace : Option PlainName) (IsAbove : PlainName →
 pub written_names : (namespace : Option PlainName) (parents : List RawName)
     → AreFullNames namespace (λ upper. Contains (map raw_name parents) upper) (map (raw_reference namespace Entity) parents)
 written_names namespace parents =
-    let P : List Reference → Type 0 = AreFullNames namespace (λ upper. Contains (map raw_name parents) upper) in
-    subst P (map-map (full_name namespace) raw_name parents) (images (full_name namespace) (map raw_name parents))
+    rw (map-map (full_name namespace) raw_name parents) at (images (full_name namespace) (map raw_name parents))
 
 -- a parent of an action is the full uid that is written
 parent-same : (namespace : Option PlainName) (it : ActionEntityUID RawName)
@@ -116,7 +114,7 @@ pub enumerated_alone : (names : Names) (namespace : Option PlainName) (IsAbove :
     (choices : List Text) → kind ≡ enumerated_kind choices → IsSoundKind names namespace IsAbove kind → (upper : PlainName)
     → ¬ IsAbove upper
 enumerated_alone names namespace IsAbove kind choices is sound =
-    let P : EntityTypeKind → Type 0 = IsSoundKind names namespace IsAbove in (subst P is sound).without_parents tt
+    (rw is at sound).without_parents tt
 
 module _ (namespace : Option PlainName) where
   -- an action with a context is written for its requests
@@ -126,13 +124,9 @@ module _ (namespace : Option PlainName) where
       → AreRequestsWritten namespace kind
       (requests (map (raw_reference namespace Entity) principals) (map (raw_reference namespace Entity) resources) expr)
   defined_written (defined_action principal_types resource_types ty) principals resources context expr is these those written =
-      let same : ty ≡ context = cc in
-      let P : List PlainName → Type 0 = λ names. AreFullNames namespace (λ name. Contains names name) (map
-      (raw_reference namespace Entity) principals) in
-      let Q : List PlainName → Type 0 = λ names. AreFullNames namespace (λ name. Contains names name) (map
-      (raw_reference namespace Entity) resources) in (
-        subst P these (written_names namespace principals),
-        subst Q those (written_names namespace resources),
+      let same : ty ≡ context = cc in (
+        rw these at (written_names namespace principals),
+        rw those at (written_names namespace resources),
         ap (type_written namespace) same ∙ written,
       )
   defined_written external_action principals resources context expr is these those written = cc
@@ -150,10 +144,10 @@ module _ (namespace : Option PlainName) where
       → IsSoundAction names namespace kind
   sound_action names (defined_action principals resources ty) context is sound these those =
       let same : ty ≡ context = cc in
-      let P : Ty → Type 0 = IsSoundType names namespace in
+      let IsSound : Ty → Type 0 = IsSoundType names namespace in
       record {
-        context = λ it of. subst P (sym same ∙ of) sound;
-        no_other = λ name. ⊎_elim (these name) (those name);
+        context = λ it of. subst IsSound (sym same ∙ of) sound;
+        no_other = λ name. elim [ inl here ↦ these name here | inr there ↦ those name there ];
       }
   sound_action names external_action context is sound these those = cc
 

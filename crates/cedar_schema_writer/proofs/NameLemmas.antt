@@ -1,5 +1,5 @@
 -- Names within a namespace, and what names that are written in full would name.
-use Rattle.std.proofs.Common.{◌≡◌, ◌≢◌, ◌↔◌, ◌++◌, ◌≤◌, ◌<◌, ◌+◌, ◌-◌, ◌∙◌, Bool, true, false, not, IsTrue, IsSome, IfSome, map, take, length, get_or, arith, List, [], ◌∷◌, Option, None, Some, ap, sym, refl, inl, inr, subst, ⊎_elim, Contains}
+use Rattle.std.proofs.Common.{◌≡◌, ◌≢◌, ◌↔◌, ◌++◌, ◌≤◌, ◌<◌, ◌+◌, ◌-◌, ◌∙◌, Bool, true, false, not, IsTrue, IsSome, IfSome, map, take, length, get_or, arith, List, [], ◌∷◌, Option, None, Some, ap, sym, refl, inl, inr, Contains}
 use Rattle.std.proofs.lemmas.Bool.{false≢true}
 use Rattle.std.proofs.Math.Seq.{take-length}
 use Rattle.std.proofs.lemmas.List.{map_more}
@@ -27,21 +27,21 @@ ends_in-nil (first ∷ front) last same = cc
 -- a name within a namespace isn't reserved, where neither is
 pub within-unreserved : (namespace : PlainName) (base : Text) → ¬ IsReserved namespace → base ≢ reserved_word
     → ¬ IsReserved (name_within (Some namespace) base)
-within-unreserved namespace base unreserved allowed =
-    ⊎_elim
-    allowed
-    (λ among. ⊎_elim
-    (λ outer. unreserved (inr outer))
-    (λ last. unreserved (inl (Contains-single namespace.base reserved_word last)))
-    (Contains-append_cases namespace.path (namespace.base ∷ []) reserved_word among))
+within-unreserved namespace base unreserved allowed = elim [
+  | inl here ↦ allowed here
+  | inr among ↦ elim (Contains-append_cases namespace.path (namespace.base ∷ []) reserved_word among) [
+    | inl outer ↦ unreserved (inr outer)
+    | inr last ↦ unreserved (inl (Contains-single namespace.base reserved_word last))
+  ]
+]
 
 -- a namespace isn't reserved, where a name in it isn't
 pub path-unreserved : (base last : Text) (front : List Text) → ¬ IsReserved (record { base = base; path = front ++ last ∷ [] })
     → ¬ IsReserved (record { base = last; path = front })
-path-unreserved base last front unreserved =
-    ⊎_elim
-    (λ is. unreserved (inr (Contains-append_right' is)))
-    (λ outer. unreserved (inr (Contains-append_left front (last ∷ []) reserved_word outer)))
+path-unreserved base last front unreserved = elim [
+  | inl is ↦ unreserved (inr (Contains-append_right' is))
+  | inr outer ↦ unreserved (inr (Contains-append_left front (last ∷ []) reserved_word outer))
+]
   where
     Contains-append_right' : last ≡ reserved_word → Contains (front ++ last ∷ []) reserved_word
     Contains-append_right' is = Contains-append_right front (last ∷ []) reserved_word (Contains-cons last [] reserved_word (inl is))
@@ -54,9 +54,10 @@ module _ (names : Names) (namespace : PlainName) where
   no_other-within base [] is = (
     λ no_other there. ends_in-nil namespace.path namespace.base
         (ap (λ (name : PlainName). name.path) (no_other (name_within (Some namespace) base) (inl (refl, inr (tt, there))))),
-    λ none other. ⊎_elim
-        (λ first. absurd (⊎_elim (λ common. common.0) (λ it. none it.1) first.1))
-        (λ later. ⊎_elim (λ second. sym second.0) (λ no. absurd no.1) later.1),
+    λ none other. elim [
+      | inl first ↦ absurd (elim first.1 [ inl common ↦ common.0 | inr it ↦ none it.1 ])
+      | inr later ↦ elim later.1 [ inl second ↦ sym second.0 | inr third ↦ absurd third.1 ]
+    ],
   )
   no_other-within base (part ∷ path) is = cc
 
@@ -68,12 +69,13 @@ module _ (names : Names) (namespace : PlainName) where
     λ no_other there. ends_in-nil namespace.path namespace.base
         (ap (λ (uid : PlainUid). uid.ty.path)
         (no_other (record { ty = name_within (Some namespace) base; eid = eid }) (inl (refl, there), refl))),
-    λ none other names_it. ⊎_elim
-        (λ first. absurd (none first.1))
-        (λ later. ⊎_elim
-        (λ second. (λ i. let same : PlainName = sym second.0 i in let text : Text = names_it.1 i in record { ty = same; eid = text }))
-        (λ no. absurd no.1) later.1)
-        names_it.0,
+    λ none other names_it. elim names_it.0 [
+      | inl first ↦ absurd (none first.1)
+      | inr later ↦ elim later.1 [
+        | inl second ↦ (λ i. let same : PlainName = sym second.0 i in let text : Text = names_it.1 i in record { ty = same; eid = text })
+        | inr third ↦ absurd third.1
+      ]
+    ],
   )
   no_other_action-within base (part ∷ path) eid is = cc
 
@@ -106,7 +108,7 @@ one_namespace (Some namespace) (Some other) same =
 -- what holds in the namespace of a path holds in each namespace of that path
 pub in_each_namespace : (P : Option PlainName → Type 0) (namespace : Option PlainName) (path : List Text) → IsPathOf namespace path
     → P namespace → (other : Option PlainName) → IsPathOf other path → P other
-in_each_namespace P namespace path is holds other also = subst P (one_namespace namespace other (is ∙ sym also)) holds
+in_each_namespace P namespace path is holds other also = rw (one_namespace namespace other (is ∙ sym also)) at holds
 
 -- identifiers are all but the last, and then the last
 pub front_and_last : (ids : List Id) (base : Id) → 1 ≤ length ids → base ≡ get_or ids (length ids - 1) base

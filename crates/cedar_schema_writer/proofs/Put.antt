@@ -1,5 +1,5 @@
 -- Declarations that are put into a bag one after another.
-use Rattle.std.proofs.Common.{◌≡◌, ◌++◌, List, [], ◌∷◌, map, ap, sym, subst, ◌∙◌, refl, inl, ⊎_elim, append_assoc, arith, Contains}
+use Rattle.std.proofs.Common.{◌≡◌, ◌++◌, List, [], ◌∷◌, map, ap, sym, ◌∙◌, refl, inl, append_assoc, arith, Contains, inr}
 use Rattle.std.proofs.lemmas.List.{append-nil, map-append}
 use Rattle.std.proofs.lemmas.List.Elements.{Contains-append_cases, Contains-append_right}
 use Rattle.std.proofs.lemmas.List.Sorted.{Contains-permutation, IsPermutation-append_left, IsPermutation-refl, IsPermutation-sym, IsPermutation-trans}
@@ -39,7 +39,7 @@ module _ {A K : Type 0} (key : A → K) (R : A → Declaration → Type 0) (P : 
     once = once;
     put = [];
     turn = tt;
-    in_some_order = subst (λ items. IsPermutation items before) (sym (append-nil before)) (IsPermutation-refl before);
+    in_some_order = rw (append-nil before) (IsPermutation-refl before);
     sound = λ x none. absurd (omega (arith, none.1));
   }
 
@@ -51,25 +51,22 @@ module _ {A K : Type 0} {key : A → K} {R : A → Declaration → Type 0} {P : 
   -- the next is one of all
   pub put_here : Contains all x
   put_here =
-      let Q : List A → Type 0 = λ items. Contains items x in
-      subst Q (sym whole) (Contains-append_right so_far.done (x ∷ rest) x (Contains-cons x rest x (inl refl)))
+      rw whole (Contains-append_right so_far.done (x ∷ rest) x (Contains-cons x rest x (inl refl)))
 
   -- what was put in is a declaration of another item, with another key
   pub put_other : (it : Declaration) → Contains current it → ¬ Contains before it → (y : A) × R y it × ¬ (key y ≡ key x)
   put_other it among not_before =
       let back = Contains-permutation current (before ++ so_far.put) it (IsPermutation-sym _ _ so_far.in_some_order) among in
       let put : Contains so_far.put it =
-      ⊎_elim (λ there. absurd (not_before there)) (λ there. there) (Contains-append_cases before so_far.put it back) in
+      elim (Contains-append_cases before so_far.put it back) [ inl there ↦ absurd (not_before there) | inr there ↦ there ] in
       let found = turn_forth (λ (d : Declaration) (y : A). R y d) so_far.put so_far.done
       (turn_back R (λ (d : Declaration) (y : A). R y d) (λ y d holds. holds) so_far.done so_far.put so_far.turn) it put in (
         found.0,
         found.2,
         λ same.
-            let Q : List K → Type 0 = λ keys. Twice keys (key x) in
-            let S : K → Type 0 = Contains (map key so_far.done) in
-            so_far.once (key x) (subst Q (sym (ap (map key) whole ∙ map-append key so_far.done (x ∷ rest)))
+            so_far.once (key x) (rw (ap (map key) whole, map-append key so_far.done (x ∷ rest))
             (Twice-both (map key so_far.done) (key x ∷ map key rest) (key x)
-            (subst S same (Contains-image key so_far.done found.0 found.1))
+            (rw same at (Contains-image key so_far.done found.0 found.1))
             (Contains-cons (key x) (map key rest) (key x) (inl refl)))),
       )
 
@@ -83,13 +80,12 @@ module _ {A K : Type 0} {key : A → K} {R : A → Declaration → Type 0} {P : 
     put = so_far.put ++ it ∷ [];
     turn = pairwise_append R so_far.done (x ∷ []) so_far.put (it ∷ []) so_far.turn (holds, tt);
     in_some_order =
-        let Q : Bag → Type 0 = λ items. IsPermutation items after in
-        subst Q (append_assoc before so_far.put (it ∷ []))
+        rw (append_assoc before so_far.put (it ∷ [])) at
         (IsPermutation-trans _ _ _ (IsPermutation-append_left (it ∷ []) (before ++ so_far.put) current so_far.in_some_order) grown);
-    sound = λ y among. ⊎_elim
-        (λ there. so_far.sound y there)
-        (λ last. subst P (Contains-single x y last) sound)
-        (Contains-append_cases so_far.done (x ∷ []) y among);
+    sound = λ y among. elim (Contains-append_cases so_far.done (x ∷ []) y among) [
+      | inl there ↦ so_far.sound y there
+      | inr last ↦ rw (Contains-single x y last) at sound
+    ];
   }
 
 module _ {A K : Type 0} {key : A → K} {R : A → Declaration → Type 0} {P : A → Type 0} {before : Bag} {all left : List A} {current : Bag}
@@ -101,11 +97,11 @@ module _ {A K : Type 0} {key : A → K} {R : A → Declaration → Type 0} {P : 
   pub put_all : ArePut R all before current
   put_all = record {
     put = so_far.put;
-    turn = subst (λ items. HoldsPairwise R items so_far.put) same_items so_far.turn;
+    turn = rw same_items at so_far.turn;
     in_some_order = so_far.in_some_order;
   }
 
   -- and the fact holds of each
   pub put_sound : (x : A) → Contains all x → P x
   put_sound x among =
-      let Q : List A → Type 0 = λ items. Contains items x in so_far.sound x (subst Q (sym same_items) among)
+      so_far.sound x (rw same_items among)

@@ -1,5 +1,5 @@
 -- Why nothing is written, carried from a part to the whole.
-use Rattle.std.proofs.Common.{◌≡◌, Result, Ok, Err, IfErr, IsErrAnd, subst, sym}
+use Rattle.std.proofs.Common.{◌≡◌, Result, Ok, Err, IfErr, IsErrAnd}
 use Rattle.cedar_schema_writer.specs.Refusal.{Refuses}
 use Rattle.cedar_schema_writer.specs.declared.write_back_fault.WriteBackFault.{WriteBackFault}
 use Rattle.cedar_schema_writer.specs.declared.write_back_fault.WriteBackFault.TheVariants as fault
@@ -19,4 +19,4 @@ refusal_weaker P Q to (Err given) why = refuses_weaker P Q to given why
 pub refusal_passed : {A P Q : Type 0} (answer : Result A WriteBackFault) (given : WriteBackFault) → IsErrAnd answer (λ it. it ≡ given)
     → Refuses P given → (P → Q) → IfErr answer (Refuses Q)
 refusal_passed (Ok it) given is why to = tt
-refusal_passed {P = P} {Q = Q} (Err passed) given is why to = subst (Refuses Q) (sym is) (refuses_weaker P Q to given why)
+refusal_passed {P = P} {Q = Q} (Err passed) given is why to = rw is (refuses_weaker P Q to given why)

@@ -1,9 +1,8 @@
 -- Types that can be written, and attributes as they are written one after another.
-use Rattle.std.proofs.Common.{◌≡◌, ◌↔◌, ◌≤◌, ◌+◌, ◌++◌, ℕ, Bool, false, List, [], ◌∷◌, Option, Some, None, IsSome, map, ap, sym, subst, ◌∙◌, refl, inl, inr, ⊎_elim, append_assoc, arith, string_bytes}
+use Rattle.std.proofs.Common.{◌≡◌, ◌↔◌, ◌≤◌, ◌+◌, ◌++◌, ℕ, Bool, false, List, [], ◌∷◌, Option, Some, None, IsSome, map, ap, sym, subst, ◌∙◌, refl, inl, inr, append_assoc, arith, string_bytes}
 use Rattle.std.proofs.lemmas.List.{map-append}
 use Rattle.std.specs.BTreeMap.{insert_entry}
 use Rattle.std.specs.List.{AllByRecursion}
-use Rattle.std.specs.List.Sorted.{IsStrictlySortedBy}
 use Rattle.std.specs.Map.{keys_of}
 use Rattle.std.specs.Option.{option_map, option_zip}
 use Rattle.std.specs.String.{string_cmp}
@@ -49,10 +48,8 @@ some-map f (Some a) = (λ some. refl, λ some. refl)
 -- some pair is given exactly where there are both
 pub some-both : {A B C : Type 0} (f : A × B → C) (a : Option A) (b : Option B)
     → IsSome (option_map f (option_zip a b)) ↔ (IsSome a × IsSome b)
-some-both f None None = (λ some. absurd cc, λ both. absurd cc)
-some-both f None (Some b) = (λ some. absurd cc, λ both. absurd cc)
-some-both f (Some a) None = (λ some. absurd cc, λ both. absurd cc)
 some-both f (Some a) (Some b) = (λ some. (refl, refl), λ both. refl)
+some-both f _ _ = (λ some. absurd cc, λ both. absurd cc)
 
 -- what is none isn't something
 pub some-none : {A : Type 0} (a : Option A) → a ≡ None → ¬ IsSome a
@@ -108,7 +105,7 @@ module _ (names : Names) (namespace : Option PlainName) where
         ),
         λ sounds. record {
           written = all.1 (both.1 (sounds.0.written, others.0 sounds.1.written));
-          no_other = λ it. ⊎_elim (λ first. sounds.0.no_other it first) (λ later. sounds.1.no_other it later);
+          no_other = λ it. elim [ inl first ↦ sounds.0.no_other it first | inr later ↦ sounds.1.no_other it later ];
         },
       )
 
@@ -119,17 +116,16 @@ module _ (names : Names) (namespace : Option PlainName) where
   -- a union of one entity type can be written exactly if its name names no other
   pub sound-union : (union : List PlainName) (name : PlainName) → only_name union ≡ Some name
       → IsSoundType names namespace (union_of union) ↔ NamesNoOther names namespace name
-  sound-union [] name is = cc
   sound-union (first ∷ []) name is =
       let same : first ≡ name = cc in
-      let P : PlainName → Type 0 = NamesNoOther names namespace in (
-        λ sound. subst P same (sound.no_other first (Contains-cons first [] first (inl refl))),
+      let IsOnlyOne : PlainName → Type 0 = NamesNoOther names namespace in (
+        λ sound. rw same at (sound.no_other first (Contains-cons first [] first (inl refl))),
         λ no_other. record {
           written = refl;
-          no_other = λ it mentions. subst P (sym same ∙ Contains-single first it mentions) no_other;
+          no_other = λ it mentions. subst IsOnlyOne (sym same ∙ Contains-single first it mentions) no_other;
         },
       )
-  sound-union (first ∷ second ∷ others) name is = cc
+  sound-union _ name is = cc
 
   -- an extension type that has an expression can be written
   pub sound-extension : (name : PlainName) (expr : Expr) → type_written namespace (extension_of name) ≡ Some expr
@@ -150,20 +146,18 @@ module _ (names : Names) (namespace : Option PlainName) where
   -- at first none is
   pub attributes_none : (all left : Fields) (made : List (Text × (Bool × Expr))) → left ≡ all → made ≡ [] → AttributesSoFar all left made
   attributes_none all left made same nothing =
-      let P : Fields → Type 0 = λ fields. AttributesSoFar all fields made in
-      let Q : List (Text × (Bool × Expr)) → Type 0 = AttributesSoFar all all in
-      subst P (sym same) (subst Q (sym nothing) (record {
+      rw (same, nothing) (record {
         written = λ rest is. is ∙ ap Some (sym (before-none rest));
         sound = λ sound. sound;
         left_sound = λ sound. sound;
         names_split = refl;
         smaller = omega arith;
-      }))
+      })
 
   module _ (all left rest : Fields) (made : List (Text × (Bool × Expr))) (name : Text) (required : Bool) (ty : Ty)
       (is : left ≡ field name required ty rest) (so_far : AttributesSoFar all left made) where
     at : AttributesSoFar all (field name required ty rest) made
-    at = let P : Fields → Type 0 = λ fields. AttributesSoFar all fields made in subst P is so_far
+    at = rw is at so_far
 
     -- the type of the next can be written, where all can
     pub next_sound : AreSoundFields all → IsSoundType names namespace ty
@@ -177,9 +171,7 @@ module _ (names : Names) (namespace : Option PlainName) where
     pub next_above : IsSortedByName all → AllByRecursion (λ other. text_cmp name other ≡ Greater) (map (λ (item : Text × (Bool
         × Expr)). item.0) made)
     next_above up =
-        let P : List Text → Type 0 = IsStrictlySortedBy text_cmp in
-        above_front text_cmp-total (map (λ (item : Text × (Bool × Expr)). item.0) made) name (field_names rest) (subst P
-        (sym at.names_split) up)
+        above_front text_cmp-total (map (λ (item : Text × (Bool × Expr)). item.0) made) name (field_names rest) (rw at.names_split up)
 
     -- one more is written
     pub attributes_more : (expr : Expr) → type_written namespace ty ≡ Some expr → IsSoundType names namespace ty
@@ -204,7 +196,7 @@ module _ (names : Names) (namespace : Option PlainName) where
 
   module _ (all left : Fields) (made : List (Text × (Bool × Expr))) (nothing : left ≡ end) (so_far : AttributesSoFar all left made) where
     done : AttributesSoFar all end made
-    done = let P : Fields → Type 0 = λ fields. AttributesSoFar all fields made in subst P nothing so_far
+    done = rw nothing at so_far
 
     -- where none is left, all are written
     pub attributes_all : fields_written namespace all ≡ Some (members_from made)
@@ -221,8 +213,7 @@ pub above-keys : (name : Text) (key : String Global) (namespace : Option PlainNa
     → AllByRecursion (λ other. string_cmp key other ≡ Greater) (keys_of made)
 above-keys name key namespace [] same all = tt
 above-keys name key namespace (first ∷ rest) same all =
-    let P : Text → Type 0 = λ text. text_cmp text (string_bytes first.0) ≡ Greater in
-    (subst P (sym same) all.0, above-keys name key namespace rest same all.1)
+    (rw same all.0, above-keys name key namespace rest same all.1)
 
 -- an attribute that is put under such a key stands behind the others
 pub put-behind : (name : Text) (key : String Global) (namespace : Option PlainName) (made : List (String Global × TypeOfAttribute RawName))

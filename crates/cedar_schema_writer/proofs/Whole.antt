@@ -1,8 +1,7 @@
 -- A schema whose parts can be written, and are.
-use Rattle.std.proofs.Common.{◌≡◌, ◌↔◌, ◌++◌, List, [], ◌∷◌, Option, None, Some, map, ap, subst, refl, inl, inr, ⊎_elim, Contains}
+use Rattle.std.proofs.Common.{◌≡◌, ◌↔◌, ◌++◌, List, [], ◌∷◌, Option, None, Some, map, ap, refl, inl, inr, Contains}
 use Rattle.std.proofs.lemmas.List.Elements.{Contains-append_cases, Contains-append_left, Contains-append_right}
 use Rattle.std.proofs.lemmas.List.Sorted.{Contains-permutation, IsPermutation-append_left, IsPermutation-sym, IsPermutation-trans}
-use Rattle.std.specs.List.Sorted.{IsPermutation}
 use Rattle.cedar_below.proofs.Lists.{Contains-preimage}
 use Rattle.cedar_below.specs.EntityType.{type_name}
 use Rattle.cedar_below.specs.PlainName.{PlainName, IsActionType}
@@ -31,8 +30,8 @@ no_other-same : (names other : Names) → ((name : PlainName) → Contains names
     → (namespace : Option PlainName) (name : PlainName) → NamesNoOther names namespace name → NamesNoOther other namespace name
 no_other-same names other same namespace name no_other it resolves =
     no_other it (IsFirst-like (IsDefined other Entity) (IsDefined names Entity)
-    (λ each. ⊎_elim (λ common. absurd common.0) (λ of. inr (tt, (same each).1 of.1)))
-    (λ each. ⊎_elim (λ common. absurd common.0) (λ of. inr (tt, (same each).0 of.1)))
+    (λ each. elim [ inl common ↦ absurd common.0 | inr of ↦ inr (tt, (same each).1 of.1) ])
+    (λ each. elim [ inl common ↦ absurd common.0 | inr of ↦ inr (tt, (same each).0 of.1) ])
     (full_name namespace name).possibilities it resolves)
 
 -- each path is that of names in some namespace
@@ -47,7 +46,7 @@ namespace_of_path (first ∷ rest) = by (namespace_of_path rest) where
 of_key : {A K : Type 0} (key : A → K) (items : List A) (P : K → Type 0) → ((it : A) → Contains items it → P (key it))
     → (k : K) → Contains (map key items) k → P k
 of_key key items P each k among =
-    let found = Contains-preimage key items k among in subst P found.2 (each found.0 found.1)
+    let found = Contains-preimage key items k among in rw found.2 at (each found.0 found.1)
 
 -- what is known is the schema's, where the types of actions are collected
 module _ (known : Known) (exact : (name : PlainName) → Contains (map type_name known.action_types.now.keys) name
@@ -58,14 +57,14 @@ module _ (known : Known) (exact : (name : PlainName) → Contains (map type_name
       let types = map (λ (it : PlainName × SchemaEntityType). it.0) (known_schema known).entity_types in
       let collected = map type_name known.action_types.now.keys in
       let of_actions = map (λ (it : PlainUid × SchemaAction). it.0.ty) (known_schema known).actions in (
-        λ among. ⊎_elim
-            (λ there. Contains-append_left types of_actions name there)
-            (λ there. Contains-append_right types of_actions name ((exact name).0 there))
-            (Contains-append_cases types collected name among),
-        λ among. ⊎_elim
-            (λ there. Contains-append_left types collected name there)
-            (λ there. Contains-append_right types collected name ((exact name).1 there))
-            (Contains-append_cases types of_actions name among),
+        λ among. elim (Contains-append_cases types collected name among) [
+          | inl there ↦ Contains-append_left types of_actions name there
+          | inr there ↦ Contains-append_right types of_actions name ((exact name).0 there)
+        ],
+        λ among. elim (Contains-append_cases types of_actions name among) [
+          | inl there ↦ Contains-append_left types collected name there
+          | inr there ↦ Contains-append_right types collected name ((exact name).1 there)
+        ],
       )
 
   to_schema : (namespace : Option PlainName) (name : PlainName) → NamesNoOther (known_names known) namespace name
@@ -103,19 +102,18 @@ module _ (known : Known) (exact : (name : PlainName) → Contains (map type_name
     -- where each part can be written, the schema can
     pub parts_writable : IsWritable (parts_schema known.entity_types.now.entries known.actions.now.entries entities)
     parts_writable = record {
-      types = λ namespace ty. ⊎_elim
-          (λ of. (((type_sound of.0 of.1).kind namespace of.2).types ty of.3).written)
-          (λ of. (((action_sound of.0 of.1).kind namespace of.2).context ty of.3).written);
-      names = λ namespace name written. to_schema namespace name (⊎_elim
-          (λ in_type. ⊎_elim
-          (λ of. (((type_sound of.0 of.1).kind namespace of.2).types in_type.0 of.3).no_other name in_type.2)
-          (λ of. (((action_sound of.0 of.1).kind namespace of.2).context in_type.0 of.3).no_other name in_type.2)
-          in_type.1)
-          (λ others. ⊎_elim
-          (λ above. type_above namespace above.0 name above.1 above.2)
-          (λ of. ((action_sound of.0 of.1).kind namespace of.2).no_other name of.3)
-          others)
-          written);
+      types = λ namespace ty. elim [
+        | inl of ↦ (((type_sound of.0 of.1).kind namespace of.2).types ty of.3).written
+        | inr of ↦ (((action_sound of.0 of.1).kind namespace of.2).context ty of.3).written
+      ];
+      names = λ namespace name written. to_schema namespace name (elim written [
+        | inl in_type ↦ elim in_type.1 [
+          | inl of ↦ (((type_sound of.0 of.1).kind namespace of.2).types in_type.0 of.3).no_other name in_type.2
+          | inr of ↦ (((action_sound of.0 of.1).kind namespace of.2).context in_type.0 of.3).no_other name in_type.2
+        ]
+        | inr (inl above) ↦ type_above namespace above.0 name above.1 above.2
+        | inr (inr of) ↦ ((action_sound of.0 of.1).kind namespace of.2).no_other name of.3
+      ]);
       uids = λ namespace uid above. action_above namespace above.0 uid above.1 above.2;
       action_types = λ uid has.
           of_key (λ (it : PlainUid × SchemaAction). it.0) (known_schema known).actions (λ key. IsActionType key.ty)
@@ -166,10 +164,10 @@ no_action schema before after nothing put namespace id body among =
     let item = action_declared namespace id body in
     let back = Contains-permutation after (before ++ put.put) item (IsPermutation-sym _ _ put.in_some_order) among in
     let there : Contains put.put item =
-    ⊎_elim (λ no. absurd (none_there before item nothing no)) (λ yes. yes) (Contains-append_cases before put.put item back) in
-    let S : Declaration → PlainName × SchemaEntityType → Type 0 = λ declaration it. IsTypeDeclaration schema it declaration in
-    let found = turn_forth S put.put schema.entity_types
-    (turn_back (IsTypeDeclaration schema) S (λ it declaration is. is) schema.entity_types put.put put.turn) item there in
+    elim (Contains-append_cases before put.put item back) [ inl old ↦ absurd (none_there before item nothing old) | inr new ↦ new ] in
+    let Declares : Declaration → PlainName × SchemaEntityType → Type 0 = λ declaration it. IsTypeDeclaration schema it declaration in
+    let found = turn_forth Declares put.put schema.entity_types
+    (turn_back (IsTypeDeclaration schema) Declares (λ it declaration is. is) schema.entity_types put.put put.turn) item there in
     let same = found.2.declares in cc
 
 -- where the declarations of the entity types and those of the actions are put in, the schema is converted back
@@ -179,7 +177,6 @@ pub parts_written : (known : Known) (entities : List ActionEntity) (before middl
     → IsConvertedBack (parts_schema known.entity_types.now.entries known.actions.now.entries entities) after
 parts_written known entities before middle after nothing types actions =
     let schema = parts_schema known.entity_types.now.entries known.actions.now.entries entities in
-    let P : Bag → Type 0 = λ items. IsPermutation (items ++ types.put) middle in
     record {
       entity_types = types.put;
       actions = actions.put;
@@ -198,5 +195,5 @@ parts_written known entities before middle after nothing types actions =
           (known_schema known).actions actions.put actions.turn;
       in_some_order =
           IsPermutation-trans _ _ _ (IsPermutation-append_left actions.put types.put middle
-          (subst P nothing types.in_some_order)) actions.in_some_order;
+          (rw nothing at types.in_some_order)) actions.in_some_order;
     }

@@ -1,5 +1,5 @@
 -- Items that are written one after another.
-use Rattle.std.proofs.Common.{◌≡◌, ◌++◌, List, [], ◌∷◌, ap, sym, subst, ◌∙◌, refl, inl, ⊎_elim, append_assoc, arith, Contains}
+use Rattle.std.proofs.Common.{◌≡◌, ◌++◌, List, [], ◌∷◌, ap, sym, ◌∙◌, refl, inl, append_assoc, arith, Contains, inr}
 use Rattle.std.proofs.lemmas.List.{append-nil}
 use Rattle.std.proofs.lemmas.List.Elements.{Contains-append_cases, Contains-append_right}
 use Rattle.cedar_below.proofs.Lists.{Contains-cons}
@@ -13,8 +13,7 @@ pub record WrittenSoFar {A : Type 0} (P : A → Type 0) (all written left : List
 -- nothing stands in an empty list
 pub none_there : {A : Type 0} (items : List A) (x : A) → items ≡ [] → ¬ Contains items x
 none_there {A} items x nothing among =
-    let Q : List A → Type 0 = λ others. Contains others x in
-    let none : Contains [] x = subst Q nothing among in omega (arith, none.1)
+    let none : Contains [] x = rw nothing at among in omega (arith, none.1)
 
 module _ {A : Type 0} (P : A → Type 0) (all : List A) where
   -- at first none is
@@ -28,8 +27,7 @@ module _ {A : Type 0} (P : A → Type 0) (all : List A) where
     -- the next is one of all
     pub written_here : Contains all x
     written_here =
-        let Q : List A → Type 0 = λ items. Contains items x in
-        subst Q (sym (so_far.split ∙ ap (λ others. written ++ others) is))
+        rw (so_far.split, ap (λ others. written ++ others) is)
         (Contains-append_right written (x ∷ rest) x (Contains-cons x rest x (inl refl)))
 
     -- one more is written
@@ -38,11 +36,10 @@ module _ {A : Type 0} (P : A → Type 0) (all : List A) where
       split = so_far.split ∙ (ap (λ others. written ++ others) is ∙ (sym (append_assoc written (x ∷ []) rest)
           ∙ ap (λ items. items ++ rest) (sym grown)));
       sound = λ y among.
-          let Q : List A → Type 0 = λ items. Contains items y in
-          ⊎_elim
-          (λ before. so_far.sound y before)
-          (λ last. subst P (Contains-single x y last) here)
-          (Contains-append_cases written (x ∷ []) y (subst Q grown among));
+          elim (Contains-append_cases written (x ∷ []) y (rw grown at among)) [
+            | inl before ↦ so_far.sound y before
+            | inr last ↦ rw (Contains-single x y last) at here
+          ];
     }
 
   -- where none is left, all are written
@@ -52,5 +49,4 @@ module _ {A : Type 0} (P : A → Type 0) (all : List A) where
   -- and the fact holds of each
   pub each_sound : (written left : List A) → left ≡ [] → WrittenSoFar P all written left → (x : A) → Contains all x → P x
   each_sound written left nothing so_far x among =
-      let Q : List A → Type 0 = λ items. Contains items x in
-      so_far.sound x (subst Q (sym (written_all written left nothing so_far)) among)
+      so_far.sound x (rw (written_all written left nothing so_far) among)

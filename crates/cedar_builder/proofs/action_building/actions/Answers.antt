@@ -1,26 +1,19 @@
-use Rattle.std.proofs.Common.{◌≡◌, ◌⊎◌, map, subst, ap, ◌∙◌, Contains}
-use Rattle.std.proofs.lemmas.Result.{err_from_is_err_and}
-use Rattle.cedar_schema_elements.specs.declared.action_id.ValidatorActionId.{ValidatorActionId}
+use Rattle.std.proofs.Common.{map, ap, ◌∙◌}
 use Rattle.cedar_below.specs.EntityUID.{uid_of}
-use Rattle.cedar_below.specs.PlainUid.{PlainUid}
 use Rattle.cedar_below.proofs.Uids.{entity_uid_eq-same, entity_uid_ord-Equal}
 use Rattle.cedar_below.specs.contracts.entity_uid.EntityUIDEq.TheImpl as uid_equal
 use Rattle.cedar_below.specs.contracts.entity_uid.EntityUIDOrd.TheImpl as uid_ord
 use Rattle.cedar_schema_elements.specs.ValidatorActionId.{IsLocatedAsKey}
-use Rattle.cedar_below.specs.declared.entity_uid.EntityUID.{EntityUID}
-use Rattle.cedar_below.specs.declared.extension.Extensions.{Extensions}
 use Rattle.cedar_graph.proofs.MovedMaps.{moved_each, tests_tied}
-use Rattle.cedar_declarations.specs.Bag.{Bag}
-use Rattle.cedar_declarations.specs.Fault.{out_of_memory}
-use Rattle.cedar_declarations.specs.IllFormed.{IsFault}
 use Rattle.cedar_declarations.specs.SchemaError.{fault_of}
 use Rattle.cedar_builder.proofs.ActionParents.{AreEdges, listed}
 use Rattle.cedar_builder.proofs.NodesLinked.{entry_at_node, node_has_entry}
 use Rattle.cedar_builder.proofs.ActionsReady.{certain, declared_at, collecting_fault, linking_fault, ready_to_link, stands_after}
-use Rattle.cedar_builder.specs.ActionsReady.{AreActionsOf}
 use Rattle.cedar_builder.specs.DeclaredNodes.{parents_in}
+use Rattle.cedar_fragments.proofs.FragmentLemmas.{exit_holds}
 use Rattle.cedar_builder.proofs.action_building.actions.Goals as goal
 
+-- what is collected and then linked is what the bag declares
 pub returns-clause-declared : goal.returns-clause-declared
 returns-clause-declared c = λ bag extensions ready.
     let declared = c.args.declared.items in
@@ -38,7 +31,6 @@ returns-clause-declared c = λ bag extensions ready.
     c.in_ok-edges.ensures.edges ∙ ap (λ items. parents_in (map listed items)) c.deref.ensures.value in
     let linked =
     c.in_ok-linked.ensures.linked (ready_to_link bag extensions declared types scope ready before collected once edges are) in
-    let Q : PlainUid → Type 0 = Contains (map (λ (it : EntityUID × ValidatorActionId). uid_of it.0) actions.entries) in
     record {
       each = λ uid it among.
           declared_at bag extensions declared types scope ready before collected once edges are after linked uid it
@@ -46,10 +38,11 @@ returns-clause-declared c = λ bag extensions ready.
           uid it among);
       complete = λ uid among.
           let found = stands_after bag extensions declared types scope ready before collected once edges are after linked uid among in
-          subst Q found.1 (node_has_entry (uid_ord.ghosts).cmp uid_equal.Laws.laws-law uid_of entity_uid_eq-same entity_uid_ord-Equal
+          rw found.1 at (node_has_entry (uid_ord.ghosts).cmp uid_equal.Laws.laws-law uid_of entity_uid_eq-same entity_uid_ord-Equal
           after unique actions made found.0 found.2);
     }
 
+-- the same steps tell what is certain of the declarations
 pub returns-clause-sound : goal.returns-clause-sound
 returns-clause-sound c = λ bag extensions ready.
     let declared = c.args.declared.items in
@@ -66,18 +59,17 @@ returns-clause-sound c = λ bag extensions ready.
     certain bag extensions declared types scope ready before collected once edges are c.in_ok-linked.linked linked
     c.in_ok-nodes.ensures.sound
 
+-- a refused declaration is a fault of the bag
 pub returns-in_err-nodes-clause-fault : goal.returns-in_err-nodes-clause-fault
 returns-in_err-nodes-clause-fault c =
     let declared = c.args.declared.items in
     let types = c.args.entity_types.now in
     let scope = c.args.scope.now in
     let fault = fault_of c.in_err-nodes.field-0.0 in
-    let at_fault : (bag : Bag) (extensions : Extensions) → AreActionsOf bag extensions declared types scope
-    → (fault ≡ out_of_memory) ⊎ IsFault bag extensions fault =
-    λ bag extensions ready. collecting_fault bag extensions declared types scope ready fault c.in_err-nodes.ensures.fault in
-    let p = err_from_is_err_and c.from_residual-in_err-nodes.result c.from_residual-in_err-nodes.ensures.1 in
-    rw (p.1, p.2) at_fault
+    exit_holds _ _ _ c.from_residual-in_err-nodes.ensures.1
+    (λ bag extensions ready. collecting_fault bag extensions declared types scope ready fault c.in_err-nodes.ensures.fault)
 
+-- so is a refused edge
 pub returns-in_err-linked-clause-fault : goal.returns-in_err-linked-clause-fault
 returns-in_err-linked-clause-fault c =
     let declared = c.args.declared.items in
@@ -90,13 +82,11 @@ returns-in_err-linked-clause-fault c =
     let fault = fault_of c.in_err-linked.field-0.0 in
     let are : AreEdges declared edges =
     c.in_ok-edges.ensures.edges ∙ ap (λ items. parents_in (map listed items)) c.deref.ensures.value in
-    let at_fault : (bag : Bag) (extensions : Extensions) → AreActionsOf bag extensions declared types scope
-    → (fault ≡ out_of_memory) ⊎ IsFault bag extensions fault =
-    λ bag extensions ready. linking_fault bag extensions declared types scope ready before collected once edges are fault
-    (c.in_err-linked.ensures.fault (ready_to_link bag extensions declared types scope ready before collected once edges are)) in
-    let p = err_from_is_err_and c.from_residual-in_err-linked.result c.from_residual-in_err-linked.ensures.1 in
-    rw (p.1, p.2) at_fault
+    exit_holds _ _ _ c.from_residual-in_err-linked.ensures.1
+    (λ bag extensions ready. linking_fault bag extensions declared types scope ready before collected once edges are fault
+    (c.in_err-linked.ensures.fault (ready_to_link bag extensions declared types scope ready before collected once edges are)))
 
+-- each action keeps the location of its uid
 pub returns-clause-located : goal.returns-clause-located
 returns-clause-located c =
     let after = c.in_ok-linked.linked in

@@ -1,13 +1,9 @@
-use Rattle.std.proofs.Common.{◌≡◌, true, refl, inr, ap, subst}
-use Rattle.cedar_below.specs.Chain.{Chain}
+use Rattle.std.proofs.Common.{◌≡◌, refl, inr, ap}
 use Rattle.cedar_below.specs.EntityUID.{uid_of}
-use Rattle.cedar_below.specs.declared.entity_uid.EntityUID.{EntityUID}
 use Rattle.cedar_graph.proofs.AddedEdges.{alike_weaker}
-use Rattle.cedar_graph.specs.TcError.{IsRefusal}
-use Rattle.cedar_graph.specs.declared.tc_error.TcError.{TcError}
 use Rattle.cedar_schema_elements.specs.ActionKind.{plain_kind}
 use Rattle.cedar_schema_elements.specs.declared.action_id.ValidatorActionId.{ValidatorActionId}
-use Rattle.cedar_builder.specs.ActionNodes.{IsAbove, SameAction, node_at}
+use Rattle.cedar_builder.specs.ActionNodes.{SameAction, node_at}
 use Rattle.cedar_builder.proofs.action_links.linked_nodes.Goals as goal
 
 pub returns-in-Ok-clause-linked : goal.returns-in-Ok-clause-linked
@@ -23,8 +19,7 @@ returns-in-Ok-clause-linked c = λ ready.
 pub returns-in-Err-HasCycle-clause-fault : goal.returns-in-Err-HasCycle-clause-fault
 returns-in-Err-HasCycle-clause-fault c = λ ready.
     let uid = c.in-Err-HasCycle.uid in
-    let P : TcError EntityUID → Type 0 = IsRefusal (Chain (IsAbove c.args.edges.items)) true in
-    inr (uid, refl, (subst P c.in-Err-HasCycle.field-0-is (c.in-Err-HasCycle.ensures.fault ready)).1)
+    inr (uid, refl, (rw c.in-Err-HasCycle.field-0-is at (c.in-Err-HasCycle.ensures.fault ready)).1)
 
 pub returns-in-Ok-clause-located : goal.returns-in-Ok-clause-located
 returns-in-Ok-clause-located c = λ located entry among. c.in-Ok.ensures.located located entry among

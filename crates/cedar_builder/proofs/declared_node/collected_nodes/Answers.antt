@@ -1,12 +1,13 @@
-use Rattle.std.proofs.Common.{arith, ap, inl, map, ⊎_elim}
+use Rattle.std.proofs.Common.{arith, ap, inl, map, inr}
 use Rattle.std.proofs.lemmas.List.{nil_from_length}
-use Rattle.std.proofs.lemmas.Result.{err_from_is_err_and}
 use Rattle.cedar_declarations.specs.SchemaError.{fault_of}
 use Rattle.cedar_graph.proofs.MovedMaps.{empty_lacks}
 use Rattle.cedar_builder.proofs.NodesCollected.{all_collected, all_once, all_sound, collected_more, collected_none, next_fault, twice_fault}
-use Rattle.cedar_builder.specs.DeclaredNodes.{IsCollectingFault, named}
+use Rattle.cedar_builder.specs.DeclaredNodes.{named}
+use Rattle.cedar_fragments.proofs.FragmentLemmas.{exit_holds}
 use Rattle.cedar_builder.proofs.declared_node.collected_nodes.Goals as goal
 
+-- at first no declaration is collected
 pub loop-name-init : goal.loop-name-init
 loop-name-init g c =
     let node = g.V.SchemaNode in
@@ -18,6 +19,7 @@ loop-name-init g c =
       λ entry among. empty_lacks (λ each. node.IsLocatedAs each.0 each.1) _ c.new-nodes.ensures.empty entry among,
     )
 
+-- one more declaration is collected
 pub loop-name-preserved : goal.loop-name-preserved
 loop-name-preserved g c =
     let node = g.V.SchemaNode in
@@ -31,6 +33,7 @@ loop-name-preserved g c =
       c.in_ok-put_node.ensures.located c.loop-name.invariant.1,
     )
 
+-- a declaration that gives no node is at fault
 pub returns-in_err-node-clause-fault : goal.returns-in_err-node-clause-fault
 returns-in_err-node-clause-fault g c =
     let node = g.V.SchemaNode in
@@ -38,13 +41,12 @@ returns-in_err-node-clause-fault g c =
     let entries = map (named node.key_name is.body_of) in
     let scope = c.args.scope.now in
     let fault = fault_of c.in_err-node.field-0.0 in
-    let at_fault : IsCollectingFault is.is_definition node.key_name (is.IsBodyFault scope) node.duplicate_fault (entries c.args.declared.items) fault =
-    next_fault is.is_definition node.IsExternal node.node_name (is.Gives scope) g.K.PartialEq.eq node.key_name (is.IsSound scope)
+    exit_holds _ _ _ c.from_residual.ensures.1
+    (next_fault is.is_definition node.IsExternal node.node_name (is.Gives scope) g.K.PartialEq.eq node.key_name (is.IsSound scope)
     g.met.V.SchemaNode.same_key (entries c.args.declared.items) c.loop-name.nodes _ _ c.in-Some.name (is.body_of c.in-Some.fragment)
-    (ap entries c.in-Some.ensures.steps.0) c.loop-name.invariant.0 (is.IsBodyFault scope) node.duplicate_fault fault c.in_err-node.ensures.fault in
-    let p = err_from_is_err_and c.from_residual.result c.from_residual.ensures.1 in
-    rw (p.1, p.2) at_fault
+    (ap entries c.in-Some.ensures.steps.0) c.loop-name.invariant.0 (is.IsBodyFault scope) node.duplicate_fault fault c.in_err-node.ensures.fault)
 
+-- so is a second definition of a name
 pub returns-in_err-put_node-clause-fault : goal.returns-in_err-put_node-clause-fault
 returns-in_err-put_node-clause-fault g c =
     let node = g.V.SchemaNode in
@@ -52,19 +54,17 @@ returns-in_err-put_node-clause-fault g c =
     let entries = map (named node.key_name is.body_of) in
     let scope = c.args.scope.now in
     let fault = fault_of c.in_err-put_node.field-0.0 in
-    let at_fault : IsCollectingFault is.is_definition node.key_name (is.IsBodyFault scope) node.duplicate_fault (entries c.args.declared.items) fault =
-    ⊎_elim
-    (λ wanting. inl wanting)
-    (λ twice.
-    twice_fault is.is_definition node.IsExternal node.node_name (is.Gives scope) g.K.PartialEq.eq node.key_name (is.IsSound scope)
-    g.met.V.SchemaNode.same_key (entries c.args.declared.items) c.loop-name.nodes _ _ c.in-Some.name (is.body_of c.in-Some.fragment)
-    (ap entries c.in-Some.ensures.steps.0) c.loop-name.invariant.0 c.loop-name.nodes c.in_ok-node.node c.in_ok-node.ensures.name
-    c.in_ok-node.ensures.gives c.in_ok-node.ensures.external (is.IsBodyFault scope) node.duplicate_fault fault twice.0 twice.2.0 twice.2.1
-    twice.2.2 twice.1)
-    c.in_err-put_node.ensures.fault in
-    let p = err_from_is_err_and c.from_residual-in_err-put_node.result c.from_residual-in_err-put_node.ensures.1 in
-    rw (p.1, p.2) at_fault
+    exit_holds _ _ _ c.from_residual-in_err-put_node.ensures.1
+    (elim c.in_err-put_node.ensures.fault [
+      | inl wanting ↦ inl wanting
+      | inr twice ↦ twice_fault is.is_definition node.IsExternal node.node_name (is.Gives scope) g.K.PartialEq.eq node.key_name (is.IsSound scope)
+          g.met.V.SchemaNode.same_key (entries c.args.declared.items) c.loop-name.nodes _ _ c.in-Some.name (is.body_of c.in-Some.fragment)
+          (ap entries c.in-Some.ensures.steps.0) c.loop-name.invariant.0 c.loop-name.nodes c.in_ok-node.node c.in_ok-node.ensures.name
+          c.in_ok-node.ensures.gives c.in_ok-node.ensures.external (is.IsBodyFault scope) node.duplicate_fault fault twice.0 twice.2.0 twice.2.1
+          twice.2.2 twice.1
+    ])
 
+-- at the end at each name stands what its declarations say together
 pub returns-clause-collected : goal.returns-clause-collected
 returns-clause-collected g c =
     let node = g.V.SchemaNode in
@@ -74,6 +74,7 @@ returns-clause-collected g c =
     (is.IsSound c.args.scope.now) g.met.V.SchemaNode.same_key (entries c.args.declared.items) c.loop-name.nodes _
     (ap entries (nil_from_length _ (omega (arith, c.in-None.ensures.steps.0, c.loop-name.name-iterator.rest.ok.0)))) c.loop-name.invariant.0
 
+-- no name is defined twice
 pub returns-clause-once : goal.returns-clause-once
 returns-clause-once g c =
     let node = g.V.SchemaNode in
@@ -83,6 +84,7 @@ returns-clause-once g c =
     (is.IsSound c.args.scope.now) g.met.V.SchemaNode.same_key (entries c.args.declared.items) c.loop-name.nodes _
     (ap entries (nil_from_length _ (omega (arith, c.in-None.ensures.steps.0, c.loop-name.name-iterator.rest.ok.0)))) c.loop-name.invariant.0
 
+-- and each declaration is sound
 pub returns-clause-sound : goal.returns-clause-sound
 returns-clause-sound g c =
     let node = g.V.SchemaNode in

@@ -4,6 +4,7 @@ use Rattle.cedar_builder.proofs.NodesPut.{at_another, at_its_own, defined_at, pu
 use Rattle.cedar_builder.proofs.declared_node.put_node.Goals as goal
 use Rattle.cedar_builder.proofs.declared_node.put_node.Goals.{in-Some+else-is_external+else-not-is_external, in_default}
 
+-- an external declaration of a name that is there changes nothing
 pub returns-then-is_external-clause-put : goal.returns-then-is_external-clause-put
 returns-then-is_external-clause-put g c = λ key same.
     let is = g.V.SchemaNode in
@@ -11,6 +12,7 @@ returns-then-is_external-clause-put g c = λ key same.
     c.args.nodes.now c.name.result.now key c.args.node c.name.ensures.name same c.in-Some.old.now (sym c.in-Some.ensures.value)
     (c.is_external.ensures.0 c.if-is_external.true)
 
+-- two definitions of a name are a duplicate
 pub returns-then-not-is_external-clause-fault : goal.returns-then-not-is_external-clause-fault
 returns-then-not-is_external-clause-fault g c = inr (
   c.duplicate.ensures ∙ ap g.V.SchemaNode.duplicate_fault (c.in_ok-copy_name.ensures.name ∙ c.name-then-not-is_external.ensures.name),
@@ -23,6 +25,7 @@ returns-then-not-is_external-clause-fault g c = inr (
   ),
 )
 
+-- what stands at other names stays
 pub returns-clause-other : goal.returns-clause-other
 returns-clause-other g c = λ key apart.
     let is = g.V.SchemaNode in
@@ -30,6 +33,7 @@ returns-clause-other g c = λ key apart.
     c.remove-external.new.self c.insert.new.self c.in_ok-name.name c.args.node (c.in_ok-name.ensures.name ∙ c.name-2.ensures.name)
     c.remove-external.ensures.updates.0 c.in_ok-insert.ensures.updates.0 key apart
 
+-- a definition takes the place of an external declaration, or is the first
 pub returns-clause-put : goal.returns-clause-put
 returns-clause-put g c = λ key same.
     let is = g.V.SchemaNode in
@@ -47,6 +51,7 @@ returns-clause-put g c = λ key same.
           key c.args.node c.name.ensures.name same (sym (rw w.in_default.is at c.get.ensures.value)) _ after
     ]
 
+-- each node keeps the location of its name
 pub returns-clause-located : goal.returns-clause-located
 returns-clause-located g c =
     put_located g.K.PartialEq.eq g.V.SchemaNode.IsLocatedAs c.args.nodes.now c.remove-external.new.self c.insert.new.self c.in_ok-name.name

@@ -1,10 +1,9 @@
-use Rattle.std.proofs.Common.{◌≡◌, List, map, sym, subst, inr, ◌∙◌, rules, Contains}
+use Rattle.std.proofs.Common.{◌≡◌, map, sym, inr, ◌∙◌, rules, Contains}
 use Rattle.std.proofs.lemmas.Bool.{false≢true}
 use Rattle.std.proofs.lemmas.List.Elements.{All-contains_itself}
 use Rattle.std.proofs.lemmas.Map.Iter.{iter_end}
 use Rattle.std.proofs.lemmas.Map.Views.{All-turn}
 use Rattle.std.specs.Map.Iter.{deref}
-use Rattle.cedar_below.specs.declared.entity_type.EntityType.{EntityType}
 use Rattle.cedar_declarations.specs.Fault.{external_below_enumerated}
 use Rattle.cedar_builder.proofs.EntityTypeChecks.{shown_more}
 use Rattle.cedar_builder.specs.EntityTypeNodes.{IsExternalAt, node_at}
@@ -31,5 +30,4 @@ loop-lower-preserved c =
 pub returns-clause-sound : goal.returns-clause-sound
 returns-clause-sound c =
     let all : map deref c.loop-lower.yielded ≡ c.args.descendants.now.keys = search (rules, iter_end) in
-    let P : List EntityType → Type 0 = λ keys. (lower : EntityType) → Contains keys lower → ¬ IsExternalAt (node_at c.args.nodes.now lower) in
-    subst P all c.loop-lower.invariant
+    rw all at c.loop-lower.invariant

@@ -1,8 +1,5 @@
-use Rattle.std.proofs.Common.{subst, ap, ◌∙◌, inr}
+use Rattle.std.proofs.Common.{ap, inr}
 use Rattle.cedar_declarations.specs.Fault.{shape_not_record}
-use Rattle.cedar_declarations.specs.ElaboratesTo.{ElaboratesTo}
-use Rattle.cedar_declarations.specs.ResolvedExpr.{resolved_expr}
-use Rattle.cedar_type_rules.specs.Ty.{Ty}
 use Rattle.cedar_types.proofs.MemberParts.{ty_of-record}
 use Rattle.cedar_types.specs.Meaning.{ty_of}
 use Rattle.cedar_builder.proofs.EntityTypeCases.{no_record}
@@ -11,8 +8,7 @@ use Rattle.cedar_builder.proofs.entity_type_kinds.shape_attributes.Goals as goal
 
 pub returns-in-Record-clause-elaborates : goal.returns-in-Record-clause-elaborates
 returns-in-Record-clause-elaborates c = λ defined knows.
-    let P : Ty → Type 0 = ElaboratesTo defined (resolved_expr c.args.shape.now) in
-    closed_elaborated (subst P (ap ty_of c.in-Record.is ∙ ty_of-record c.in-Record.attrs c.in-Record.open_attributes)
+    closed_elaborated (rw (ap ty_of c.in-Record.is, ty_of-record c.in-Record.attrs c.in-Record.open_attributes) at
     (c.in_ok-elaborated.ensures.elaborates defined knows))
 
 pub returns : goal.returns

@@ -1,5 +1,4 @@
-use Rattle.std.proofs.Common.{◌≡◌, BuildHasherDefault, FoldHasher, HashMap, List, inl, inr, ⊎_elim, subst, Contains}
-use Rattle.std.proofs.lemmas.Result.{err_from_is_err_and}
+use Rattle.std.proofs.Common.{◌≡◌, BuildHasherDefault, FoldHasher, HashMap, List, inl, inr, Contains}
 use Rattle.cedar_below.specs.EntityType.{type_name}
 use Rattle.cedar_below.specs.declared.entity_type.EntityType.{EntityType}
 use Rattle.cedar_graph.proofs.AddedEdges.{alike_weaker}
@@ -7,7 +6,8 @@ use Rattle.cedar_schema_elements.specs.EntityTypeKind.{plain_kind}
 use Rattle.cedar_schema_elements.specs.declared.entity_type.ValidatorEntityType.{ValidatorEntityType}
 use Rattle.cedar_declarations.specs.SchemaError.{fault_of}
 use Rattle.cedar_builder.proofs.EntityTypeLinks.{are_linked, below_fault, upper_stands}
-use Rattle.cedar_builder.specs.EntityTypeNodes.{IsEdgeFault, IsEdgeSound, IsLinkingFault, LeadsTo, SameType, node_at}
+use Rattle.cedar_builder.specs.EntityTypeNodes.{IsEdgeSound, SameType, node_at}
+use Rattle.cedar_fragments.proofs.FragmentLemmas.{exit_holds}
 use Rattle.cedar_builder.proofs.entity_type_links.linked_nodes.Goals as goal
 
 -- each edge is sound
@@ -22,32 +22,29 @@ pub returns-clause-linked : goal.returns-clause-linked
 returns-clause-linked c = λ none.
     let edges = c.args.edges.items in
     let before = c.args.nodes in
-    let sound : AreSound edges before = subst (λ items. AreSound items before) c.deref.ensures.value c.in_ok-check_edges.ensures.sound in
+    let sound : AreSound edges before = rw c.deref.ensures.value at c.in_ok-check_edges.ensures.sound in
     are_linked edges before sound c.link.new.nodes
     (λ key. alike_weaker _ SameType alike_same (node_at before key) (node_at c.link.new.nodes key) (c.in-Ok.ensures.alike key))
     (c.in-Ok.ensures.linked (record { apart = none; uppers = upper_stands edges before sound })) c.in_ok-check_descendants.ensures.sound
 
 pub returns-in_err-check_edges-clause-fault : goal.returns-in_err-check_edges-clause-fault
 returns-in_err-check_edges-clause-fault c =
-    let fault = fault_of c.in_err-check_edges.field-0.0 in
-    let P : List (EntityType × EntityType) → Type 0 = λ edges. (edge : EntityType × EntityType) × Contains edges edge
-    × IsEdgeFault c.args.nodes edge.1 edge.0 fault in
-    let at_fault : ((upper lower : EntityType) → ¬ LeadsTo c.args.nodes upper lower) → IsLinkingFault c.args.edges.items c.args.nodes fault =
-    λ none. ⊎_elim (λ wanting. inl wanting) (λ one. inr (inl (subst P c.deref.ensures.value one))) c.in_err-check_edges.ensures.fault in
-    let p = err_from_is_err_and c.from_residual.result c.from_residual.ensures.1 in
-    rw (p.1, p.2) at_fault
+    exit_holds _ _ _ c.from_residual.ensures.1
+    (λ none. elim c.in_err-check_edges.ensures.fault [
+      | inl wanting ↦ inl wanting
+      | inr one ↦ inr (inl (rw c.deref.ensures.value at one))
+    ])
 
 pub returns-in_err-check_descendants-clause-fault : goal.returns-in_err-check_descendants-clause-fault
 returns-in_err-check_descendants-clause-fault c =
     let edges = c.args.edges.items in
     let before = c.args.nodes in
     let fault = fault_of c.in_err-check_descendants.field-0.0 in
-    let sound : AreSound edges before = subst (λ items. AreSound items before) c.deref.ensures.value c.in_ok-check_edges.ensures.sound in
-    let at_fault : ((upper lower : EntityType) → ¬ LeadsTo before upper lower) → IsLinkingFault edges before fault =
-    λ none. ⊎_elim (λ wanting. inl wanting)
-    (λ below. below_fault edges before sound c.link.new.nodes
-    (λ key. alike_weaker _ SameType alike_same (node_at before key) (node_at c.link.new.nodes key) (c.in-Ok.ensures.alike key))
-    (c.in-Ok.ensures.linked (record { apart = none; uppers = upper_stands edges before sound })) below.0 below.1 below.2 below.3 below.4 fault below.5)
-    c.in_err-check_descendants.ensures.fault in
-    let p = err_from_is_err_and c.from_residual-in_err-check_descendants.result c.from_residual-in_err-check_descendants.ensures.1 in
-    rw (p.1, p.2) at_fault
+    let sound : AreSound edges before = rw c.deref.ensures.value at c.in_ok-check_edges.ensures.sound in
+    exit_holds _ _ _ c.from_residual-in_err-check_descendants.ensures.1
+    (λ none. elim c.in_err-check_descendants.ensures.fault [
+      | inl wanting ↦ inl wanting
+      | inr below ↦ below_fault edges before sound c.link.new.nodes
+          (λ key. alike_weaker _ SameType alike_same (node_at before key) (node_at c.link.new.nodes key) (c.in-Ok.ensures.alike key))
+          (c.in-Ok.ensures.linked (record { apart = none; uppers = upper_stands edges before sound })) below.0 below.1 below.2 below.3 below.4 fault below.5
+    ])

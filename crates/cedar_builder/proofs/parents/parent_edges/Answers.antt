@@ -1,9 +1,9 @@
 use Rattle.std.proofs.Common.{◌++◌, ◌∙◌, ap, map, sym, take}
-use Rattle.std.proofs.lemmas.Result.{err_from_is_err_and}
 use Rattle.cedar_declarations.proofs.OccurrenceLemmas.{Contains-image}
 use Rattle.cedar_declarations.specs.SchemaError.{fault_of}
 use Rattle.cedar_builder.proofs.NodeEdges.{item_among, map_item, parent_fault_wider, parents_more}
-use Rattle.cedar_builder.specs.DeclaredNodes.{IsParentFault, named, parents_in}
+use Rattle.cedar_builder.specs.DeclaredNodes.{named, parents_in}
+use Rattle.cedar_fragments.proofs.FragmentLemmas.{exit_holds}
 use Rattle.cedar_builder.proofs.parents.parent_edges.Goals as goal
 
 pub returns-in_err-add_parents-clause-fault : goal.returns-in_err-add_parents-clause-fault
@@ -11,13 +11,11 @@ returns-in_err-add_parents-clause-fault g c =
     let declared = c.args.declared.now in
     let item = c.item-item.result in
     let with = named g.D.HasParents.key_name g.D.HasParents.parents_of in
-    let at_fault : IsParentFault g.D.HasParents.Refuses (parents_in (map with declared)) (fault_of c.in_err-add_parents.field-0.0) =
-    parent_fault_wider (map with declared) (g.D.HasParents.key_name item.0) (g.D.HasParents.parents_of item.1) g.D.HasParents.Refuses
+    exit_holds _ _ _ c.from_residual.ensures.1
+    (parent_fault_wider (map with declared) (g.D.HasParents.key_name item.0) (g.D.HasParents.parents_of item.1) g.D.HasParents.Refuses
     (fault_of c.in_err-add_parents.field-0.0)
     (Contains-image with declared item (item_among declared c.loop-item.item-index item c.loop-item-test.true c.item-item.is))
-    c.in_err-add_parents.ensures.fault in
-    let p = err_from_is_err_and c.from_residual.result c.from_residual.ensures.1 in
-    rw (p.1, p.2) at_fault
+    c.in_err-add_parents.ensures.fault)
 
 pub loop-item-preserved : goal.loop-item-preserved
 loop-item-preserved g c =

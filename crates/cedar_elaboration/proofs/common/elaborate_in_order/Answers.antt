@@ -1,4 +1,4 @@
-use Rattle.std.proofs.Common.{◌++◌, ◌<◌, ℕ, List, [], ◌∷◌, length, take, get_or, sym, subst, refl, rules, Contains}
+use Rattle.std.proofs.Common.{◌<◌, ℕ, length, take, get_or, subst, refl, rules}
 use Rattle.std.proofs.Math.ListN.{length-map}
 use Rattle.std.proofs.lemmas.List.{get_or_default, take_all, take_more}
 use Rattle.std.proofs.lemmas.List.Elements.{Contains-get_or}
@@ -7,7 +7,7 @@ use Rattle.cedar_below.specs.Extensions.{extension_types}
 use Rattle.cedar_below.specs.InternalName.{name_of}
 use Rattle.cedar_declarations.specs.ResolvedExpr.{resolved_expr}
 use Rattle.cedar_elaboration.proofs.IndexLemmas.{item_at_index, index_of, split_at}
-use Rattle.cedar_elaboration.proofs.ElaborationLemmas.{Covers-next, ElaboratedInOrder, ElaboratedInOrder-more, fault_at, types_seen}
+use Rattle.cedar_elaboration.proofs.ElaborationLemmas.{Covers-next, ElaboratedInOrder-more, fault_at}
 use Rattle.cedar_elaboration.specs.Scope.{set_names}
 use Rattle.cedar_elaboration.specs.Indices.{defined_over, item_names}
 use Rattle.cedar_resolution.specs.Collected.{collected_common}
@@ -62,10 +62,7 @@ loop-item_index-preserved c =
     let split = split_at order index item_index c.loop-item_index-test.true (get_or_default order index 0 item_index c.loop-item_index-test.true) in
     let knows = Covers-next items entities extensions order (take index order) _ item_index (name_of item.0, resolved_expr item.1) _
     c.requires split stands refl c.loop-item_index.invariant in
-    let P : List ℕ → Type 0 = λ each. ElaboratedInOrder items entities extensions each (types_seen c.put.new.map.entries) in
-    let Q : List _ → Type 0 = λ each. ElaboratedInOrder items entities extensions (take index order ++ item_index ∷ []) (types_seen each) in
-    subst P (sym (take_more order index 0 c.loop-item_index-test.true))
-    (subst Q (sym c.in_ok-put.ensures)
+    rw (take_more order index 0 c.loop-item_index-test.true, c.in_ok-put.ensures)
     (ElaboratedInOrder-more items entities extensions (take index order) item_index (name_of item.0, resolved_expr item.1)
     c.loop-item_index.common.entries c.in_ok-clone.field-0 c.in_ok-ty.ty stands c.in_ok-clone.ensures.name
     (c.in_ok-ty.ensures.elaborates defined knows)
@@ -74,25 +71,22 @@ loop-item_index-preserved c =
       known = c.in_ok-ty.ensures.extensions;
       resolved = c.in_ok-ty.ensures.resolved defined knows;
     })
-    c.loop-item_index.invariant))
+    c.loop-item_index.invariant)
 
 pub returns-clause-each : goal.returns-clause-each
 returns-clause-each c name among =
     let items = collected_common c.args.declared.now in
     let at = index_of (item_names items) name among in
-    let P : ℕ → Type 0 = λ each. at.0 < each in
-    let below : at.0 < length items = subst P (length-map items (λ it. it.0)) (slice_get_within (item_names items) at.0 name at.1) in
-    let Q : List ℕ → Type 0 = λ each. Contains each at.0 in
+    let below : at.0 < length items = rw (length-map items (λ it. it.0)) at (slice_get_within (item_names items) at.0 name at.1) in
     c.loop-item_index.invariant.there at.0
-    (subst Q (sym (take_all c.loop-item_index.item_index-index c.args.order.now c.loop-item_index-test.false)) ((c.requires.indices at.0).1 below))
+    (rw (take_all c.loop-item_index.item_index-index c.args.order.now c.loop-item_index-test.false) ((c.requires.indices at.0).1 below))
     name at.1
 
 pub returns-clause-sound : goal.returns-clause-sound
 returns-clause-sound c item among =
     let items = collected_common c.args.declared.now in
     let at = index_of items item among in
-    let Q : List ℕ → Type 0 = λ each. Contains each at.0 in
     c.loop-item_index.invariant.sound at.0
-    (subst Q (sym (take_all c.loop-item_index.item_index-index c.args.order.now c.loop-item_index-test.false))
+    (rw (take_all c.loop-item_index.item_index-index c.args.order.now c.loop-item_index-test.false)
     ((c.requires.indices at.0).1 (slice_get_within items at.0 item at.1)))
     item at.1

@@ -1,19 +1,19 @@
-use Rattle.std.proofs.Common.{sym, subst, rules}
+use Rattle.std.proofs.Common.{rules}
 use Rattle.cedar_below.specs.InternalName.{name_of}
 use Rattle.cedar_declarations.specs.ResolvedExpr.{resolved_reference}
-use Rattle.cedar_declarations.specs.ElaboratesTo.{ElaboratesTo}
 use Rattle.cedar_names.specs.Expr.{named}
-use Rattle.cedar_type_rules.specs.Ty.{Ty}
 use Rattle.cedar_elaboration.proofs.ScopeLemmas.{common_elaborated, entity_elaborated, fault_of_entity, fault_of_reference}
 use Rattle.cedar_elaboration.specs.Refusals.{IsRefusal}
 use Rattle.cedar_declarations.specs.SchemaError.{fault_of}
 use Rattle.cedar_elaboration.proofs.elaborating.elaborate_reference.Goals as goal
 
+-- a reference to a common type is elaborated as what it stands for
 pub returns-in-Some-clause-elaborates : goal.returns-in-Some-clause-elaborates
 returns-in-Some-clause-elaborates c defined knows =
     let found = rw c.in-Some.is at c.in_ok-ty.ensures in
     common_elaborated defined c.args.scope.now c.args.kind (name_of c.args.name.now) knows _ found.0 found.1
 
+-- a reserved entity type is refused
 pub returns-in_err-ty-2-clause-fault : goal.returns-in_err-ty-2-clause-fault
 returns-in_err-ty-2-clause-fault c =
     let absent = rw c.in_default.is at c.in_ok-ty.ensures in
@@ -24,14 +24,15 @@ returns-in_err-ty-2-clause-fault c =
     } in
     search (rules, at_fault)
 
+-- a reference to an entity type alone is elaborated as its entities
 pub returns-in-Some-2-clause-elaborates : goal.returns-in-Some-2-clause-elaborates
 returns-in-Some-2-clause-elaborates c defined knows =
     let absent = rw c.in_default.is at c.in_ok-ty.ensures in
     let found = rw c.in-Some-2.is at c.in_ok-ty-2.ensures.found in
-    let P : Ty → Type 0 = ElaboratesTo defined (named (resolved_reference c.args.kind c.args.name.now)) in
-    subst P (sym found.2)
+    rw found.2
     (entity_elaborated defined c.args.scope.now c.args.kind (name_of c.args.name.now) knows absent found.0 found.1)
 
+-- a reference to neither resolves to nothing
 pub returns-clause-fault : goal.returns-clause-fault
 returns-clause-fault c =
     let absent = rw c.in_default.is at c.in_ok-ty.ensures in

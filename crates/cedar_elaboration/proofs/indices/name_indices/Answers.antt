@@ -1,12 +1,11 @@
-use Rattle.std.proofs.Common.{◌++◌, List, [], ◌∷◌, map, take, sym, subst, ◌∙◌, inr, refl}
+use Rattle.std.proofs.Common.{take, sym, ◌∙◌, inr, refl}
 use Rattle.std.proofs.lemmas.Bool.{false≢true}
 use Rattle.cedar_below.proofs.Names.{internal_name_ord-Equal}
 use Rattle.cedar_below.specs.InternalName.{name_of}
-use Rattle.cedar_below.specs.PlainName.{PlainName}
 use Rattle.cedar_below.specs.contracts.internal_name.InternalNameOrd.TheImpl as order
 use Rattle.cedar_below.specs.Lists.{Twice}
 use Rattle.cedar_elaboration.proofs.Entries.{found_name}
-use Rattle.cedar_elaboration.proofs.IndexLemmas.{NumberedSoFar, NumberedSoFar-more, repeated_name, names_more, names_split}
+use Rattle.cedar_elaboration.proofs.IndexLemmas.{NumberedSoFar-more, repeated_name, names_more, names_split}
 use Rattle.cedar_elaboration.specs.Indices.{item_names, indexed_names}
 use Rattle.cedar_resolution.specs.Collected.{collected_common}
 use Rattle.cedar_elaboration.proofs.indices.name_indices.Goals as goal
@@ -16,29 +15,24 @@ returns-then-contains_key-clause-fault c =
     let declared = c.args.declared.now in
     let item = c.index-declared-item_index.result in
     let name = name_of item.0 in
-    let P : List PlainName → Type 0 = λ names. Twice names name in
     let twice : Twice (item_names (collected_common declared)) name =
-    subst P (sym (names_split declared c.loop-item_index.item_index item c.loop-item_index-test.true c.index-declared-item_index.is))
+    rw (names_split declared c.loop-item_index.item_index item c.loop-item_index-test.true c.index-declared-item_index.is)
     (repeated_name (item_names (collected_common (take c.loop-item_index.item_index declared))) _ name (indexed_names c.loop-item_index.indices)
     c.loop-item_index.invariant
     ((found_name ((order.ghosts).cmp) name_of internal_name_ord-Equal (λ item_index. item_index) c.loop-item_index.indices.entries item.0
     _ c.contains_key.ensures).0 c.if-contains_key.true)) in
-    let Q : PlainName → Type 0 = λ each. Twice (item_names (collected_common declared)) each in
-    inr (name_of c.in_ok-clone.field-0, refl, subst Q (sym c.in_ok-clone.ensures.name) twice)
+    inr (name_of c.in_ok-clone.field-0, refl, rw c.in_ok-clone.ensures.name twice)
 
 pub loop-item_index-preserved : goal.loop-item_index-preserved
 loop-item_index-preserved c =
     let declared = c.args.declared.now in
     let item = c.index-declared-item_index.result in
     let names = item_names (collected_common (take c.loop-item_index.item_index declared)) in
-    let P : List PlainName → Type 0 = λ each. NumberedSoFar each (indexed_names c.put.new.map) in
-    let Q : List _ → Type 0 = λ each. NumberedSoFar (names ++ name_of item.0 ∷ []) (map (λ entry. (name_of entry.0, entry.1)) each) in
-    subst P (sym (names_more declared c.loop-item_index.item_index item c.loop-item_index-test.true c.index-declared-item_index.is).0)
-    (subst Q (sym c.in_ok-put.ensures)
+    rw ((names_more declared c.loop-item_index.item_index item c.loop-item_index-test.true c.index-declared-item_index.is).0, c.in_ok-put.ensures)
     (NumberedSoFar-more names c.loop-item_index.indices.entries c.in_ok-clone-2.field-0 (name_of item.0) c.loop-item_index.item_index
     c.in_ok-clone-2.ensures.name
     (names_more declared c.loop-item_index.item_index item c.loop-item_index-test.true c.index-declared-item_index.is).1
     (λ among. false≢true (sym c.if-contains_key.false
     ∙ (found_name ((order.ghosts).cmp) name_of internal_name_ord-Equal (λ item_index. item_index) c.loop-item_index.indices.entries item.0
     _ c.contains_key.ensures).1 among))
-    c.loop-item_index.invariant))
+    c.loop-item_index.invariant)

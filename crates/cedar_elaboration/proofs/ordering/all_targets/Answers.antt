@@ -1,10 +1,8 @@
-use Rattle.std.proofs.Common.{◌++◌, [], ◌∷◌, List, take, sym, subst}
+use Rattle.std.proofs.Common.{[], take}
 use Rattle.cedar_below.specs.InternalName.{name_of}
-use Rattle.cedar_below.specs.PlainName.{PlainName}
 use Rattle.cedar_declarations.specs.Mentions.{Refers}
 use Rattle.cedar_declarations.specs.ResolvedExpr.{resolved_expr}
-use Rattle.cedar_names.specs.Expr.{Expr}
-use Rattle.cedar_elaboration.proofs.OrderLemmas.{AreTargets, HoldsPairwise-push}
+use Rattle.cedar_elaboration.proofs.OrderLemmas.{HoldsPairwise-push}
 use Rattle.cedar_elaboration.proofs.IndexLemmas.{items_more}
 use Rattle.cedar_elaboration.specs.Indices.{AddsIndices, indexed_names}
 use Rattle.cedar_resolution.specs.Collected.{collected_common}
@@ -15,11 +13,7 @@ loop-item-preserved c =
     let declared = c.args.declared.now in
     let indices = indexed_names c.args.indices.now in
     let item = c.item-item.result in
-    let P : List (PlainName × Expr) → Type 0 = λ items. AreTargets indices items c.push.new.self.items in
-    let Q : List _ → Type 0 = λ targets. AreTargets indices
-    (collected_common (take c.loop-item.item-index declared) ++ (name_of item.0, resolved_expr item.1) ∷ []) targets in
-    subst P (sym (items_more declared c.loop-item.item-index item c.loop-item-test.true c.item-item.is))
-    (subst Q (sym c.in_ok-push.ensures.items)
+    rw (items_more declared c.loop-item.item-index item c.loop-item-test.true c.item-item.is, c.in_ok-push.ensures.items)
     (HoldsPairwise-push (λ it found. AddsIndices indices (Refers it.1) [] found.items)
     (collected_common (take c.loop-item.item-index declared)) c.loop-item.targets.items
-    (name_of item.0, resolved_expr item.1) c.in_ok-referred_indices.field-0 c.loop-item.invariant c.in_ok-referred_indices.ensures))
+    (name_of item.0, resolved_expr item.1) c.in_ok-referred_indices.field-0 c.loop-item.invariant c.in_ok-referred_indices.ensures)

@@ -1,15 +1,12 @@
 use Rattle.std.proofs.Common.{◌<◌, ℕ, length, ap, sym, subst, ◌∙◌, rules}
 use Rattle.std.proofs.Math.ListN.{length-map}
 use Rattle.cedar_below.proofs.Chains.{last_step}
-use Rattle.cedar_below.specs.Chain.{Chain}
 use Rattle.cedar_below.specs.InternalName.{name_of}
-use Rattle.cedar_below.specs.PlainName.{PlainName}
 use Rattle.cedar_graph.specs.Order.{LeadsTo}
-use Rattle.cedar_declarations.specs.IllFormed.{RefersToCommon}
 use Rattle.cedar_declarations.specs.ResolvedExpr.{resolved_expr}
 use Rattle.cedar_elaboration.proofs.OrderLemmas.{as_many, cycle_found, name_at, no_cycle_among, order_of_indices}
 use Rattle.cedar_elaboration.proofs.IndexLemmas.{item_at_index}
-use Rattle.cedar_elaboration.specs.Indices.{defined_over, indexed_names}
+use Rattle.cedar_elaboration.specs.Indices.{indexed_names}
 use Rattle.cedar_resolution.specs.Collected.{collected_common}
 use Rattle.cedar_elaboration.proofs.ordering.elaboration_order.Goals as goal
 use Rattle.cedar_elaboration.proofs.ordering.elaboration_order.Goals.{In-Cycle}
@@ -50,7 +47,6 @@ returns-clause-fault c entities =
     let stands = name_at items c.in-Cycle.item_index (name_of item.0, resolved_expr item.1)
     (item_at_index c.args.declared.now c.in-Cycle.item_index item below c.index-declared-item_index.is) in
     let chain = rw c.in-Cycle.is at c.in_ok-order.ensures in
-    let P : PlainName → Type 0 = λ each. Chain (RefersToCommon (defined_over items entities)) each each in
-    subst P (sym (c.in_ok-name-in-Cycle.ensures.name ∙ ap (λ it. name_of it.0) (sym c.index-declared-item_index.is)))
+    rw (c.in_ok-name-in-Cycle.ensures.name, ap (λ it. name_of it.0) (sym c.index-declared-item_index.is))
     (cycle_found items (indexed_names c.in_ok-indices.indices) c.in_ok-targets.targets.items c.in_ok-indices.ensures.indices
     c.in_ok-targets.ensures c.in-Cycle.item_index (name_of item.0) stands chain entities)

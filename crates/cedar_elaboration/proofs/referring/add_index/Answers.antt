@@ -1,21 +1,17 @@
-use Rattle.std.proofs.Common.{ℕ, List, sym, subst, ◌∙◌}
+use Rattle.std.proofs.Common.{sym, ◌∙◌}
 use Rattle.std.proofs.lemmas.Bool.{false≢true}
 use Rattle.cedar_below.proofs.Names.{internal_name_ord-Equal}
 use Rattle.cedar_below.specs.InternalName.{name_of}
 use Rattle.cedar_below.specs.contracts.internal_name.InternalNameOrd.TheImpl as order
-use Rattle.cedar_declarations.specs.Mentions.{Refers}
-use Rattle.cedar_declarations.specs.ResolvedExpr.{resolved_reference}
-use Rattle.cedar_names.specs.Expr.{named}
 use Rattle.cedar_elaboration.proofs.Entries.{looked_up, not_found}
 use Rattle.cedar_elaboration.proofs.ReferringLemmas.{adds_none, adds_index}
-use Rattle.cedar_elaboration.specs.Indices.{AddsIndices, indexed_names}
+use Rattle.cedar_elaboration.specs.Indices.{indexed_names}
 use Rattle.cedar_elaboration.proofs.referring.add_index.Goals as goal
 
 pub returns-in_ok-push : goal.returns-in_ok-push
 returns-in_ok-push c =
     let indices = indexed_names c.args.indices.now in
-    let P : List ℕ → Type 0 = AddsIndices indices (Refers (named (resolved_reference c.args.kind c.args.name.now))) c.args.found.now.items in
-    subst P (sym c.in_ok-push.ensures.items)
+    rw c.in_ok-push.ensures.items
     (adds_index indices c.args.kind (name_of c.args.name.now) c.in-Some.item_index.now c.args.found.now.items
     (c.may_name_common.ensures.0 c.if-not-may_name_common.false)
     (looked_up ((order.ghosts).cmp) name_of internal_name_ord-Equal (λ item_index. item_index) c.args.indices.now.entries c.args.name.now

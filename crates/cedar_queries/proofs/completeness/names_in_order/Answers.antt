@@ -1,7 +1,6 @@
-use Rattle.std.proofs.Common.{List, map, ap, sym, subst, ◌∙◌}
+use Rattle.std.proofs.Common.{map, ap, ◌∙◌}
 use Rattle.std.proofs.lemmas.List.{take_all}
 use Rattle.std.proofs.lemmas.List.Sorted.{IsPermutation-map}
-use Rattle.std.specs.List.Sorted.{IsPermutation, IsSorted}
 use Rattle.cedar_queries.proofs.BorrowedLemmas.{IsSorted-borrowed, borrowed}
 use Rattle.cedar_queries.proofs.completeness.names_in_order.Goals as goal
 
@@ -13,10 +12,7 @@ returns-clause-names g c =
     let last = c.loop-name.invariant
     ∙ ap (map (borrowed name)) (take_all c.loop-name.name-index c.deref-name-items.result.now c.loop-name-test.false
     ∙ c.deref-name-items.ensures.value) in
-    let P : List g.V.SchemaNode.Name → Type 0 = λ names. IsPermutation names (map name c.loop-name.names.items) in
-    let Q : List g.V.SchemaNode.Name → Type 0 = λ names. IsPermutation (map (borrowed name) found) names in
-    subst P c.in_ok-selected_names.ensures
-    (subst Q (sym last) (IsPermutation-map (borrowed name) found sorted c.in_ok-in_order.ensures.permutation))
+    rw (← last, c.in_ok-selected_names.ensures) at (IsPermutation-map (borrowed name) found sorted c.in_ok-in_order.ensures.permutation)
 
 pub returns-clause-sorted : goal.returns-clause-sorted
 returns-clause-sorted g c =
@@ -24,7 +20,6 @@ returns-clause-sorted g c =
     let last = c.loop-name.invariant
     ∙ ap (map (borrowed name)) (take_all c.loop-name.name-index c.deref-name-items.result.now c.loop-name-test.false
     ∙ c.deref-name-items.ensures.value) in
-    let P : List g.V.SchemaNode.Name → Type 0 = IsSorted g.V.SchemaNode.name_order in
-    subst P (sym last)
+    rw last
     (IsSorted-borrowed g.K.Ord.cmp g.V.SchemaNode.name_order name g.met.V.SchemaNode.key_order c.in_ok-in_order.field-0.items
     c.in_ok-in_order.ensures.sorted)

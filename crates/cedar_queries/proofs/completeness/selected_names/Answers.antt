@@ -4,6 +4,7 @@ use Rattle.cedar_queries.proofs.BorrowedLemmas.{borrowed, borrowed_all, borrowed
 use Rattle.cedar_queries.specs.Selected.{values_where}
 use Rattle.cedar_queries.proofs.completeness.selected_names.Goals as goal
 
+-- at first all nodes are left
 pub loop-node-init : goal.loop-node-init
 loop-node-init g c =
     let name = g.V.SchemaNode.node_name in
@@ -11,6 +12,7 @@ loop-node-init g c =
     ap (λ items. map (borrowed g.V.SchemaNode.key_name) items ++ map name (kept c.into_iter-node-iterator.result)) c.new-names.ensures.items
     ∙ ap (λ left. map name (kept left)) (c.into_iter-node-iterator.ensures.into_iter_gives ∙ c.values-node-items.ensures.rest)
 
+-- a node that passes gives its name
 pub loop-node-preserved-in-Continue-1 : goal.loop-node-preserved-in-Continue-1
 loop-node-preserved-in-Continue-1 g c =
     let kept = filter (g.T.Test.holds c.args.test) in
@@ -23,6 +25,7 @@ loop-node-preserved-in-Continue-1 g c =
     (ap kept c.in-Some.ensures.steps ∙ ap (λ b. cond b (node ∷ kept rest) (kept rest)) (sym c.passes.ensures ∙ c.if-passes.true))
     c.name.ensures.name
 
+-- another one gives nothing
 pub loop-node-preserved : goal.loop-node-preserved
 loop-node-preserved g c =
     let kept = filter (g.T.Test.holds c.args.test) in
@@ -33,6 +36,7 @@ loop-node-preserved g c =
     ∙ ap (λ b. cond b (node ∷ kept rest) (kept rest)) (sym c.passes.ensures ∙ c.if-passes.false)))
     ∙ c.loop-node.invariant
 
+-- at the end none is left
 pub returns : goal.returns
 returns g c =
     borrowed_all g.V.SchemaNode.key_name g.V.SchemaNode.node_name

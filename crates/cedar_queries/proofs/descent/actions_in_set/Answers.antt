@@ -1,8 +1,8 @@
-use Rattle.std.proofs.Common.{◌++◌, ◌∷◌, [], List, is_some, map, take, ap, sym, subst, refl, ◌∙◌, append_assoc, Contains}
+use Rattle.std.proofs.Common.{◌++◌, ◌∷◌, [], List, is_some, map, take, ap, sym, refl, ◌∙◌, append_assoc, Contains}
 use Rattle.std.proofs.lemmas.Bool.{false≢true}
 use Rattle.std.proofs.lemmas.List.{flat_map_more, take_all, take_more}
 use Rattle.std.proofs.lemmas.List.Elements.{All-more}
-use Rattle.std.specs.List.{All, flat_map}
+use Rattle.std.specs.List.{flat_map}
 use Rattle.cedar_schema_elements.specs.ValidatorActionId.{action_of, plain_action_entry}
 use Rattle.cedar_below.specs.EntityUID.{uid_of}
 use Rattle.cedar_below.specs.PlainUid.{PlainUid}
@@ -12,15 +12,16 @@ use Rattle.cedar_queries.proofs.LookupLemmas.{action_descendants_found, action_k
 use Rattle.cedar_queries.specs.Hierarchy.{action_descendants}
 use Rattle.cedar_queries.proofs.descent.actions_in_set.Goals as goal
 
+-- an action that is not declared is one of the set
 pub returns-in-None-clause-known : goal.returns-in-None-clause-known
 returns-in-None-clause-known c =
-    let uid = c.uid-item.result in
-    let P : EntityUID → Type 0 = λ it. Contains (map (λ each. each.0) (map plain_action_entry c.args.actions.now.entries)) (uid_of it) in (
+    let uid = c.uid-item.result in (
       λ wrong. absurd (false≢true wrong),
       λ all. absurd (false≢true (ap is_some c.in-None.ensures.value ∙ (action_known c.args.actions.now uid).1
-          (subst P (sym c.uid-item.is) (all c.loop-uid.uid-index uid c.loop-uid-test.true)))),
+          (rw c.uid-item.is (all c.loop-uid.uid-index uid c.loop-uid-test.true)))),
     )
 
+-- one more action is declared, and its descendants are added before it
 pub loop-uid-preserved : goal.loop-uid-preserved
 loop-uid-preserved c =
     let actions = c.args.actions.now in
@@ -28,14 +29,14 @@ loop-uid-preserved c =
     let i = c.loop-uid.uid-index in
     let uid = c.uid-item.result in
     let action = c.in-Some.action.now in
-    let P : EntityUID → Type 0 = λ it. Contains (map (λ each. each.0) (map plain_action_entry actions.entries)) (uid_of it) in
+    let IsDeclared : EntityUID → Type 0 = λ it. Contains (map (λ each. each.0) (map plain_action_entry actions.entries)) (uid_of it) in
     let below : EntityUID → List PlainUid = λ it. action_descendants (uid_of it) (map plain_action_entry actions.entries) in
     let each : EntityUID → List PlainUid = λ it. below it ++ uid_of it ∷ [] in
     let found = sym c.in-Some.ensures.value in
     let here = (action_known actions uid).0 (ap is_some found) in
     let old = map (borrowed uid_of) c.loop-uid.all.items in
     record {
-      known = All-more P uids i uid c.loop-uid-test.true c.loop-uid.invariant.known (subst P c.uid-item.is here);
+      known = All-more IsDeclared uids i uid c.loop-uid-test.true c.loop-uid.invariant.known (rw c.uid-item.is at here);
       added =
           c.in_ok-add_actions_in-in-Some.ensures
           ∙ (append_assoc old (action_of action).descendants (uid_of uid ∷ [])
@@ -45,10 +46,9 @@ loop-uid-preserved c =
           ∙ ap (flat_map each) (sym (take_more uids i uid c.loop-uid-test.true ∙ ap (λ one. take i uids ++ one ∷ []) (sym c.uid-item.is)))))));
     }
 
+-- at the end all are declared
 pub returns-clause-known : goal.returns-clause-known
-returns-clause-known c =
-    let P : EntityUID → Type 0 = λ it. Contains (map (λ each. each.0) (map plain_action_entry c.args.actions.now.entries)) (uid_of it) in
-    let Q : List EntityUID → Type 0 = All P in (
-      λ _. subst Q (take_all c.loop-uid.uid-index c.args.uids.now c.loop-uid-test.false) c.loop-uid.invariant.known,
-      λ _. refl,
-    )
+returns-clause-known c = (
+  λ _. rw (take_all c.loop-uid.uid-index c.args.uids.now c.loop-uid-test.false) at c.loop-uid.invariant.known,
+  λ _. refl,
+)

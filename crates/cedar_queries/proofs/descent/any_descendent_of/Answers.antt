@@ -1,9 +1,8 @@
-use Rattle.std.proofs.Common.{List, Any, map, sym, subst, refl, ◌∙◌}
+use Rattle.std.proofs.Common.{Any, map, sym, refl, ◌∙◌}
 use Rattle.std.proofs.lemmas.Bool.{false≢true}
 use Rattle.std.proofs.lemmas.List.{take_all}
 use Rattle.cedar_schema_elements.specs.ValidatorActionId.{plain_action_entry}
 use Rattle.cedar_below.specs.EntityType.{type_name}
-use Rattle.cedar_below.specs.declared.entity_type.EntityType.{EntityType}
 use Rattle.cedar_schema_elements.specs.ValidatorEntityType.{plain_entry}
 use Rattle.cedar_queries.proofs.AnyLemmas.{any_more}
 use Rattle.cedar_queries.specs.Hierarchy.{MayBeIn}
@@ -30,10 +29,8 @@ loop-lower-preserved c =
     (λ may. false≢true (sym c.if-may_be_in_any.false ∙ c.may_be_in_any.ensures.1 may))
 
 pub returns : goal.returns
-returns c =
-    let P : List EntityType → Type 0 = Any (λ lower. Any (λ upper. MayBeIn (map plain_entry c.args.types.now.entries)
-    (map plain_action_entry c.args.actions.now.entries) (type_name lower) (type_name upper)) c.args.uppers.now) in (
-      λ wrong. absurd (false≢true wrong),
-      λ any. absurd (c.loop-lower.invariant
-          (subst P (sym (take_all c.loop-lower.lower-index c.args.lowers.now c.loop-lower-test.false)) any)),
-    )
+returns c = (
+  λ wrong. absurd (false≢true wrong),
+  λ any. absurd (c.loop-lower.invariant
+      (rw (take_all c.loop-lower.lower-index c.args.lowers.now c.loop-lower-test.false) any)),
+)

@@ -1,4 +1,4 @@
-use Rattle.std.proofs.Common.{◌≡◌, ◌≢◌, ◌++◌, ◌∷◌, [], AllPairs, Bor, List, map, ap, arith, subst, sym, ◌∙◌}
+use Rattle.std.proofs.Common.{◌≡◌, ◌++◌, ◌∷◌, [], Bor, List, map, ap, arith, sym, ◌∙◌}
 use Rattle.std.proofs.lemmas.List.{map-append}
 use Rattle.cedar_below.specs.EntityType.{type_name}
 use Rattle.cedar_below.specs.PlainName.{PlainName}
@@ -30,13 +30,11 @@ returns-clause-names c =
     ∙ (map-append (borrowed type_name) c.match-get.names.items (c.args.ty ∷ []) ∙ ap (λ names. names ++ name ∷ []) before)
 
 pub returns-clause-once : goal.returns-clause-once
-returns-clause-once c =
-    let IsOnce : List PlainName → Type 0 = AllPairs (λ a b. a ≢ b) in
-    elim c.match-get.branch [
-      | in-Some+in_ok-add_descendants w ↦
-          subst IsOnce (sym (descendants_found c.args.types.now c.args.ty.now w.in-Some.entity_type.now (sym w.in-Some.ensures.value)))
-          w.in_ok-add_descendants.ensures.once
-      | in_default w ↦
-          subst IsOnce (sym (descendants_none c.args.types.now c.args.ty.now (sym w.in_default.ensures.value)))
-          (λ i j d before below. absurd (omega arith))
-    ]
+returns-clause-once c = elim c.match-get.branch [
+  | in-Some+in_ok-add_descendants w ↦
+      rw (descendants_found c.args.types.now c.args.ty.now w.in-Some.entity_type.now (sym w.in-Some.ensures.value))
+      w.in_ok-add_descendants.ensures.once
+  | in_default w ↦
+      rw (descendants_none c.args.types.now c.args.ty.now (sym w.in_default.ensures.value))
+      (λ i j d before below. absurd (omega arith))
+]

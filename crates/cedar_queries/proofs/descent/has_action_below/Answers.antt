@@ -1,12 +1,10 @@
-use Rattle.std.proofs.Common.{ap, map, sym, subst, refl, ◌∙◌, List, ◌↔◌}
+use Rattle.std.proofs.Common.{ap, map, sym, refl, ◌∙◌}
 use Rattle.std.proofs.lemmas.Bool.{false≢true}
 use Rattle.cedar_schema_elements.specs.ValidatorActionId.{plain_action_entry}
 use Rattle.cedar_below.proofs.Names.{entity_type_eq-same}
 use Rattle.cedar_below.specs.EntityType.{type_name}
-use Rattle.cedar_below.specs.PlainUid.{PlainUid}
-use Rattle.cedar_declarations.specs.PlainSchema.{SchemaAction}
 use Rattle.cedar_queries.proofs.AnyLemmas.{any_finds, any_skips}
-use Rattle.cedar_queries.specs.Hierarchy.{HasActionBelow, HasBelow}
+use Rattle.cedar_queries.specs.Hierarchy.{HasBelow}
 use Rattle.cedar_queries.proofs.descent.has_action_below.Goals as goal
 use Rattle.cedar_queries.proofs.descent.has_action_below.Goals.{else-eq-via-then-eq+else-has_descendant_of, else-eq-via-else-eq}
 
@@ -14,9 +12,7 @@ pub returns-then-has_descendant_of : goal.returns-then-has_descendant_of
 returns-then-has_descendant_of c =
     let upper = type_name c.args.upper.now in
     let lower = type_name c.args.lower.now in
-    let P : List (PlainUid × SchemaAction) → Type 0 = λ left.
-    HasActionBelow (map plain_action_entry c.args.actions.now.entries) upper lower ↔ HasActionBelow left upper lower in
-    let so_far = subst P (ap (map plain_action_entry) c.in-Some.ensures.steps) c.loop-uid.invariant in
+    let so_far = rw (ap (map plain_action_entry) c.in-Some.ensures.steps) at c.loop-uid.invariant in
     let same = sym c.entity_type.ensures.name
     ∙ (entity_type_eq-same c.entity_type.result.now c.args.upper.now).0 (sym c.eq.ensures ∙ c.if-eq.true) in
     let below = c.has_descendant_of.ensures.0 c.if-has_descendant_of.true in (
@@ -29,9 +25,7 @@ pub loop-uid-preserved : goal.loop-uid-preserved
 loop-uid-preserved c =
     let upper = type_name c.args.upper.now in
     let lower = type_name c.args.lower.now in
-    let P : List (PlainUid × SchemaAction) → Type 0 = λ left.
-    HasActionBelow (map plain_action_entry c.args.actions.now.entries) upper lower ↔ HasActionBelow left upper lower in
-    let so_far = subst P (ap (map plain_action_entry) c.in-Some.ensures.steps) c.loop-uid.invariant in
+    let so_far = rw (ap (map plain_action_entry) c.in-Some.ensures.steps) at c.loop-uid.invariant in
     any_skips (HasBelow upper lower) (plain_action_entry (c.in-Some.uid.now, c.in-Some.action.now))
     (map plain_action_entry c.next.new.self) so_far
     (λ both. elim c.else-eq.branch [

@@ -1,19 +1,15 @@
-use Rattle.std.proofs.Common.{◌≡◌, ap, map, sym, subst, refl, ◌∙◌, List, ◌↔◌, Any}
+use Rattle.std.proofs.Common.{◌≡◌, ap, map, sym, refl, ◌∙◌}
 use Rattle.std.proofs.lemmas.Bool.{false≢true}
-use Rattle.cedar_schema_elements.specs.ValidatorActionId.{action_of}
 use Rattle.cedar_below.proofs.Names.{entity_type_eq-same}
 use Rattle.cedar_below.specs.EntityType.{type_name}
 use Rattle.cedar_below.specs.EntityUID.{uid_of}
-use Rattle.cedar_below.specs.PlainUid.{PlainUid}
 use Rattle.cedar_queries.proofs.AnyLemmas.{any_finds, any_skips}
 use Rattle.cedar_queries.proofs.descent.has_descendant_of.Goals as goal
 
 pub returns-then-eq : goal.returns-then-eq
 returns-then-eq c =
     let ty = type_name c.args.ty.now in
-    let all = (action_of c.args.action.now).descendants in
-    let P : List PlainUid → Type 0 = λ left. Any (λ below. below.ty ≡ ty) all ↔ Any (λ below. below.ty ≡ ty) left in
-    let so_far = subst P (ap (map uid_of) c.in-Some.ensures.steps) c.loop-below.invariant in
+    let so_far = rw (ap (map uid_of) c.in-Some.ensures.steps) at c.loop-below.invariant in
     let same = sym c.entity_type.ensures.name ∙ (entity_type_eq-same c.entity_type.result.now c.args.ty.now).0 (sym c.eq.ensures ∙ c.if-eq.true) in (
       λ _. any_finds (λ below. below.ty ≡ ty) (uid_of c.in-Some.below.now) (map uid_of c.next.new.self) so_far same,
       λ _. refl,
@@ -22,9 +18,7 @@ returns-then-eq c =
 pub loop-below-preserved : goal.loop-below-preserved
 loop-below-preserved c =
     let ty = type_name c.args.ty.now in
-    let all = (action_of c.args.action.now).descendants in
-    let P : List PlainUid → Type 0 = λ left. Any (λ below. below.ty ≡ ty) all ↔ Any (λ below. below.ty ≡ ty) left in
-    let so_far = subst P (ap (map uid_of) c.in-Some.ensures.steps) c.loop-below.invariant in
+    let so_far = rw (ap (map uid_of) c.in-Some.ensures.steps) at c.loop-below.invariant in
     any_skips (λ below. below.ty ≡ ty) (uid_of c.in-Some.below.now) (map uid_of c.next.new.self) so_far
     (λ same. false≢true (sym c.if-eq.false ∙ (c.eq.ensures
     ∙ (entity_type_eq-same c.entity_type.result.now c.args.ty.now).1 (c.entity_type.ensures.name ∙ same))))

@@ -1,4 +1,4 @@
-use Rattle.std.proofs.Common.{inl, inr, ⊎_elim, sym, ◌∙◌}
+use Rattle.std.proofs.Common.{inl, inr, sym, ◌∙◌}
 use Rattle.std.proofs.lemmas.Bool.{false≢true}
 use Rattle.cedar_queries.proofs.LookupLemmas.{type_known}
 use Rattle.cedar_queries.proofs.descent.is_known_entity_type.Goals as goal
@@ -14,7 +14,8 @@ pub returns-else-contains_key : goal.returns-else-contains_key
 returns-else-contains_key c =
     let known = type_known c.args.types.now c.args.name.now in (
       λ found. inr (c.is_action.ensures.0 found),
-      ⊎_elim
-          (λ there. absurd (false≢true (sym c.if-contains_key.false ∙ (c.contains_key.ensures ∙ known.1 there))))
-          (λ action. c.is_action.ensures.1 action),
+      elim [
+        | inl there ↦ absurd (false≢true (sym c.if-contains_key.false ∙ (c.contains_key.ensures ∙ known.1 there)))
+        | inr action ↦ c.is_action.ensures.1 action
+      ],
     )

@@ -1,4 +1,4 @@
-use Rattle.std.proofs.Common.{inl, inr, ⊎_elim, refl, sym, ◌∙◌}
+use Rattle.std.proofs.Common.{inl, inr, refl, sym, ◌∙◌}
 use Rattle.std.proofs.lemmas.Bool.{false≢true}
 use Rattle.cedar_below.proofs.Names.{entity_type_eq-same}
 use Rattle.cedar_queries.proofs.descent.may_be_in.Goals as goal
@@ -17,10 +17,10 @@ returns-then-eq c = (
 pub returns : goal.returns
 returns c = (
   λ found. inr (inr (c.has_action_below.ensures.0 found)),
-  ⊎_elim
-      (λ same. absurd (false≢true (sym c.if-eq.false
-      ∙ (c.eq.ensures ∙ (entity_type_eq-same c.args.lower.now c.args.upper.now).1 same))))
-      (⊎_elim
-      (λ below. absurd (false≢true (sym c.if-is_descendant.false ∙ c.is_descendant.ensures.1 below)))
-      (λ action. c.has_action_below.ensures.1 action)),
+  elim [
+    | inl same ↦ absurd (false≢true (sym c.if-eq.false
+        ∙ (c.eq.ensures ∙ (entity_type_eq-same c.args.lower.now c.args.upper.now).1 same)))
+    | inr (inl below) ↦ absurd (false≢true (sym c.if-is_descendant.false ∙ c.is_descendant.ensures.1 below))
+    | inr (inr action) ↦ c.has_action_below.ensures.1 action
+  ],
 )

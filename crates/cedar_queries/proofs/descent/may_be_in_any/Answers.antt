@@ -1,9 +1,8 @@
-use Rattle.std.proofs.Common.{List, Any, map, sym, subst, refl, ◌∙◌}
+use Rattle.std.proofs.Common.{map, sym, refl, ◌∙◌}
 use Rattle.std.proofs.lemmas.Bool.{false≢true}
 use Rattle.std.proofs.lemmas.List.{take_all}
 use Rattle.cedar_schema_elements.specs.ValidatorActionId.{plain_action_entry}
 use Rattle.cedar_below.specs.EntityType.{type_name}
-use Rattle.cedar_below.specs.declared.entity_type.EntityType.{EntityType}
 use Rattle.cedar_schema_elements.specs.ValidatorEntityType.{plain_entry}
 use Rattle.cedar_queries.proofs.AnyLemmas.{any_more}
 use Rattle.cedar_queries.specs.Hierarchy.{MayBeIn}
@@ -30,10 +29,8 @@ loop-upper-preserved c =
     (λ may. false≢true (sym c.if-may_be_in.false ∙ c.may_be_in.ensures.1 may))
 
 pub returns : goal.returns
-returns c =
-    let P : List EntityType → Type 0 = Any (λ upper. MayBeIn (map plain_entry c.args.types.now.entries)
-    (map plain_action_entry c.args.actions.now.entries) (type_name c.args.lower.now) (type_name upper)) in (
-      λ wrong. absurd (false≢true wrong),
-      λ any. absurd (c.loop-upper.invariant
-          (subst P (sym (take_all c.loop-upper.upper-index c.args.uppers.now c.loop-upper-test.false)) any)),
-    )
+returns c = (
+  λ wrong. absurd (false≢true wrong),
+  λ any. absurd (c.loop-upper.invariant
+      (rw (take_all c.loop-upper.upper-index c.args.uppers.now c.loop-upper-test.false) any)),
+)

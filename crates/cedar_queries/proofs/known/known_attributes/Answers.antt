@@ -28,9 +28,9 @@ returns-in-Some c =
     let only = only_is (lub_names c.in-Entity.lub) name c.in-Some.ensures.name in
     IfOk-weaker c.declared_attributes.result _ (λ attrs. AreAttributesOf types (kind_ty c.args.kind.now) (fields_of attrs))
     (λ attrs declared.
-    let P : EntityKind → Type 0 = λ kind. AreAttributesOf types (kind_ty kind) (fields_of attrs) in
-    let Q : List PlainName → Type 0 = λ names. AreKnownOfAll types names (fields_of attrs) in
-    let R : Fields → Type 0 = AreKnownOfAll types (name ∷ []) in
-    let S : Fields → Type 0 = λ fields. IsWellFormed (record_of fields OpenAttributes) in
-    subst P (sym c.in-Entity.is) (subst Q (sym only) (subst R (sym declared) (known_alone types name (subst S declared (record_formed attrs))))))
+    let AreOfKind : EntityKind → Type 0 = λ kind. AreAttributesOf types (kind_ty kind) (fields_of attrs) in
+    let AreOfNames : List PlainName → Type 0 = λ names. AreKnownOfAll types names (fields_of attrs) in
+    let AreKnown : Fields → Type 0 = AreKnownOfAll types (name ∷ []) in
+    let AreFormed : Fields → Type 0 = λ fields. IsWellFormed (record_of fields OpenAttributes) in
+    subst AreOfKind (sym c.in-Entity.is) (subst AreOfNames (sym only) (subst AreKnown (sym declared) (known_alone types name (subst AreFormed declared (record_formed attrs))))))
     c.declared_attributes.ensures

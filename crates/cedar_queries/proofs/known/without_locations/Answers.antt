@@ -1,9 +1,8 @@
-use Rattle.std.proofs.Common.{◌≡◌, ◌++◌, List, ap, sym, subst, ◌∙◌}
+use Rattle.std.proofs.Common.{◌≡◌, ◌++◌, List, ap, sym, ◌∙◌}
 use Rattle.std.proofs.IntoIterSteps.{All-taken}
 use Rattle.std.proofs.lemmas.List.{append-nil}
 use Rattle.cedar_type_rules.proofs.Extensional.{fields_from-HoldsLast}
-use Rattle.cedar_type_rules.specs.Fields.{HoldsLast, IsSortedByName}
-use Rattle.cedar_type_rules.specs.Ty.{Fields, fields_from}
+use Rattle.cedar_type_rules.specs.Ty.{fields_from}
 use Rattle.cedar_types.specs.Attributes.{plain_attributes}
 use Rattle.cedar_types.specs.Meaning.{fields_of}
 use Rattle.cedar_types.specs.declared.attributes.AttributeType.{AttributeType}
@@ -18,13 +17,11 @@ pub returns : goal.returns
 returns c =
     let entries = c.loop-name.entries.items in
     let made = c.in_ok-with_attributes.ensures.attributes in
-    let P : Items → Type 0 = λ items. HoldsLast (plain_attributes items) (fields_of c.in_ok-with_attributes.field-0) in
-    let holds : P entries = subst P (All-taken made.0 made.1 made.3 ∙ made.2.0) made.4 in
     let all : plain_attributes entries ≡ plain_attributes c.iter-name-items.result =
     sym (ap (λ rest. plain_attributes entries ++ plain_attributes rest) c.in-None.ensures.steps.0 ∙ append-nil (plain_attributes entries))
     ∙ (c.loop-name.invariant ∙ ap plain_attributes c.into_iter-name-iterator.ensures.into_iter_gives) in
     let same : fields_from (plain_attributes entries) ≡ fields_of c.args.attrs.now = ap fields_from all ∙ c.iter-name-items.ensures.attributes in
-    let Q : Fields → Type 0 = IsSortedByName in
     fields_from-HoldsLast (plain_attributes entries) (fields_of c.in_ok-with_attributes.field-0)
-    (subst Q (sym same) c.iter-name-items.ensures.sorted_by_name) c.in_ok-with_attributes.ensures.sorted_by_name holds
+    (rw same c.iter-name-items.ensures.sorted_by_name) c.in_ok-with_attributes.ensures.sorted_by_name
+    (rw (All-taken made.0 made.1 made.3, made.2.0) at made.4)
     ∙ same

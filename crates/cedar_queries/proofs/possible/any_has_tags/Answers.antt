@@ -1,19 +1,16 @@
-use Rattle.std.proofs.Common.{◌↔◌, Any, List, ap, map, refl, sym, subst, ◌∙◌}
+use Rattle.std.proofs.Common.{ap, map, refl, sym, ◌∙◌}
 use Rattle.std.proofs.lemmas.Bool.{false≢true}
 use Rattle.std.specs.Slice.Iter.{iter_rest}
 use Rattle.cedar_below.specs.EntityType.{type_name}
-use Rattle.cedar_below.specs.PlainName.{PlainName}
 use Rattle.cedar_schema_elements.specs.ValidatorEntityType.{plain_entry}
 use Rattle.cedar_queries.specs.Possible.{HasTags}
 use Rattle.cedar_queries.proofs.AnyLemmas.{any_finds, any_skips}
-use Rattle.cedar_types.specs.EntityLUB.{lub_names}
 use Rattle.cedar_queries.proofs.possible.any_has_tags.Goals as goal
 
 pub returns-then-has_tags : goal.returns-then-has_tags
 returns-then-has_tags c =
     let test = (HasTags (map plain_entry c.args.types.now.entries)) in
-    let P : List PlainName → Type 0 = λ left. Any test (lub_names c.args.lub.now) ↔ Any test left in
-    let so_far = subst P (ap (map type_name) c.in-Some.ensures.steps) c.loop-member.invariant in (
+    let so_far = rw (ap (map type_name) c.in-Some.ensures.steps) at c.loop-member.invariant in (
       λ _. any_finds test (type_name c.in-Some.member.now) (map type_name (iter_rest c.next.new.self)) so_far
           (c.has_tags.ensures.0 c.if-has_tags.true),
       λ _. refl,
@@ -22,7 +19,6 @@ returns-then-has_tags c =
 pub loop-member-preserved : goal.loop-member-preserved
 loop-member-preserved c =
     let test = (HasTags (map plain_entry c.args.types.now.entries)) in
-    let P : List PlainName → Type 0 = λ left. Any test (lub_names c.args.lub.now) ↔ Any test left in
-    let so_far = subst P (ap (map type_name) c.in-Some.ensures.steps) c.loop-member.invariant in
+    let so_far = rw (ap (map type_name) c.in-Some.ensures.steps) at c.loop-member.invariant in
     any_skips test (type_name c.in-Some.member.now) (map type_name (iter_rest c.next.new.self)) so_far
     (λ may. false≢true (sym c.if-has_tags.false ∙ c.has_tags.ensures.1 may))

@@ -15,8 +15,8 @@ returns c schema lower upper = (
       let kept = filter (λ (it : PlainName × SchemaEntityType). has_name it.1.descendants lower) schema.entity_types in
       let found = Contains-preimage (λ (it : PlainName × SchemaEntityType). it.0) kept upper among in
       let both = Contains-filter (λ (it : PlainName × SchemaEntityType). has_name it.1.descendants lower) schema.entity_types found.0 found.1 in
-      let P : PlainName → Type 0 = λ name. Contains schema.entity_types (name, found.0.1) in
-      (found.0.1, subst P found.2 both.0, (has_name-Decides found.0.1.descendants lower).0 both.1),
+      let Stands : PlainName → Type 0 = λ name. Contains schema.entity_types (name, found.0.1) in
+      (found.0.1, subst Stands found.2 both.0, (has_name-Decides found.0.1.descendants lower).0 both.1),
   λ lists.
       Contains-image (λ (it : PlainName × SchemaEntityType). it.0)
       (filter (λ (it : PlainName × SchemaEntityType). has_name it.1.descendants lower) schema.entity_types) (upper, lists.0)

@@ -1,8 +1,7 @@
-use Rattle.std.proofs.Common.{◌≡◌, ◌↔◌, ◌++◌, [], ◌∷◌, IsTrue, Contains, ap, arith, cond, map, not, sym, subst, ◌∙◌}
+use Rattle.std.proofs.Common.{◌≡◌, ◌++◌, [], ◌∷◌, ap, arith, cond, map, not, sym, ◌∙◌}
 use Rattle.std.proofs.lemmas.List.{nil_from_length}
 use Rattle.cedar_below.specs.Id.{id_text}
 use Rattle.cedar_below.specs.InternalName.{name_of}
-use Rattle.cedar_below.specs.PlainName.{PlainName}
 use Rattle.cedar_resolution.proofs.KeptSoFar.{KeptSoFar-none, KeptSoFar-next, KeptSoFar-all}
 use Rattle.cedar_resolution.proofs.TakenNames.{taken_is}
 use Rattle.cedar_fragments.specs.HeldNames.{held_names}
@@ -25,9 +24,8 @@ loop-word-preserved c =
       base = c.new-name.ensures.base i;
       path = (c.new-name.ensures.path ∙ ap (map id_text) c.new.ensures.items) i;
     }) in
-    let P : PlainName → Type 0 = λ name. IsTrue c.is_declared-is_free.result ↔ Contains names name in
     KeptSoFar-next _ _ _ _ _ _ _ _ (c.in-Some.word, c.in-Some.ty) (not c.is_declared-is_free.result) c.in-Some.ensures.steps.0
-    (ap not (taken_is names word c.is_declared-is_free.result (subst P named c.is_declared-is_free.ensures)))
+    (ap not (taken_is names word c.is_declared-is_free.result (rw named at c.is_declared-is_free.ensures)))
     (c.in_ok-add_free.ensures ∙ ap (λ name. cond (not c.is_declared-is_free.result)
     (collected_common c.loop-word.named.items ++ (name, resolved_expr c.in-Some.ty) ∷ []) (collected_common c.loop-word.named.items)) named)
     c.loop-word.invariant

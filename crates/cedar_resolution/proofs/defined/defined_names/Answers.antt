@@ -1,19 +1,17 @@
-use Rattle.std.proofs.Common.{◌≡◌, ◌⊎◌, ◌++◌, List, ap, map, sym, subst, ◌∙◌, inl, inr, ⊎_elim}
+use Rattle.std.proofs.Common.{◌≡◌, ◌⊎◌, ◌++◌, List, ap, ◌∙◌, inl, inr}
 use Rattle.std.proofs.lemmas.Result.{err_from_is_err_and}
 use Rattle.std.proofs.lemmas.Simd.{map-map}
 use Rattle.cedar_below.specs.InternalName.{name_of}
-use Rattle.cedar_below.specs.Lists.{SameItems}
 use Rattle.cedar_below.specs.PlainName.{PlainName}
-use Rattle.cedar_below.specs.PlainUid.{PlainUid}
 use Rattle.cedar_below.specs.declared.internal_name.InternalName.{InternalName}
-use Rattle.cedar_declarations.specs.Bag.{action_uids, aliases, built_ins, defined_names}
+use Rattle.cedar_declarations.specs.Bag.{aliases, built_ins}
 use Rattle.cedar_declarations.specs.Fault.{out_of_memory}
 use Rattle.cedar_declarations.specs.IllFormed.{IsFault}
 use Rattle.cedar_declarations.specs.ResolvedExpr.{resolved_expr}
 use Rattle.cedar_declarations.specs.SchemaError.{fault_of}
 use Rattle.cedar_fragments.proofs.DeclaredNames.{names_are_declared}
 use Rattle.cedar_fragments.specs.FragmentDeclarations.{conditional_bag}
-use Rattle.cedar_fragments.specs.HeldNames.{held_names, declared_names, HasAlso, HoldsJust}
+use Rattle.cedar_fragments.specs.HeldNames.{held_names, declared_names, HoldsJust}
 use Rattle.cedar_fragments.specs.declared.defs.all_defs.AllDefs.{AllDefs}
 use Rattle.cedar_fragments.specs.declared.namespace.fragment.ValidatorSchemaFragment.{ValidatorSchemaFragment}
 use Rattle.cedar_names.specs.ConditionalExpr.{positional_reference}
@@ -41,10 +39,11 @@ returns-in_err-rfc_70_shadowing_checks-clause-fault c =
     let extensions = c.args.extensions.now in
     let found = fault_of c.in_err-rfc_70_shadowing_checks.field-0.0 in
     let at_fault : (found ≡ out_of_memory) ⊎ IsFault bag extensions found =
-    ⊎_elim (λ memory. inl memory)
-    (λ shadowing. inr (shadowing_fault bag extensions (held_names c.in_ok-declared.declared)
-    (declared_just c.args.fragments.now c.in_ok-declared.declared c.in_ok-declared.ensures) found shadowing))
-    c.in_err-rfc_70_shadowing_checks.ensures.fault in
+    elim c.in_err-rfc_70_shadowing_checks.ensures.fault [
+      | inl memory ↦ inl memory
+      | inr shadowing ↦ inr (shadowing_fault bag extensions (held_names c.in_ok-declared.declared)
+          (declared_just c.args.fragments.now c.in_ok-declared.declared c.in_ok-declared.ensures) found shadowing)
+    ] in
     let p = err_from_is_err_and c.from_residual-in_err-rfc_70_shadowing_checks.result
     c.from_residual-in_err-rfc_70_shadowing_checks.ensures.1 in
     rw (p.1, p.2) at_fault
@@ -71,24 +70,16 @@ returns-clause-names c =
     let marked = held_names c.in_ok-defined.defined in
     let all = held_names c.in_ok-defs.defs in
     let just = declared_just c.args.fragments.now c.in_ok-declared.declared c.in_ok-declared.ensures in
-    let Common : List PlainName → Type 0 = λ names. SameItems names (defined_names bag extensions).common in
-    let Marked : List (InternalName × «Type» InternalName) → Type 0 = λ types. HasAlso marked.common held.common (map
-    (λ it. name_of it.0) types) in
-    let Also : List PlainName → Type 0 = HasAlso marked.common held.common in
-    let Entities : List PlainName → Type 0 = λ names. HasAlso all.entities names (map (λ uid. uid.ty) marked.actions) in
-    let Types : List PlainUid → Type 0 = λ uids. HasAlso all.entities held.entities (map (λ uid. uid.ty) uids) in
-    let Actions : List PlainUid → Type 0 = λ uids. SameItems uids (action_uids bag) in
     let built_in = c.in_ok-built_in.built_in.items in
     record {
-      common = subst Common (sym c.in_ok-defs.ensures.common_stay)
+      common = rw c.in_ok-defs.ensures.common_stay
           (same_common bag extensions held just (collected_common built_in) marked.common
           (built_in_are ((goal.at.returns-clause-names c).After-deref))
-          (subst Also (sym (map-map (λ (it : PlainName × Expr). it.0) (λ (it : InternalName × «Type» InternalName). (name_of it.0, resolved_expr it.1)) built_in))
-          (subst Marked c.deref.ensures.value c.in_ok-defined.ensures.common)));
+          (rw (map-map (λ (it : PlainName × Expr). it.0) (λ (it : InternalName × «Type» InternalName). (name_of it.0, resolved_expr it.1)) built_in)
+          (rw c.deref.ensures.value at c.in_ok-defined.ensures.common)));
       entities = same_entities bag extensions held just all.entities
-          (subst Types c.in_ok-defined.ensures.actions_stay
-          (subst Entities c.in_ok-defined.ensures.entities_stay c.in_ok-defs.ensures.entities));
-      actions = subst Actions (sym (c.in_ok-defs.ensures.actions_stay ∙ c.in_ok-defined.ensures.actions_stay)) just.actions;
+          (rw (c.in_ok-defined.ensures.entities_stay, c.in_ok-defined.ensures.actions_stay) at c.in_ok-defs.ensures.entities);
+      actions = rw (c.in_ok-defs.ensures.actions_stay, c.in_ok-defined.ensures.actions_stay) just.actions;
     }
 
 pub returns-clause-no_type_shadows : goal.returns-clause-no_type_shadows

@@ -1,10 +1,7 @@
 use Rattle.std.proofs.Common.{◌≡◌, ◌⊎◌, ◌++◌, List, subst}
-use Rattle.std.proofs.lemmas.Result.{err_from_is_err_and}
-use Rattle.cedar_below.specs.PlainName.{PlainName}
-use Rattle.cedar_below.specs.PlainUid.{PlainUid}
 use Rattle.cedar_below.specs.declared.extension.Extensions.{Extensions}
 use Rattle.cedar_declarations.specs.Bag.{aliases, built_ins, defined_names}
-use Rattle.cedar_declarations.specs.Fault.{Fault, out_of_memory, type_shadowing, action_shadowing}
+use Rattle.cedar_declarations.specs.Fault.{Fault, out_of_memory}
 use Rattle.cedar_declarations.specs.IllFormed.{IsFault}
 use Rattle.cedar_declarations.specs.SchemaError.{fault_of}
 use Rattle.cedar_fragments.specs.FragmentDeclarations.{conditional_bag, resolved_fragment}
@@ -16,6 +13,7 @@ use Rattle.cedar_resolution.specs.Collected.{collected_common}
 use Rattle.cedar_resolution.proofs.SameNames.{bag_alike}
 use Rattle.cedar_resolution.proofs.ResolutionFaults.{resolution_fault}
 use Rattle.cedar_resolution.proofs.resolved.resolve_fragments.Goals as goal
+use Rattle.cedar_fragments.proofs.FragmentLemmas.{exit_holds}
 use Rattle.std.specs.List.{flat_map}
 
 -- fragments over conditional names
@@ -32,21 +30,15 @@ Refuses extensions fault fragments = (fault ≡ out_of_memory) ⊎ IsFault (cond
 
 pub returns-in_err-defs-clause-fault : goal.returns-in_err-defs-clause-fault
 returns-in_err-defs-clause-fault c =
-    let found = fault_of c.in_err-defs.field-0.0 in
-    let P : Fragments → Type 0 = Refuses c.args.extensions.now found in
-    let at_fault : P c.args.fragments.items = subst P c.deref.ensures.value c.in_err-defs.ensures.fault in
-    let p = err_from_is_err_and c.from_residual.result c.from_residual.ensures.1 in
-    rw (p.1, p.2) at_fault
+    exit_holds _ _ _ c.from_residual.ensures.1 (rw c.deref.ensures.value at c.in_err-defs.ensures.fault)
 
 pub returns-in_err-fragments-clause-fault : goal.returns-in_err-fragments-clause-fault
 returns-in_err-fragments-clause-fault c =
     let found = fault_of c.in_err-fragments.field-0.0 in
     let P : Fragments → Type 0 = Defines c.in_ok-defs.field-0.defs c.args.extensions.now in
-    let at_fault : Refuses c.args.extensions.now found c.args.fragments.items =
-    resolution_fault c.args.fragments.items c.args.extensions.now (held_names c.in_ok-defs.field-0.defs)
-    (subst P c.deref.ensures.value c.in_ok-defs.ensures.names) found c.in_err-fragments.ensures.fault in
-    let p = err_from_is_err_and c.from_residual-in_err-fragments.result c.from_residual-in_err-fragments.ensures.1 in
-    rw (p.1, p.2) at_fault
+    exit_holds _ _ _ c.from_residual-in_err-fragments.ensures.1
+    (resolution_fault c.args.fragments.items c.args.extensions.now (held_names c.in_ok-defs.field-0.defs)
+    (subst P c.deref.ensures.value c.in_ok-defs.ensures.names) found c.in_err-fragments.ensures.fault)
 
 pub returns-clause-resolved : goal.returns-clause-resolved
 returns-clause-resolved c =
@@ -69,14 +61,8 @@ returns-clause-built_in c =
 
 pub returns-clause-no_type_shadows : goal.returns-clause-no_type_shadows
 returns-clause-no_type_shadows c =
-    let P : Fragments → Type 0 = λ fragments.
-    (plain qualified : PlainName) → ¬ IsFault (conditional_bag fragments) c.args.extensions.now
-    (type_shadowing plain qualified) in
-    subst P c.deref.ensures.value c.in_ok-defs.ensures.no_type_shadows
+    rw c.deref.ensures.value at c.in_ok-defs.ensures.no_type_shadows
 
 pub returns-clause-no_action_shadows : goal.returns-clause-no_action_shadows
 returns-clause-no_action_shadows c =
-    let P : Fragments → Type 0 = λ fragments.
-    (plain qualified : PlainUid) → ¬ IsFault (conditional_bag fragments) c.args.extensions.now
-    (action_shadowing plain qualified) in
-    subst P c.deref.ensures.value c.in_ok-defs.ensures.no_action_shadows
+    rw c.deref.ensures.value at c.in_ok-defs.ensures.no_action_shadows

@@ -1,4 +1,4 @@
-use Rattle.std.proofs.Common.{◌≡◌, ◌↔◌, Bool, List, ap, map, refl, string_bytes, sym, subst, ◌∙◌, Contains}
+use Rattle.std.proofs.Common.{◌≡◌, ◌↔◌, Bool, List, ap, map, refl, string_bytes, sym, ◌∙◌, Contains}
 use Rattle.std.proofs.lemmas.Bool.{false≢true}
 use Rattle.cedar_schema_elements.specs.ValidatorActionId.{plain_action_entry}
 use Rattle.cedar_below.specs.EntityUID.{uid_of}
@@ -7,11 +7,11 @@ use Rattle.cedar_below.specs.PlainUid.{PlainUid}
 use Rattle.cedar_below.specs.Text.{Text}
 use Rattle.cedar_declarations.specs.PlainSchema.{SchemaAction}
 use Rattle.cedar_declarations.specs.ValidSchema.{ListsDescendantAction}
-use Rattle.cedar_declarations.specs.ConvertedBack.{AreFullUids, IsActionDeclaration, IsPathOf, NamesNoOtherAction, full_uid}
+use Rattle.cedar_declarations.specs.ConvertedBack.{IsActionDeclaration, IsPathOf, NamesNoOtherAction, full_uid}
 use Rattle.cedar_names.specs.ActionBody.{action_body}
 use Rattle.cedar_names.specs.Declaration.{action}
 use Rattle.cedar_names.specs.RawExpr.{raw_reference}
-use Rattle.cedar_names.specs.Reference.{ActionReference, name_within}
+use Rattle.cedar_names.specs.Reference.{name_within}
 use Rattle.cedar_names.specs.declared.json_schema.raw_name.RawName.{RawName}
 use Rattle.cedar_schema_elements.proofs.KeyLemmas.{names_of_keys, uids_once}
 use Rattle.cedar_schema_writer.proofs.KindLemmas.{images, images-same}
@@ -56,10 +56,9 @@ returns-then-not-is_action-clause-refusal c =
 pub returns-in_err-check_descendants-clause-refusal : goal.returns-in_err-check_descendants-clause-refusal
 returns-in_err-check_descendants-clause-refusal c =
     let at = (goal.at.returns-in_err-check_descendants-clause-refusal c).In-Some in
-    let Q : List PlainUid → Type 0 = λ uids. (lower : PlainUid) × Contains (turn at).1.descendants lower × ¬ Contains uids lower in
     refusal_passed _ _ c.from_residual.ensures.1 c.in_err-check_descendants.ensures.refusal
     (λ some.
-    let unknown = subst Q (sym (names_of_keys uid_of plain_action_entry (λ e. refl) c.args.known.now.actions.now.entries)) some in
+    let unknown = rw (← names_of_keys uid_of plain_action_entry (λ e. refl) c.args.known.now.actions.now.entries) at some in
     (turn at, listed at, λ sound. unknown.2 (sound.below unknown.0 unknown.1)))
 
 pub returns-in_err-parents-clause-refusal : goal.returns-in_err-parents-clause-refusal
@@ -106,9 +105,7 @@ loop-uid-preserved c =
     let names = c.in_ok-parents.ensures.names upper in
     let lists = c.requires.uppers c.in-Some.uid.now upper in (λ among. lists.0 (names.0 among), λ of. names.1 (lists.1 of)) in
     let written = c.in_ok-declared.ensures.written in
-    let R : List ActionReference → Type 0 = AreFullUids namespace Lists in
     let steps = ap (map plain_action_entry) c.in-Some.ensures.steps in
-    let Q : List PlainUid → Type 0 = λ uids. (lower : PlainUid) → Contains it.1.descendants lower → Contains uids lower in
     let sound : IsSoundActionEntry known it = record {
       action_type = action_type;
       kind = in_each_namespace (λ each. IsSoundAction (known_names known) each it.1.kind) namespace _ (path at)
@@ -116,7 +113,7 @@ loop-uid-preserved c =
       above = in_each_namespace (λ each. (upper : PlainUid) → Lists upper → NamesNoOtherAction (known_names known) each upper) namespace
           _ (path at)
           (λ upper lists. c.in_ok-parents.ensures.no_other upper ((c.requires.uppers c.in-Some.uid.now upper).1 lists));
-      below = subst Q (sym (names_of_keys uid_of plain_action_entry (λ e. refl) known.actions.now.entries))
+      below = rw (names_of_keys uid_of plain_action_entry (λ e. refl) known.actions.now.entries)
           c.in_ok-check_descendants.ensures.there;
     } in
     record {
@@ -129,7 +126,7 @@ loop-uid-preserved c =
             declares = ap (λ (attributes : Bool). action
                 (record { has_attributes = attributes; parents = body.parents; applies_to = body.applies_to }))
                 written.without_attributes;
-            above = subst R (sym written.parents_are)
+            above = rw written.parents_are
                 (images-same (full_uid namespace) (λ upper. Contains uids upper) Lists same (map (full_uid namespace) uids)
                 (images (full_uid namespace) uids));
             kind = written.requests_are;

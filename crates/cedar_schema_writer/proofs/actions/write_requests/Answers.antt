@@ -1,5 +1,4 @@
-use Rattle.std.proofs.Common.{List, Some, ap, sym, subst, ◌∙◌, Contains}
-use Rattle.cedar_below.specs.PlainName.{PlainName}
+use Rattle.std.proofs.Common.{Some, ap, sym, ◌∙◌}
 use Rattle.cedar_types.specs.Meaning.{ty_of}
 use Rattle.cedar_schema_writer.proofs.Refusals.{refusal_passed}
 use Rattle.cedar_schema_writer.specs.Parts.{known_names, plain_namespace}
@@ -12,16 +11,14 @@ returns-in_err-principal_types-clause-refusal c =
     let kind = (action_of c.args.action.now).kind in
     refusal_passed _ _ c.from_residual.ensures.1 c.in_err-principal_types.ensures.refusal
     (λ some sound.
-    let P : List PlainName → Type 0 = λ names. Contains names some.0 in
-    some.2 (sound.no_other some.0 (principal_of kind some.0 (subst P c.principals.ensures.names some.1))))
+    some.2 (sound.no_other some.0 (principal_of kind some.0 (rw c.principals.ensures.names at some.1))))
 
 pub returns-in_err-resource_types-clause-refusal : goal.returns-in_err-resource_types-clause-refusal
 returns-in_err-resource_types-clause-refusal c =
     let kind = (action_of c.args.action.now).kind in
     refusal_passed _ _ c.from_residual-in_err-resource_types.ensures.1 c.in_err-resource_types.ensures.refusal
     (λ some sound.
-    let P : List PlainName → Type 0 = λ names. Contains names some.0 in
-    some.2 (sound.no_other some.0 (resource_of kind some.0 (subst P c.resources.ensures.names some.1))))
+    some.2 (sound.no_other some.0 (resource_of kind some.0 (rw c.resources.ensures.names at some.1))))
 
 pub returns-clause-written : goal.returns-clause-written
 returns-clause-written c =
@@ -37,8 +34,6 @@ returns-clause-sound c =
     let namespace = plain_namespace c.args.namespace.now in
     sound_action namespace names (action_of c.args.action.now).kind (ty_of c.in-Some.context.now) (sym c.in-Some.ensures.ty) c.in_ok-context.ensures.sound
     (λ name among.
-    let P : List PlainName → Type 0 = λ items. Contains items name in
-    c.in_ok-principal_types.ensures.no_other name (subst P (sym c.principals.ensures.names) among))
+    c.in_ok-principal_types.ensures.no_other name (rw c.principals.ensures.names among))
     (λ name among.
-    let P : List PlainName → Type 0 = λ items. Contains items name in
-    c.in_ok-resource_types.ensures.no_other name (subst P (sym c.resources.ensures.names) among))
+    c.in_ok-resource_types.ensures.no_other name (rw c.resources.ensures.names among))

@@ -1,13 +1,11 @@
-use Rattle.std.proofs.Common.{◌≡◌, ◌≢◌, ◌++◌, ◌∷◌, [], All, List, None, map, string_bytes, subst, sym, Contains, Global}
+use Rattle.std.proofs.Common.{◌≡◌, ◌++◌, None, map, string_bytes, Global}
 use Rattle.std.proofs.lemmas.List.Elements.{Contains-append_right}
 use Rattle.std.proofs.lemmas.Map.Views.{All-values-insert_entry}
 use Rattle.std.specs.BTreeMap.{insert_entry, is_at}
-use Rattle.std.specs.List.Sorted.{IsPermutation}
-use Rattle.std.specs.Map.{lookup, values_of}
+use Rattle.std.specs.Map.{lookup}
 use Rattle.std.specs.Option.{option_cmp}
 use Rattle.std.specs.declared.string.String.{String}
 use Rattle.cedar_below.proofs.Texts.{text_cmp-Equal}
-use Rattle.cedar_below.specs.Text.{Text}
 use Rattle.cedar_below.specs.contracts.name.NameOrd.TheImpl as name_ord
 use Rattle.cedar_declarations.proofs.OccurrenceLemmas.{Contains-image}
 use Rattle.cedar_names.specs.Declaration.{Declaration, common_declarations, entity_declarations}
@@ -16,13 +14,14 @@ use Rattle.cedar_names.specs.declared.json_schema.fragment.NamespaceDefinition.{
 use Rattle.cedar_names.specs.declared.json_schema.raw_name.RawName.{RawName}
 use Rattle.cedar_schema_writer.proofs.Answered.{on_to}
 use Rattle.cedar_schema_writer.proofs.DefinitionLemmas.{absent_key, end-some, inserted-some, one_more_end, put_again, shown_inserted, tied, was_declared}
-use Rattle.cedar_schema_writer.specs.Definitions.{AppliesIfDefined, AreProper, Definitions, IsProper, action_declared, definitions_bag}
+use Rattle.cedar_schema_writer.specs.Definitions.{AppliesIfDefined, IsProper, action_declared}
 use Rattle.cedar_schema_writer.specs.Parts.{plain_namespace}
 use Rattle.std.specs.String.{string_cmp}
 use Rattle.cedar_names.specs.ActionBody.{action_body}
 use Rattle.cedar_names.specs.declared.json_schema.action_type.ActionType.{ActionType}
 use Rattle.cedar_schema_writer.proofs.definitions.put_action.Goals as goal
 
+-- the action is new in its namespace, so just one more is declared
 pub returns-clause-put : goal.returns-clause-put
 returns-clause-put c =
     let namespace = plain_namespace c.args.namespace in
@@ -39,32 +38,27 @@ returns-clause-put c =
     let was = c.take_definition-definition.ensures.taken in
     let others = common_declarations RawName (raw_reference namespace) namespace definition.common_types.entries
     ++ entity_declarations RawName (raw_reference namespace) namespace definition.entity_types.entries in
-    let P : List (String Global × ActionType RawName) → Type 0 = λ items. IsPermutation (item ∷ map show entries) (map show items) in
     on_to (new ≡ insert_entry (option_cmp ((name_ord.ghosts).cmp)) taken c.args.namespace changed) _
     (λ is fresh.
     let absent : lookup (is_at (string_cmp id)) entries ≡ None =
     absent_key (is_at (string_cmp id)) entries (λ key value tie there.
     let text : string_bytes id ≡ string_bytes key = (text_cmp-Equal (string_bytes id) (string_bytes key)).0 (tied _ tie) in
     let body = action_body RawName (raw_reference namespace) namespace value in
-    let Q : Text → Type 0 = λ word. Contains (definitions_bag old) (action_declared namespace word body) in
-    fresh body (subst Q (sym text)
-    (was_declared old taken new c.args.namespace definition changed item was (show (key, value))
+    fresh body (rw text (was_declared old taken new c.args.namespace definition changed item was (show (key, value))
     (Contains-append_right others (map show entries) (show (key, value)) (Contains-image show entries (key, value) there))))) in
     put_again old taken new c.args.namespace definition changed item was c.take_definition-definition.ensures.absent is
     (one_more_end others item (map show entries) (map show c.put.new.map.entries)
-    (subst P (sym c.in_ok-put.ensures) (shown_inserted show string_cmp entries id c.args.declared absent))))
+    (rw c.in_ok-put.ensures (shown_inserted show string_cmp entries id c.args.declared absent))))
     c.put-2.result c.put-2.ensures
 
+-- a definition with an action declares something
 pub returns-clause-proper : goal.returns-clause-proper
 returns-clause-proper c =
     let definition = c.take_definition-definition.result in
     let taken = c.take_definition-definition.new.definitions.entries in
     let entries = definition.actions.entries in
     let changed : NamespaceDefinition RawName = record definition { actions = c.put.new.map } in
-    let P : List (String Global × ActionType RawName) → Type 0 = λ others. others ≢ [] in
-    let Q : List (String Global × ActionType RawName) → Type 0 = λ others. All AppliesIfDefined (values_of others) in
-    let R : Definitions → Type 0 = AreProper in
-    let some = subst P (sym c.in_ok-put.ensures) (inserted-some string_cmp entries c.args.id c.args.declared) in
+    let some = rw (← c.in_ok-put.ensures) at (inserted-some string_cmp entries c.args.id c.args.declared) in
     on_to (c.put-2.new.map.entries ≡ insert_entry (option_cmp ((name_ord.ghosts).cmp)) taken c.args.namespace changed) _
     (λ is applies all.
     let proper = c.take_definition-definition.ensures.proper all in
@@ -75,8 +69,8 @@ returns-clause-proper c =
           (common_declarations RawName (raw_reference namespace) namespace definition.common_types.entries
           ++ entity_declarations RawName (raw_reference namespace) namespace definition.entity_types.entries)
           c.put.new.map.entries some;
-      applies = subst Q (sym c.in_ok-put.ensures)
+      applies = rw c.in_ok-put.ensures
           (All-values-insert_entry string_cmp c.args.id c.args.declared AppliesIfDefined entries proper.0 applies);
     } in
-    subst R (sym is) (All-values-insert_entry (option_cmp ((name_ord.ghosts).cmp)) c.args.namespace changed IsProper taken proper.1 one))
+    rw is (All-values-insert_entry (option_cmp ((name_ord.ghosts).cmp)) c.args.namespace changed IsProper taken proper.1 one))
     c.put-2.result c.put-2.ensures

@@ -1,13 +1,11 @@
-use Rattle.std.proofs.Common.{◌≡◌, ◌≢◌, ◌++◌, ◌∷◌, [], List, None, ap, map, subst, sym, ◌∙◌, Contains}
+use Rattle.std.proofs.Common.{◌≡◌, ◌++◌, None, ap, map, sym, ◌∙◌}
 use Rattle.std.proofs.lemmas.List.Elements.{Contains-append_left, Contains-append_right}
 use Rattle.std.proofs.lemmas.Map.Views.{All-values-insert_entry}
 use Rattle.std.specs.BTreeMap.{insert_entry, is_at}
-use Rattle.std.specs.List.Sorted.{IsPermutation}
 use Rattle.std.specs.Map.{lookup}
 use Rattle.std.specs.Option.{option_cmp}
 use Rattle.std.specs.Ordering.{is_eq}
 use Rattle.cedar_below.proofs.Texts.{text_cmp-Equal}
-use Rattle.cedar_below.specs.Text.{Text}
 use Rattle.cedar_below.specs.contracts.name.NameOrd.TheImpl as name_ord
 use Rattle.cedar_declarations.proofs.OccurrenceLemmas.{Contains-image}
 use Rattle.cedar_names.specs.Declaration.{Declaration, common_declarations, action_declarations}
@@ -16,7 +14,7 @@ use Rattle.cedar_names.specs.declared.json_schema.fragment.NamespaceDefinition.{
 use Rattle.cedar_names.specs.declared.json_schema.raw_name.RawName.{RawName}
 use Rattle.cedar_schema_writer.proofs.Answered.{on_to}
 use Rattle.cedar_schema_writer.proofs.DefinitionLemmas.{absent_key, inserted-some, middle-some, one_more, put_again, shown_inserted, tied, was_declared}
-use Rattle.cedar_schema_writer.specs.Definitions.{AreProper, Definitions, IsProper, definitions_bag, type_declared}
+use Rattle.cedar_schema_writer.specs.Definitions.{IsProper, type_declared}
 use Rattle.cedar_schema_writer.specs.Parts.{plain_namespace}
 use Rattle.cedar_below.proofs.Ids.{unreserved_id_ord-text_cmp}
 use Rattle.cedar_below.specs.UnreservedId.{unreserved_id_text}
@@ -26,6 +24,7 @@ use Rattle.cedar_names.specs.EntityBody.{raw_entity_body}
 use Rattle.cedar_names.specs.declared.json_schema.entity_type.EntityType.{EntityType}
 use Rattle.cedar_schema_writer.proofs.definitions.put_entity_type.Goals as goal
 
+-- the entity type is new in its namespace, so just one more is declared
 pub returns-clause-put : goal.returns-clause-put
 returns-clause-put c =
     let namespace = plain_namespace c.args.namespace in
@@ -42,7 +41,6 @@ returns-clause-put c =
     let was = c.take_definition-definition.ensures.taken in
     let common = common_declarations RawName (raw_reference namespace) namespace definition.common_types.entries in
     let actions = action_declarations RawName (raw_reference namespace) namespace definition.actions.entries in
-    let P : List (UnreservedId × EntityType RawName) → Type 0 = λ others. IsPermutation (item ∷ map show entries) (map show others) in
     on_to (new ≡ insert_entry (option_cmp ((name_ord.ghosts).cmp)) taken c.args.namespace changed) _
     (λ is fresh.
     let absent : lookup (is_at ((id_ord.ghosts).cmp id)) entries ≡ None =
@@ -50,25 +48,22 @@ returns-clause-put c =
     let text : unreserved_id_text id ≡ unreserved_id_text key =
     (text_cmp-Equal (unreserved_id_text id) (unreserved_id_text key)).0 (tied _ (sym (ap is_eq
     (unreserved_id_ord-text_cmp id key)) ∙ tie)) in
-    let Q : Text → Type 0 = λ word. Contains (definitions_bag old) (type_declared namespace word (raw_entity_body namespace value)) in
-    fresh (raw_entity_body namespace value) (subst Q (sym text)
-    (was_declared old taken new c.args.namespace definition changed item was (show (key, value))
+    fresh (raw_entity_body namespace value) (rw text (was_declared old taken new c.args.namespace definition changed item was (show (key, value))
     (Contains-append_left (common ++ map show entries) actions (show (key, value))
     (Contains-append_right common (map show entries) (show (key, value)) (Contains-image show entries (key, value) there)))))) in
     put_again old taken new c.args.namespace definition changed item was c.take_definition-definition.ensures.absent is
     (one_more common item (map show entries) (map show c.put.new.map.entries) actions
-    (subst P (sym c.in_ok-put.ensures) (shown_inserted show ((id_ord.ghosts).cmp) entries id c.args.declared absent))))
+    (rw c.in_ok-put.ensures (shown_inserted show ((id_ord.ghosts).cmp) entries id c.args.declared absent))))
     c.put-2.result c.put-2.ensures
 
+-- a definition with an entity type declares something
 pub returns-clause-proper : goal.returns-clause-proper
 returns-clause-proper c =
     let definition = c.take_definition-definition.result in
     let taken = c.take_definition-definition.new.definitions.entries in
     let entries = definition.entity_types.entries in
     let changed : NamespaceDefinition RawName = record definition { entity_types = c.put.new.map } in
-    let P : List (UnreservedId × EntityType RawName) → Type 0 = λ others. others ≢ [] in
-    let R : Definitions → Type 0 = AreProper in
-    let some = subst P (sym c.in_ok-put.ensures) (inserted-some ((id_ord.ghosts).cmp) entries c.args.id c.args.declared) in
+    let some = rw (← c.in_ok-put.ensures) at (inserted-some ((id_ord.ghosts).cmp) entries c.args.id c.args.declared) in
     on_to (c.put-2.new.map.entries ≡ insert_entry (option_cmp ((name_ord.ghosts).cmp)) taken c.args.namespace changed) _
     (λ is all.
     let proper = c.take_definition-definition.ensures.proper all in
@@ -81,5 +76,5 @@ returns-clause-proper c =
           c.put.new.map.entries some;
       applies = proper.0;
     } in
-    subst R (sym is) (All-values-insert_entry (option_cmp ((name_ord.ghosts).cmp)) c.args.namespace changed IsProper taken proper.1 one))
+    rw is (All-values-insert_entry (option_cmp ((name_ord.ghosts).cmp)) c.args.namespace changed IsProper taken proper.1 one))
     c.put-2.result c.put-2.ensures

@@ -1,31 +1,22 @@
-use Rattle.std.proofs.Common.{ap, map, sym, subst, Contains}
-use Rattle.cedar_below.specs.PlainName.{PlainName}
-use Rattle.cedar_declarations.specs.EntityTypeKind.{EntityTypeKind, external_kind}
-use Rattle.cedar_declarations.specs.ConvertedBack.{IsKindWritten}
+use Rattle.std.proofs.Common.{ap, map, Contains}
 use Rattle.cedar_schema_elements.specs.EntityTypeKind.{plain_kind}
 use Rattle.cedar_schema_elements.specs.ValidatorEntityType.{entity_type_of}
 use Rattle.cedar_names.specs.RawName.{raw_name}
 use Rattle.cedar_schema_writer.proofs.Refusals.{refusal_passed, refusal_weaker}
 use Rattle.cedar_schema_writer.specs.Parts.{known_names, plain_namespace}
-use Rattle.cedar_schema_writer.specs.Sound.{IsSoundKind}
-use Rattle.cedar_names.specs.EntityBody.{EntityBody, raw_entity_body}
 use Rattle.cedar_schema_writer.proofs.KindLemmas.{enumerated_alone, shows_none, standard-parts, written_names}
 use Rattle.cedar_schema_writer.proofs.entity_types.write_entity_type.Goals as goal
 
 pub returns-in_err-standard-in-Standard-clause-refusal : goal.returns-in_err-standard-in-Standard-clause-refusal
 returns-in_err-standard-in-Standard-clause-refusal c =
     let kind = (entity_type_of c.args.ty.now).kind in
-    let P : EntityTypeKind → Type 0 = IsSoundKind (known_names c.args.known.now) (plain_namespace c.args.namespace.now)
-    (λ upper. Contains (map raw_name c.args.parents.items) upper) in
     refusal_passed _ _ c.from_residual.ensures.1 c.in_err-standard-in-Standard.ensures.refusal
-    (λ unsound sound. unsound (subst P (sym (standard-parts kind _ _ _ (ap plain_kind c.in-Standard.is))) sound))
+    (λ unsound sound. unsound (rw (standard-parts kind _ _ _ (ap plain_kind c.in-Standard.is)) sound))
 
 pub returns-in_ok-standard-in-Standard-clause-sound : goal.returns-in_ok-standard-in-Standard-clause-sound
 returns-in_ok-standard-in-Standard-clause-sound c =
     let kind = (entity_type_of c.args.ty.now).kind in
-    let P : EntityTypeKind → Type 0 = IsSoundKind (known_names c.args.known.now) (plain_namespace c.args.namespace.now)
-    (λ upper. Contains (map raw_name c.args.parents.items) upper) in
-    subst P (standard-parts kind _ _ _ (ap plain_kind c.in-Standard.is)) c.in_ok-standard-in-Standard.ensures.sound
+    rw (standard-parts kind _ _ _ (ap plain_kind c.in-Standard.is)) at c.in_ok-standard-in-Standard.ensures.sound
 
 pub returns-in-Enum-clause-refusal : goal.returns-in-Enum-clause-refusal
 returns-in-Enum-clause-refusal c =
@@ -39,8 +30,5 @@ returns-in-Enum-clause-refusal c =
 pub returns-in-External-clause-written : goal.returns-in-External-clause-written
 returns-in-External-clause-written c =
     let namespace = plain_namespace c.args.namespace.now in
-    let above : PlainName → Type 0 = (λ upper. Contains (map raw_name c.args.parents.items) upper) in
-    let P : EntityTypeKind → Type 0 = λ kind. IsKindWritten namespace above kind (raw_entity_body namespace c.external_type.result) in
-    let Q : EntityBody → Type 0 = IsKindWritten namespace above external_kind in
-    subst P (sym (ap plain_kind c.in-External.is)) (subst Q (sym (c.external_type.ensures namespace))
-    (written_names namespace c.args.parents.items))
+    rw (ap plain_kind c.in-External.is, c.external_type.ensures namespace)
+    (written_names namespace c.args.parents.items)

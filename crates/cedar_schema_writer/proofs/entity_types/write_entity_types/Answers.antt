@@ -1,4 +1,4 @@
-use Rattle.std.proofs.Common.{◌≡◌, ◌↔◌, List, ap, map, refl, sym, subst, ◌∙◌, Contains}
+use Rattle.std.proofs.Common.{◌≡◌, ◌↔◌, List, ap, map, refl, sym, ◌∙◌, Contains}
 use Rattle.cedar_below.specs.EntityType.{type_name}
 use Rattle.cedar_below.specs.PlainName.{PlainName}
 use Rattle.cedar_below.specs.Text.{Text}
@@ -56,10 +56,9 @@ parents c upper =
 pub returns-in_err-check_descendants-clause-refusal : goal.returns-in_err-check_descendants-clause-refusal
 returns-in_err-check_descendants-clause-refusal c =
     let at = (goal.at.returns-in_err-check_descendants-clause-refusal c).In-Some in
-    let Q : List PlainName → Type 0 = λ names. (lower : PlainName) × Contains (turn at).1.descendants lower × ¬ Contains names lower in
     refusal_passed _ _ c.from_residual.ensures.1 c.in_err-check_descendants.ensures.refusal
     (λ some.
-    let unknown = subst Q (sym (names_of_keys type_name plain_entry (λ e. refl) c.args.known.now.entity_types.now.entries)) some in
+    let unknown = rw (← names_of_keys type_name plain_entry (λ e. refl) c.args.known.now.entity_types.now.entries) at some in
     (turn at, listed at, λ sound. unknown.2 (sound.below unknown.0 unknown.1)))
 
 pub returns-in_err-parents-clause-refusal : goal.returns-in_err-parents-clause-refusal
@@ -104,7 +103,6 @@ loop-name-preserved c =
     let Lists : PlainName → Type 0 = λ upper. ListsDescendant schema it.0 upper in
     let old = definitions_bag c.args.definitions.now.entries in
     let steps = ap (map plain_entry) c.in-Some.ensures.steps in
-    let Q : List PlainName → Type 0 = λ names. (lower : PlainName) → Contains it.1.descendants lower → Contains names lower in
     record {
       put = put_more steps c.loop-name.invariant.put (type_declared namespace id body)
           (definitions_bag c.put_entity_type.new.definitions.entries)
@@ -120,7 +118,7 @@ loop-name-preserved c =
             above = in_each_namespace (λ each. (upper : PlainName) → Lists upper → NamesNoOther (known_names known) each upper) namespace
                 _ (path at)
                 (λ upper lists. c.in_ok-parents.ensures.no_other upper ((c.requires.uppers c.in-Some.name.now upper).1 lists));
-            below = subst Q (sym (names_of_keys type_name plain_entry (λ e. refl) known.entity_types.now.entries))
+            below = rw (names_of_keys type_name plain_entry (λ e. refl) known.entity_types.now.entries)
                 c.in_ok-check_descendants.ensures.there;
           })
           (c.in_ok-put_entity_type.ensures.put (λ other among.

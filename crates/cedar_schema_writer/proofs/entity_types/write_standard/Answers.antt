@@ -1,10 +1,7 @@
-use Rattle.std.proofs.Common.{Option, inl, refl, subst}
-use Rattle.std.specs.Option.{option_map}
+use Rattle.std.proofs.Common.{inl, refl}
 use Rattle.cedar_declarations.specs.EntityTypeKind.{kind_fields, kind_openness}
-use Rattle.cedar_declarations.specs.ConvertedBack.{AreTagsWritten}
 use Rattle.cedar_schema_elements.specs.ValidatorEntityType.{entity_type_of}
-use Rattle.cedar_names.specs.RawExpr.{raw_expr}
-use Rattle.cedar_type_rules.specs.Ty.{Ty, record_of}
+use Rattle.cedar_type_rules.specs.Ty.{record_of}
 use Rattle.cedar_schema_writer.proofs.Refusals.{refusal_passed}
 use Rattle.cedar_schema_writer.specs.Parts.{plain_namespace}
 use Rattle.cedar_schema_writer.proofs.KindLemmas.{written_names}
@@ -18,9 +15,8 @@ returns-in_err-shape-clause-refusal c =
 
 pub returns-clause-written : goal.returns-clause-written
 returns-clause-written c =
-    let namespace = plain_namespace c.args.namespace.now in
-    let P : Option Ty → Type 0 = λ tags. AreTagsWritten namespace tags (option_map (raw_expr namespace) c.in_ok-tags.tags) in (
+    let namespace = plain_namespace c.args.namespace.now in (
       written_names namespace c.args.parents.items,
       c.in_ok-shape.ensures.written,
-      subst P c.tag_type.ensures.ty c.in_ok-tags.ensures.written,
+      rw c.tag_type.ensures.ty at c.in_ok-tags.ensures.written,
     )

@@ -1,4 +1,4 @@
-use Rattle.std.proofs.Common.{Contains, ap, refl, sym, subst}
+use Rattle.std.proofs.Common.{Contains, ap, refl}
 use Rattle.std.proofs.lemmas.List.Elements.{All-nil}
 use Rattle.cedar_below.specs.EntityType.{type_name}
 use Rattle.cedar_below.specs.EntityUID.{uid_of}
@@ -10,7 +10,7 @@ use Rattle.cedar_schema_elements.specs.declared.action_id.ValidatorActionId.{Val
 use Rattle.cedar_schema_elements.specs.declared.entity_type.ValidatorEntityType.{ValidatorEntityType}
 use Rattle.cedar_schema_writer.proofs.Refusals.{refusal_passed}
 use Rattle.cedar_schema_writer.proofs.Whole.{action_writable, no_action, parts_writable, parts_written, type_writable}
-use Rattle.cedar_schema_writer.specs.Definitions.{AreProper, Definitions, IsProper, definitions_bag}
+use Rattle.cedar_schema_writer.specs.Definitions.{IsProper, definitions_bag}
 use Rattle.cedar_schema_writer.specs.Parts.{known_schema}
 use Rattle.cedar_schema_writer.specs.declared.known.Known.{Known}
 use Rattle.cedar_schema_writer.proofs.fragment.json_schema.Goals as goal
@@ -71,6 +71,4 @@ returns-clause-written c = λ entities.
 
 pub returns-clause-definitions : goal.returns-clause-definitions
 returns-clause-definitions c =
-    let P : Definitions → Type 0 = AreProper in
-    c.in_ok-write_actions.ensures.proper (c.in_ok-write_entity_types.ensures.proper (subst P
-    (sym c.new-definitions.ensures.empty) (All-nil IsProper)))
+    c.in_ok-write_actions.ensures.proper (c.in_ok-write_entity_types.ensures.proper (rw c.new-definitions.ensures.empty (All-nil IsProper)))

@@ -1,4 +1,4 @@
-use Rattle.std.proofs.Common.{◌≡◌, ◌++◌, List, [], ◌∷◌, None, ap, sym, subst, ◌∙◌, map, refl, Contains}
+use Rattle.std.proofs.Common.{◌≡◌, ◌++◌, List, [], ◌∷◌, None, ap, ◌∙◌, map, refl}
 use Rattle.std.proofs.lemmas.List.{map-append}
 use Rattle.std.proofs.lemmas.Map.Iter.{iter_end}
 use Rattle.std.specs.Map.{keys_of}
@@ -8,13 +8,10 @@ use Rattle.cedar_schema_elements.specs.declared.action_id.ValidatorActionId.{Val
 use Rattle.cedar_below.proofs.Names.{entity_type_eq-same}
 use Rattle.cedar_below.specs.EntityType.{type_name}
 use Rattle.cedar_below.specs.contracts.entity_type.EntityTypeEq.TheImpl as entity_type_equal
-use Rattle.cedar_below.specs.contracts.entity_type.EntityTypePartialEq.TheImpl as entity_type_eq
-use Rattle.cedar_below.specs.PlainName.{PlainName}
 use Rattle.cedar_below.specs.PlainUid.{PlainUid}
-use Rattle.cedar_below.specs.declared.entity_type.EntityType.{EntityType}
 use Rattle.cedar_below.specs.declared.entity_uid.EntityUID.{EntityUID}
 use Rattle.cedar_declarations.specs.PlainSchema.{SchemaAction}
-use Rattle.cedar_schema_elements.proofs.SetLemmas.{AnswersAlike, AnswersAlike-insert, SameItems-types}
+use Rattle.cedar_schema_elements.proofs.SetLemmas.{AnswersAlike-insert, SameItems-types}
 use Rattle.cedar_schema_writer.proofs.known.action_types.Goals as goal
 
 -- the names of the types of actions are those of their uids
@@ -26,12 +23,11 @@ types_of (entry ∷ rest) = ap (λ names. type_name entry.0.ty ∷ names) (types
 
 pub loop-uid-preserved : goal.loop-uid-preserved
 loop-uid-preserved c =
-    let P : List EntityType → Type 0 = AnswersAlike (entity_type_eq.ghosts).eq c.insert.new.self.keys in
     let more : map (λ (uid : EntityUID). uid.ty) (map deref (c.loop-uid.yielded ++ c.in-Some.uid ∷ []))
     ≡ map (λ (uid : EntityUID). uid.ty) (map deref c.loop-uid.yielded) ++ c.in-Some.uid.now.ty ∷ [] =
     ap (map (λ (uid : EntityUID). uid.ty)) (map-append deref c.loop-uid.yielded (c.in-Some.uid ∷ []))
     ∙ map-append (λ (uid : EntityUID). uid.ty) (map deref c.loop-uid.yielded) (c.in-Some.uid.now ∷ []) in
-    subst P (sym more)
+    rw more
     (AnswersAlike-insert entity_type_equal.Laws.laws-law (map (λ (uid : EntityUID). uid.ty) (map deref c.loop-uid.yielded)) c.loop-uid.types.keys
     c.insert.new.self.keys c.in-Some.uid.now.ty c.in_ok-clone.field-0 c.loop-uid.invariant
     ((entity_type_eq-same c.in_ok-clone.field-0 c.in-Some.uid.now.ty).1 (c.in_ok-clone.ensures.name ∙ c.entity_type.ensures.name)) c.in_ok-insert.ensures.updates.0)
@@ -43,11 +39,9 @@ returns c =
     let all : map deref c.loop-uid.yielded ≡ uids =
     (iter_end deref uids c.loop-uid.yielded c.into_iter-uid-iterator.result c.loop-uid.uid-iterator c.next.new.self None begins
     c.loop-uid.yielded_by refl c.in-None.ensures.steps).0 in
-    let P : List EntityUID → Type 0 = λ items. AnswersAlike (entity_type_eq.ghosts).eq c.loop-uid.types.keys (map (λ (uid : EntityUID). uid.ty) items) in
     λ name.
-    let Q : List PlainName → Type 0 = λ items. Contains items name in
     let same = SameItems-types c.loop-uid.types.keys (map (λ (uid : EntityUID). uid.ty) uids)
-    (subst P all c.loop-uid.invariant) name in (
-      λ among. subst Q (types_of c.args.actions.now.entries) (same.0 among),
-      λ among. same.1 (subst Q (sym (types_of c.args.actions.now.entries)) among),
+    (rw all at c.loop-uid.invariant) name in (
+      λ among. rw (types_of c.args.actions.now.entries) at (same.0 among),
+      λ among. same.1 (rw (types_of c.args.actions.now.entries) among),
     )

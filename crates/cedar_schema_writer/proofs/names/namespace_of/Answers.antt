@@ -1,12 +1,10 @@
-use Rattle.std.proofs.Common.{◌≡◌, ◌++◌, ◌-◌, length, List, [], ◌∷◌, sym, subst, ◌∙◌, map, take, IfSome}
+use Rattle.std.proofs.Common.{◌≡◌, ◌++◌, ◌-◌, length, List, [], ◌∷◌, sym, subst, ◌∙◌, map, take}
 use Rattle.cedar_below.specs.Id.{id_text}
 use Rattle.cedar_below.specs.InternalName.{name_of}
 use Rattle.cedar_below.specs.Name.{plain_name}
 use Rattle.cedar_below.specs.PlainName.{PlainName, IsReserved}
 use Rattle.cedar_below.specs.Text.{Text}
-use Rattle.cedar_declarations.specs.ConvertedBack.{IsPathOf}
 use Rattle.cedar_schema_writer.proofs.NameLemmas.{found_path, front_and_last, path-unreserved}
-use Rattle.cedar_schema_writer.specs.Parts.{plain_namespace}
 use Rattle.cedar_schema_writer.proofs.names.namespace_of.Goals as goal
 
 pub returns-in_ok-clone-in-len1-up : goal.returns-in_ok-clone-in-len1-up
@@ -22,10 +20,7 @@ returns-in_ok-clone-in-len1-up c =
     let path_is = c.new.ensures.path ∙ c.in_ok-path-in-len1-up.ensures in
     let same : full ≡ name_of c.new.result =
     (λ i. let word : Text = sym base_is i in let words : List Text = sym path_is i in record { base = word; path = words }) in
-    let P : List Text → Type 0 = λ words. ¬ IsReserved (record { base = name.base; path = words }) in
-    let Q : PlainName → Type 0 = λ it. ¬ IsReserved it in
-    let R : List Text → Type 0 = IsPathOf (plain_namespace c.new-in-len1-up.result) in
-    let allowed = subst Q same (path-unreserved name.base last front (subst P path c.args.name.now.unreserved)) in
-    let S : PlainName → Type 0 = λ it. IfSome c.new-in-len1-up.result (λ kept. plain_name kept ≡ it) in
-    subst R (sym path) (found_path c.new-in-len1-up.result full (c.new-in-len1-up.ensures.valid.1 allowed)
-    (subst S (sym same) c.new-in-len1-up.ensures.name))
+    let IsFree : PlainName → Type 0 = λ it. ¬ IsReserved it in
+    let allowed = subst IsFree same (path-unreserved name.base last front (rw path at c.args.name.now.unreserved)) in
+    rw path (found_path c.new-in-len1-up.result full (c.new-in-len1-up.ensures.valid.1 allowed)
+    (rw same c.new-in-len1-up.ensures.name))

@@ -21,7 +21,7 @@ unreachable-requires c =
     ∙ (λ i. (c.in_ok-path.ensures ∙ c.path.ensures) i ++ (c.in_ok-clone.ensures ∙ c.basename.ensures) i ∷ []))) in
     let same : name_within (Some namespace) name.base ≡ name_of c.new.result =
     (λ i. let word : Text = sym base i in let words : List Text = sym path i in record { base = word; path = words }) in
-    let P : PlainName → Type 0 = λ it. ¬ IsReserved it in
-    false≢true (c.in-None.ensures.valid.1 (subst P same
+    let IsFree : PlainName → Type 0 = λ it. ¬ IsReserved it in
+    false≢true (c.in-None.ensures.valid.1 (subst IsFree same
     (within-unreserved namespace name.base c.args.namespace.now.unreserved (λ is. c.args.name.now.unreserved
     (Rattle.std.proofs.Common.inl is)))))

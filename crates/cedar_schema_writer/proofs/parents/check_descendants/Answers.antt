@@ -7,6 +7,7 @@ use Rattle.cedar_schema_writer.proofs.Keyed.{found-key}
 use Rattle.cedar_schema_writer.proofs.Written.{each_sound, written_here, written_more, written_none}
 use Rattle.cedar_schema_writer.proofs.parents.check_descendants.Goals as goal
 
+-- at first no descendant is looked up
 pub loop-lower-init : goal.loop-lower-init
 loop-lower-init g c =
     let name = g.V.SchemaNode.key_name in (
@@ -15,6 +16,7 @@ loop-lower-init g c =
           _ refl (ap (map name) c.into_iter-lower-iterator.ensures.into_iter_gives ∙ c.descendants-lower-items.ensures),
     )
 
+-- a descendant that is not there is refused
 pub returns-then-not-contains_key-clause-refusal : goal.returns-then-not-contains_key-clause-refusal
 returns-then-not-contains_key-clause-refusal g c =
     let name = g.V.SchemaNode.key_name in
@@ -27,6 +29,7 @@ returns-then-not-contains_key-clause-refusal g c =
       λ among. false≢true (sym c.if-not-contains_key.true ∙ (c.contains_key.ensures ∙ found.1 among)),
     )
 
+-- one more is there
 pub loop-lower-preserved : goal.loop-lower-preserved
 loop-lower-preserved g c =
     let name = g.V.SchemaNode.key_name in
@@ -39,6 +42,7 @@ loop-lower-preserved g c =
           (found.0 (sym c.contains_key.ensures ∙ c.if-not-contains_key.false)),
     )
 
+-- at the end all are
 pub returns-clause-there : goal.returns-clause-there
 returns-clause-there g c =
     let name = g.V.SchemaNode.key_name in

@@ -5,6 +5,7 @@ use Rattle.cedar_schema_writer.proofs.Written.{each_sound, written_all, written_
 use Rattle.cedar_schema_writer.specs.Parts.{known_names, plain_namespace}
 use Rattle.cedar_schema_writer.proofs.parents.write_keys.Goals as goal
 
+-- at first no key is written
 pub loop-key-init : goal.loop-key-init
 loop-key-init g c =
     let name = g.K.WrittenKey.named in
@@ -12,6 +13,7 @@ loop-key-init g c =
     (map name c.args.keys.now.keys) _ _
     (ap (map g.K.WrittenKey.written) c.new-parents.ensures.items) (ap (map name) c.into_iter-key-iterator.ensures.into_iter_gives.0)
 
+-- the key that is refused is one of all
 pub returns-in_err-write-clause-refusal : goal.returns-in_err-write-clause-refusal
 returns-in_err-write-clause-refusal g c =
     let name = g.K.WrittenKey.named in
@@ -24,6 +26,7 @@ returns-in_err-write-clause-refusal g c =
       other,
     ))
 
+-- one more key is written
 pub loop-key-preserved : goal.loop-key-preserved
 loop-key-preserved g c =
     let name = g.K.WrittenKey.named in
@@ -36,12 +39,14 @@ loop-key-preserved g c =
     ∙ (map-append shown parents (next ∷ []) ∙ ap (λ last. map shown parents ++ last ∷ []) c.in_ok-write.ensures.name))
     c.in_ok-write.ensures.no_other
 
+-- at the end all are
 pub returns-clause-names : goal.returns-clause-names
 returns-clause-names g c =
     let name = g.K.WrittenKey.named in
     written_all (g.K.WrittenKey.IsUnambiguous (known_names c.args.known.now) (plain_namespace c.args.namespace.now))
     (map name c.args.keys.now.keys) _ _ (ap (map name) c.in-None.ensures.steps.0) c.loop-key.invariant
 
+-- and none of their names means another
 pub returns-clause-no_other : goal.returns-clause-no_other
 returns-clause-no_other g c =
     let name = g.K.WrittenKey.named in

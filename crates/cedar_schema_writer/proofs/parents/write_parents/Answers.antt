@@ -1,4 +1,4 @@
-use Rattle.std.proofs.Common.{List, [], map, ap, refl, sym, subst, Contains}
+use Rattle.std.proofs.Common.{[], map, ap, refl, sym}
 use Rattle.cedar_schema_elements.proofs.UpperLemmas.{none_above, some_above}
 use Rattle.cedar_schema_elements.specs.Uppers.{upper_set}
 use Rattle.cedar_schema_writer.proofs.Answered.{ok_to, on_to}
@@ -9,10 +9,9 @@ use Rattle.cedar_schema_writer.proofs.parents.write_parents.Goals as goal
 pub returns-in-Some-clause-names : goal.returns-in-Some-clause-names
 returns-in-Some-clause-names g c =
     let above = some_above g.K.WrittenKey.named _ c.in-Some.above.now (sym c.in-Some.ensures.value) in
-    ok_to _ _ (λ parents names upper.
-    let S : List g.K.WrittenKey.Named → Type 0 = λ items. Contains items upper in (
-      λ among. (above upper).1 (subst S names among),
-      λ stands. subst S (sym names) ((above upper).0 stands),
+    ok_to _ _ (λ parents names upper. (
+      λ among. (above upper).1 (rw names at among),
+      λ stands. rw names ((above upper).0 stands),
     ))
     c.write_keys.result c.write_keys.ensures.names
 

@@ -1,25 +1,24 @@
-use Rattle.std.proofs.Common.{◌≡◌, List, Bool, false, Some, ap, sym, subst, ◌∙◌, string_bytes}
+use Rattle.std.proofs.Common.{◌≡◌, Bool, false, Some, ap, sym, ◌∙◌, string_bytes}
 use Rattle.std.specs.Option.{option_map}
 use Rattle.cedar_below.specs.Name.{plain_name}
 use Rattle.cedar_declarations.specs.ConvertedBack.{type_written}
 use Rattle.cedar_names.proofs.ExprLemmas.{record_type_expr-made}
 use Rattle.cedar_names.proofs.VariantLemmas.{variant-Record}
-use Rattle.cedar_names.specs.Expr.{Expr, record_expr}
+use Rattle.cedar_names.specs.Expr.{record_expr}
 use Rattle.cedar_names.specs.PlainMembers.{plain_members}
 use Rattle.cedar_names.specs.RawExpr.{raw_reference, raw_variant}
 use Rattle.cedar_names.specs.declared.json_schema.raw_name.RawName.{RawName}
 use Rattle.cedar_type_rules.specs.Ty.{Ty, extension_of, fields_from}
 use Rattle.cedar_types.proofs.MemberParts.{attribute_of-parts, ty_of-extension}
 use Rattle.cedar_types.specs.Attributes.{plain_attributes}
-use Rattle.cedar_below.specs.Text.{Text}
 use Rattle.cedar_types.specs.Meaning.{attribute_of, fields_of, ty_of}
 use Rattle.cedar_schema_writer.proofs.Answered.{ok_on, ok_to}
 use Rattle.cedar_schema_writer.proofs.Refusals.{refusal_passed, refusal_weaker}
-use Rattle.cedar_schema_writer.proofs.TypeLemmas.{AttributesSoFar, attributes_all, attributes_more, attributes_none, attributes_sound, next_above, next_sound, put-behind, sound-extension, unsound-none}
+use Rattle.cedar_schema_writer.proofs.TypeLemmas.{attributes_all, attributes_more, attributes_none, attributes_sound, next_above, next_sound, put-behind, sound-extension, unsound-none}
 use Rattle.cedar_schema_writer.specs.Parts.{known_names, plain_namespace}
-use Rattle.cedar_schema_writer.specs.Sound.{IsSoundType}
 use Rattle.cedar_schema_writer.proofs.types.+written.Goals as goal
 
+-- at first no attribute is written
 pub write_record-loop-name-init : goal.write_record-loop-name-init
 write_record-loop-name-init t c =
     let namespace = plain_namespace c.args.namespace.now in
@@ -28,20 +27,20 @@ write_record-loop-name-init t c =
     ∙ c.iter-name-items.ensures.attributes)
     (ap (plain_members namespace) c.new-attributes.ensures.empty)
 
+-- an attribute that is not sound makes the record unsound
 pub write_record-returns-in_err-ty-clause-refusal : goal.write_record-returns-in_err-ty-clause-refusal
 write_record-returns-in_err-ty-clause-refusal t c =
     let names = known_names c.args.known.now in
     let namespace = plain_namespace c.args.namespace.now in
     let attribute = c.in-Some.attribute.now in
-    let P : Ty → Type 0 = IsSoundType names namespace in
     let same : ty_of c.deref.result.now ≡ (attribute_of attribute).1 =
     ap ty_of c.deref.ensures ∙ ap (λ (p : Bool × Ty). p.1) (sym (attribute_of-parts attribute)) in
     refusal_passed _ _ c.from_residual.ensures.1 c.in_err-ty.ensures.refusal
-    (λ unsound sound. unsound (subst P (sym same)
-    (next_sound names namespace (fields_of c.args.attrs.now) _ _ _ (string_bytes c.in-Some.name.now)
+    (λ unsound sound. unsound (rw same (next_sound names namespace (fields_of c.args.attrs.now) _ _ _ (string_bytes c.in-Some.name.now)
     (attribute_of attribute).0 (attribute_of attribute).1
     (ap (λ entries. fields_from (plain_attributes entries)) c.in-Some.ensures.steps) c.loop-name.invariant sound)))
 
+-- one more attribute is written behind the others, as the names are in order
 pub write_record-loop-name-preserved : goal.write_record-loop-name-preserved
 write_record-loop-name-preserved t c =
     let names = known_names c.args.known.now in
@@ -51,7 +50,6 @@ write_record-loop-name-preserved t c =
     let required = (attribute_of attribute).0 in
     let ty = (attribute_of attribute).1 in
     let made = c.loop-name.attributes.entries in
-    let P : Ty → Type 0 = IsSoundType names namespace in
     let same : ty_of c.deref.result.now ≡ ty = ap ty_of c.deref.ensures ∙ ap (λ (p : Bool × Ty). p.1) (sym
     (attribute_of-parts attribute)) in
     let flag = ap (λ (p : Bool × Ty). p.0) (attribute_of-parts attribute) in
@@ -62,11 +60,11 @@ write_record-loop-name-preserved t c =
     ∙ put-behind name key namespace made c.flag_and_expr-written.result (required, expr) text
     (c.flag_and_expr-written.ensures namespace ∙ (λ i. (sym flag i, expr)))
     (next_above names namespace (fields_of c.args.attrs.now) _ _ _ name required ty steps c.loop-name.invariant c.iter-name-items.ensures.sorted_by_name) in
-    let Q : List (Text × (Bool × Expr)) → Type 0 = AttributesSoFar names namespace (fields_of c.args.attrs.now) _ in
-    subst Q (sym behind)
+    rw behind
     (attributes_more names namespace (fields_of c.args.attrs.now) _ _ _ name required ty steps c.loop-name.invariant expr
-    (ap (type_written namespace) (sym same) ∙ c.in_ok-ty.ensures.written) (subst P same c.in_ok-ty.ensures.sound))
+    (ap (type_written namespace) (sym same) ∙ c.in_ok-ty.ensures.written) (rw same at c.in_ok-ty.ensures.sound))
 
+-- at the end the record type is written
 pub write_record-returns-clause-written : goal.write_record-returns-clause-written
 write_record-returns-clause-written t c =
     let names = known_names c.args.known.now in
@@ -76,11 +74,13 @@ write_record-returns-clause-written t c =
     (ap (λ entries. fields_from (plain_attributes entries)) c.in-None.ensures.steps.0) c.loop-name.invariant)
     ∙ ap Some (sym (variant-Record RawName (raw_reference namespace) _ ∙ record_type_expr-made RawName (raw_reference namespace) _))
 
+-- and it is sound
 pub write_record-returns-clause-sound : goal.write_record-returns-clause-sound
 write_record-returns-clause-sound t c =
     attributes_sound (known_names c.args.known.now) (plain_namespace c.args.namespace.now) (fields_of c.args.attrs.now) _ _
     (ap (λ entries. fields_from (plain_attributes entries)) c.in-None.ensures.steps.0) c.loop-name.invariant
 
+-- an extension type is written by its name
 pub to_json_type-returns-in-ExtensionType-clause-written : goal.to_json_type-returns-in-ExtensionType-clause-written
 to_json_type-returns-in-ExtensionType-clause-written t c =
     let namespace = plain_namespace c.args.namespace.now in
@@ -89,16 +89,17 @@ to_json_type-returns-in-ExtensionType-clause-written t c =
     ok_to _ _ (λ variant written. ap (type_written namespace) is
     ∙ written namespace) c.write_extension.result c.write_extension.ensures.written
 
+-- what is written of it is sound
 pub to_json_type-returns-in-ExtensionType-clause-sound : goal.to_json_type-returns-in-ExtensionType-clause-sound
 to_json_type-returns-in-ExtensionType-clause-sound t c =
     let names = known_names c.args.known.now in
     let namespace = plain_namespace c.args.namespace.now in
     let name = plain_name c.in-ExtensionType.name in
     let is : ty_of c.args.ty.now ≡ extension_of name = ap ty_of c.in-ExtensionType.is ∙ ty_of-extension c.in-ExtensionType.name in
-    let P : Ty → Type 0 = IsSoundType names namespace in
-    ok_on _ _ (λ variant written. subst P (sym is) (sound-extension names namespace name _ (written namespace)))
+    ok_on _ _ (λ variant written. rw is (sound-extension names namespace name _ (written namespace)))
     c.write_extension.result c.write_extension.ensures.written
 
+-- a name that cannot be written is not sound
 pub to_json_type-returns-in-ExtensionType-clause-refusal : goal.to_json_type-returns-in-ExtensionType-clause-refusal
 to_json_type-returns-in-ExtensionType-clause-refusal t c =
     let names = known_names c.args.known.now in

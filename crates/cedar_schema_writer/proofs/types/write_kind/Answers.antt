@@ -1,13 +1,11 @@
-use Rattle.std.proofs.Common.{◌≡◌, Some, ap, sym, subst}
+use Rattle.std.proofs.Common.{◌≡◌, Some, ap, sym}
 use Rattle.cedar_below.specs.EntityType.{type_name}
 use Rattle.cedar_type_rules.specs.EntityUnion.{only_name}
-use Rattle.cedar_type_rules.specs.Ty.{Ty}
 use Rattle.cedar_types.specs.EntityKind.{kind_ty}
 use Rattle.cedar_types.specs.EntityLUB.{lub_names}
 use Rattle.cedar_schema_writer.proofs.Refusals.{refusal_passed}
 use Rattle.cedar_schema_writer.proofs.TypeLemmas.{sound-union}
 use Rattle.cedar_schema_writer.specs.Parts.{known_names, plain_namespace}
-use Rattle.cedar_schema_writer.specs.Sound.{IsSoundType}
 use Rattle.cedar_schema_writer.proofs.types.write_kind.Goals as goal
 
 pub returns-in_err-write_name-in-Some-clause-refusal : goal.returns-in_err-write_name-in-Some-clause-refusal
@@ -16,10 +14,8 @@ returns-in_err-write_name-in-Some-clause-refusal c =
     let namespace = plain_namespace c.args.namespace.now in
     let name = type_name c.in-Some.ty.now in
     let only : only_name (lub_names c.in-Entity.union) ≡ Some name = sym c.in-Some.ensures.name in
-    let P : Ty → Type 0 = IsSoundType names namespace in
     refusal_passed _ _ c.from_residual.ensures.1 c.in_err-write_name-in-Some.ensures.refusal
-    (λ other sound. other ((sound-union names namespace (lub_names c.in-Entity.union) name only).0 (subst P
-    (ap kind_ty c.in-Entity.is) sound)))
+    (λ other sound. other ((sound-union names namespace (lub_names c.in-Entity.union) name only).0 (rw (ap kind_ty c.in-Entity.is) at sound)))
 
 pub returns-in_ok-write_name-in-Some-clause-sound : goal.returns-in_ok-write_name-in-Some-clause-sound
 returns-in_ok-write_name-in-Some-clause-sound c =
@@ -27,6 +23,5 @@ returns-in_ok-write_name-in-Some-clause-sound c =
     let namespace = plain_namespace c.args.namespace.now in
     let name = type_name c.in-Some.ty.now in
     let only : only_name (lub_names c.in-Entity.union) ≡ Some name = sym c.in-Some.ensures.name in
-    let P : Ty → Type 0 = IsSoundType names namespace in
-    subst P (sym (ap kind_ty c.in-Entity.is))
+    rw (ap kind_ty c.in-Entity.is)
     ((sound-union names namespace (lub_names c.in-Entity.union) name only).1 c.in_ok-write_name-in-Some.ensures.no_other)

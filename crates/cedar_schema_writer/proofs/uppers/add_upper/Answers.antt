@@ -1,9 +1,10 @@
-use Rattle.std.proofs.Common.{◌≡◌, ◌⊎◌, ◌↔◌, Some, cond, is_some, ap, sym, subst, ◌∙◌}
+use Rattle.std.proofs.Common.{◌≡◌, Some, cond, is_some, ap, sym, ◌∙◌}
 use Rattle.std.specs.BTreeMap.{is_at}
 use Rattle.cedar_schema_elements.proofs.UpperLemmas.{none_above, one_more_above, put_above, same_set, some_above}
-use Rattle.cedar_schema_elements.specs.Uppers.{IsUpper, upper_set}
+use Rattle.cedar_schema_elements.specs.Uppers.{upper_set}
 use Rattle.cedar_schema_writer.proofs.uppers.add_upper.Goals as goal
 
+-- the upper joins those that are there
 pub returns-in_ok-insert-in-Some : goal.returns-in_ok-insert-in-Some
 returns-in_ok-insert-in-Some g c =
     let cmp = g.K.Ord.cmp in
@@ -20,6 +21,7 @@ returns-in_ok-insert-in-Some g c =
     (some_above name (upper_set cmp before lower) old found)
     c.in_ok-upper.ensures.name c.in_ok-insert-in-Some.ensures.updates.0)
 
+-- or it is the first, at the copied name
 pub returns-in_ok-insert-in-None-2 : goal.returns-in_ok-insert-in-None-2
 returns-in_ok-insert-in-None-2 g c =
     let cmp = g.K.Ord.cmp in
@@ -33,10 +35,7 @@ returns-in_ok-insert-in-None-2 g c =
     let new = c.insert-in-None.new.self in
     let upper = name c.args.upper.now in
     let after = c.insert-in-None-2.new.self in
-    let S : g.V.SchemaNode.Name → Type 0 = λ below. (key : _) (above : _)
-    → IsUpper cmp name after key above ↔ (IsUpper cmp name before key above ⊎ ((below ≡ name key) × (upper ≡ above))) in
-    subst S same
-    (put_above cmp name tied before after copy_of_lower new
+    rw same at (put_above cmp name tied before after copy_of_lower new
     (λ q. c.in_ok-insert-in-None-2.ensures.updates.0 q
     ∙ ap (λ uppers. cond (is_at (cmp copy_of_lower) q) (Some new) (upper_set cmp uppers q)) c.get_mut.follows.holds-at-none)
     upper

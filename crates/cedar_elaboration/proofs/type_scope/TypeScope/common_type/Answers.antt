@@ -1,19 +1,15 @@
-use Rattle.std.proofs.Common.{sym, subst, Contains}
 use Rattle.cedar_below.proofs.Names.{internal_name_ord-Equal}
 use Rattle.cedar_below.specs.InternalName.{name_of}
 use Rattle.cedar_below.specs.contracts.internal_name.InternalNameOrd.TheImpl as order
-use Rattle.cedar_type_rules.specs.Ty.{Ty}
 use Rattle.cedar_types.specs.Meaning.{ty_of}
 use Rattle.cedar_elaboration.proofs.Entries.{looked_up, not_found}
-use Rattle.cedar_elaboration.specs.Scope.{elaborated_types}
 use Rattle.cedar_elaboration.proofs.type_scope.TypeScope.common_type.Goals as goal
 
 pub returns-in_ok-clone-in-Some : goal.returns-in_ok-clone-in-Some
 returns-in_ok-clone-in-Some c =
-    let types = c.args.self.now.common.now in
-    let P : Ty → Type 0 = λ ty. Contains (elaborated_types types) (name_of c.args.name.now, ty) in (
+    let types = c.args.self.now.common.now in (
       c.may_name_common.ensures.0 c.if-not-may_name_common.false,
-      subst P (sym c.in_ok-clone-in-Some.ensures.same)
+      rw c.in_ok-clone-in-Some.ensures.same
           (looked_up ((order.ghosts).cmp) name_of internal_name_ord-Equal ty_of types.entries c.args.name.now c.in-Some.ty.now
           c.in-Some.ensures.value),
     )

@@ -1,13 +1,11 @@
-use Rattle.std.proofs.Common.{map, ap, ◌∙◌, inr, sym, subst, Contains}
+use Rattle.std.proofs.Common.{map, ap, ◌∙◌, inr, sym}
 use Rattle.std.proofs.lemmas.Bool.{false≢true}
 use Rattle.cedar_below.specs.Id.{id_text}
 use Rattle.cedar_below.specs.InternalName.{name_of}
-use Rattle.cedar_below.specs.PlainName.{PlainName}
 use Rattle.cedar_below.specs.UnreservedId.{unreserved_id_text}
 use Rattle.cedar_declarations.specs.Fault.{unknown_extension_type}
 use Rattle.cedar_type_rules.specs.Ty.{extension_of}
 use Rattle.cedar_elaboration.proofs.ScopeLemmas.{extension_name-same}
-use Rattle.cedar_elaboration.specs.Scope.{extensions_in_scope}
 use Rattle.cedar_elaboration.proofs.type_scope.TypeScope.extension_type.Goals as goal
 
 pub returns-then-has_type-clause-ty : goal.returns-then-has_type-clause-ty
@@ -19,11 +17,12 @@ returns-then-has_type-clause-ty c =
 
 pub returns-then-has_type-clause-known : goal.returns-then-has_type-clause-known
 returns-then-has_type-clause-known c =
-    let P : PlainName → Type 0 = Contains (extensions_in_scope c.args.self.now) in
-    subst P (c.in-Some.ensures.name
-    ∙ extension_name-same (name_of c.new-name.result) (unreserved_id_text c.args.name.now)
-    (c.new-name.ensures.base ∙ (c.into_id.ensures.text ∙ c.in_ok-clone.ensures))
-    (c.new-name.ensures.path ∙ ap (map id_text) c.new.ensures.items))
+    rw (
+      c.in-Some.ensures.name,
+      extension_name-same (name_of c.new-name.result) (unreserved_id_text c.args.name.now)
+          (c.new-name.ensures.base ∙ (c.into_id.ensures.text ∙ c.in_ok-clone.ensures))
+          (c.new-name.ensures.path ∙ ap (map id_text) c.new.ensures.items),
+    ) at
     (c.has_type.ensures.0 c.if-has_type.true)
 
 pub returns-else-has_type-clause-fault : goal.returns-else-has_type-clause-fault
@@ -32,8 +31,7 @@ returns-else-has_type-clause-fault c =
     ∙ extension_name-same (name_of c.new-name.result) (unreserved_id_text c.args.name.now)
     (c.new-name.ensures.base ∙ (c.into_id.ensures.text ∙ c.in_ok-clone.ensures))
     (c.new-name.ensures.path ∙ ap (map id_text) c.new.ensures.items) in
-    let P : PlainName → Type 0 = λ name. ¬ Contains (extensions_in_scope c.args.self.now) name in
     inr (
       ap unknown_extension_type same,
-      subst P same (λ among. false≢true (sym c.if-has_type.false ∙ c.has_type.ensures.1 among)),
+      rw (← same) (λ among. false≢true (sym c.if-has_type.false ∙ c.has_type.ensures.1 among)),
     )

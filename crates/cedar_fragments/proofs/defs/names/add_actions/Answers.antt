@@ -1,8 +1,7 @@
-use Rattle.std.proofs.Common.{List, map, subst}
+use Rattle.std.proofs.Common.{map}
 use Rattle.cedar_below.specs.EntityUID.{uid_of}
 use Rattle.cedar_below.specs.PlainUid.{PlainUid}
 use Rattle.cedar_fragments.proofs.SetLemmas.{HasAlso-next, HasAlso-all}
-use Rattle.cedar_fragments.specs.HeldNames.{HasAlso}
 use Rattle.cedar_fragments.specs.declared.namespace.action_def.ActionDef.{ActionDef}
 use Rattle.cedar_fragments.proofs.defs.names.add_actions.Goals as goal
 
@@ -15,8 +14,6 @@ loop-def-preserved g c =
 pub returns : goal.returns
 returns g c =
     let f : ActionDef g.row.N.Denot g.row.A.Denot → PlainUid = λ def. uid_of def.uid in
-    let P : List (ActionDef g.row.N.Denot g.row.A.Denot) → Type 0 = λ items.
-    HasAlso (map uid_of c.loop-def.uids.keys) (map uid_of c.args.uids.now.keys) (map f items) in
-    subst P c.deref-def-items.ensures.value
+    rw c.deref-def-items.ensures.value at
     (HasAlso-all f (map uid_of c.args.uids.now.keys) c.deref-def-items.result.now _ c.loop-def.def-index
     c.loop-def-test.false c.loop-def.invariant)

@@ -1,9 +1,8 @@
-use Rattle.std.proofs.Common.{List, map, subst, ◌∙◌}
+use Rattle.std.proofs.Common.{map, ◌∙◌}
 use Rattle.cedar_below.specs.InternalName.{name_of}
 use Rattle.cedar_below.specs.EntityType.{type_name}
 use Rattle.cedar_below.specs.PlainName.{PlainName}
 use Rattle.cedar_fragments.proofs.SetLemmas.{HasAlso-next, HasAlso-all}
-use Rattle.cedar_fragments.specs.HeldNames.{HasAlso}
 use Rattle.cedar_fragments.specs.declared.namespace.entity_type_def.EntityTypeDef.{EntityTypeDef}
 use Rattle.cedar_fragments.proofs.defs.names.add_entity_types.Goals as goal
 
@@ -16,8 +15,6 @@ loop-def-preserved g c =
 pub returns : goal.returns
 returns g c =
     let f : EntityTypeDef g.row.N.Denot → PlainName = λ def. type_name def.name in
-    let P : List (EntityTypeDef g.row.N.Denot) → Type 0 = λ items.
-    HasAlso (map name_of c.loop-def.names.keys) (map name_of c.args.names.now.keys) (map f items) in
-    subst P c.deref-def-items.ensures.value
+    rw c.deref-def-items.ensures.value at
     (HasAlso-all f (map name_of c.args.names.now.keys) c.deref-def-items.result.now _ c.loop-def.def-index
     c.loop-def-test.false c.loop-def.invariant)

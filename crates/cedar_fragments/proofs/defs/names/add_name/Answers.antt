@@ -1,14 +1,10 @@
-use Rattle.std.proofs.Common.{List, map, sym, subst, [], ◌∷◌}
 use Rattle.cedar_below.proofs.Names.{internal_name_ord-Equal}
 use Rattle.cedar_below.specs.InternalName.{name_of}
 use Rattle.cedar_below.specs.contracts.internal_name.InternalNameOrd.TheImpl as order
-use Rattle.cedar_below.specs.declared.internal_name.InternalName.{InternalName}
 use Rattle.cedar_fragments.proofs.SetLemmas.{inserted}
-use Rattle.cedar_fragments.specs.HeldNames.{HasAlso}
 use Rattle.cedar_fragments.proofs.defs.names.add_name.Goals as goal
 
 pub returns-clause-added : goal.returns-clause-added
 returns-clause-added c =
-    let P : List InternalName → Type 0 = λ keys. HasAlso (map name_of keys) (map name_of c.args.names.now.keys) (name_of c.args.name ∷ []) in
-    subst P (sym c.in_ok-_is_new.ensures.keys)
+    rw c.in_ok-_is_new.ensures.keys
     (inserted ((order.ghosts).cmp) name_of internal_name_ord-Equal c.args.names.now.keys c.args.name)

@@ -1,10 +1,7 @@
-use Rattle.std.proofs.Common.{◌≡◌, ◌∷◌, List, Option, map, sym, subst}
-use Rattle.std.specs.Option.{MatchOption}
+use Rattle.std.proofs.Common.{◌≡◌}
 use Rattle.cedar_below.specs.InternalName.{name_of}
 use Rattle.cedar_below.specs.PlainName.{PlainName}
-use Rattle.cedar_below.specs.declared.internal_name.InternalName.{InternalName}
 use Rattle.cedar_declarations.specs.Names.{IsDefined}
-use Rattle.cedar_declarations.specs.Occurrences.{IsFirst}
 use Rattle.cedar_fragments.proofs.ResolveLemmas.{first_at}
 use Rattle.cedar_fragments.specs.HeldNames.{held_names}
 use Rattle.cedar_fragments.proofs.defs.resolve.first_defined.Goals as goal
@@ -14,12 +11,8 @@ returns-in-Some-2 c =
     let P : PlainName → Type 0 = IsDefined (held_names c.args.all_defs.now) c.args.kind in
     let head = c.args.names.now.head in
     let item = c.name-item.result in
-    let M : InternalName → Option InternalName → Type 0 = λ name found. MatchOption found (¬ P (name_of name))
-    (λ it. (name_of it ≡ name_of name) × P (name_of name)) in
-    let none : ¬ P (name_of head) = subst (M head) c.in_default.is c.in_ok-name.ensures in
-    let one : (name_of c.in-Some-2.name ≡ name_of item) × P (name_of item) = subst (M item) c.in-Some-2.is c.in_ok-name-2.ensures in
+    let none : ¬ P (name_of head) = rw c.in_default.is at c.in_ok-name.ensures in
+    let one : (name_of c.in-Some-2.name ≡ name_of item) × P (name_of item) = rw c.in-Some-2.is at c.in_ok-name-2.ensures in
     let first = first_at P name_of head c.deref-name-items.result.now c.loop-name.name-index item c.loop-name-test.true c.name-item.is
     none c.loop-name.invariant one.1 in
-    let Q : List InternalName → Type 0 = λ items. IsFirst P (name_of head ∷ map name_of items) (name_of item) in
-    let R : PlainName → Type 0 = IsFirst P (name_of head ∷ map name_of c.args.names.now.tail.items) in
-    subst R (sym one.0) (subst Q c.deref-name-items.ensures.value first)
+    rw one.0 (rw c.deref-name-items.ensures.value at first)

@@ -1,11 +1,10 @@
 use Rattle.std.proofs.Common.{map, Contains, arith}
 use Rattle.std.proofs.lemmas.List.{nil_from_length}
-use Rattle.std.proofs.lemmas.Result.{err_from_is_err_and}
 use Rattle.cedar_declarations.proofs.OccurrenceLemmas.{Contains-image}
 use Rattle.cedar_fragments.proofs.Pairwise.{turn_none, turn_more, turn_all, turn_next}
 use Rattle.cedar_fragments.proofs.QualifiedLemmas.{refused_one}
 use Rattle.cedar_fragments.specs.HeldNames.{held_names}
-use Rattle.cedar_fragments.specs.Refused.{IsRefusedAmong}
+use Rattle.cedar_fragments.proofs.FragmentLemmas.{exit_holds}
 use Rattle.cedar_fragments.proofs.defs.resolve.resolve_all.Goals as goal
 
 pub loop-name-init : goal.loop-name-init
@@ -16,11 +15,9 @@ returns-in_err-resolve-clause-refused g c =
     let names = held_names c.args.all_defs.now in
     let refer = g.N.ResolveName.reference in
     let among = turn_next _ _ _ _ _ _ _ c.in-Some.name c.in-Some.ensures.steps.0 c.loop-name.invariant in
-    let refused : IsRefusedAmong names (Contains (map refer c.args.names.items)) c.in_err-resolve.field-0.0 =
-    refused_one names (Contains (map refer c.args.names.items)) (refer c.in-Some.name)
-    (Contains-image refer c.args.names.items c.in-Some.name among) _ c.in_err-resolve.ensures.refused in
-    let p = err_from_is_err_and c.from_residual.result c.from_residual.ensures.1 in
-    rw (p.1, p.2) refused
+    exit_holds _ _ _ c.from_residual.ensures.1
+    (refused_one names (Contains (map refer c.args.names.items)) (refer c.in-Some.name)
+    (Contains-image refer c.args.names.items c.in-Some.name among) _ c.in_err-resolve.ensures.refused)
 
 pub loop-name-preserved : goal.loop-name-preserved
 loop-name-preserved g c =

@@ -1,10 +1,6 @@
-use Rattle.std.proofs.Common.{◌≡◌, List, ◌∷◌, Option, map, sym, subst, ◌∙◌, Contains}
-use Rattle.std.specs.Option.{MatchOption}
-use Rattle.cedar_below.specs.InternalName.{name_of}
+use Rattle.std.proofs.Common.{◌≡◌, List, ◌∷◌, map, sym, subst, ◌∙◌, Contains}
 use Rattle.cedar_below.specs.PlainName.{PlainName}
-use Rattle.cedar_below.specs.declared.internal_name.InternalName.{InternalName}
 use Rattle.cedar_declarations.specs.Names.{IsDefined}
-use Rattle.cedar_declarations.specs.Occurrences.{IsFirst}
 use Rattle.cedar_names.specs.ConditionalName.{possibilities_of, conditional_reference}
 use Rattle.cedar_names.specs.PossibleNames.{names_of}
 use Rattle.cedar_fragments.specs.HeldNames.{held_names}
@@ -14,9 +10,7 @@ pub returns-in-None-clause-refused : goal.returns-in-None-clause-refused
 returns-in-None-clause-refused c =
     let P : PlainName → Type 0 = IsDefined (held_names c.args.all_defs.now) c.args.kind in
     let possible = names_of c.possibilities.result.now in
-    let M : Option InternalName → Type 0 = λ found. MatchOption found ((name : PlainName) → Contains possible name → ¬ P name)
-    (λ name. IsFirst P possible (name_of name)) in
-    let none : (name : PlainName) → Contains possible name → ¬ P name = subst M c.in-None.is c.in_ok-found.ensures in
+    let none : (name : PlainName) → Contains possible name → ¬ P name = rw c.in-None.is at c.in_ok-found.ensures in
     let names : possibilities_of c.new.result ≡ possibilities_of c.args.name =
     c.new.ensures.possibilities ∙ c.into_possibilities.ensures.names in (
       λ name among.

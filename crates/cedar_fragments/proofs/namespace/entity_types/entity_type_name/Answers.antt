@@ -1,4 +1,4 @@
-use Rattle.std.proofs.Common.{◌≡◌, ◌∙◌, ap, subst, inr, ⊎_elim}
+use Rattle.std.proofs.Common.{◌≡◌, ◌∙◌, ap, subst, inr, inl}
 use Rattle.cedar_below.specs.InternalName.{name_of}
 use Rattle.cedar_below.specs.PlainName.{IsReserved}
 use Rattle.cedar_below.specs.UnreservedId.{unreserved_id_text}
@@ -14,5 +14,5 @@ returns-in-Err-clause-fault c =
     let named : name_of c.in_ok-name.name ≡ within (unreserved_id_text c.args.id) = c.in_ok-name.ensures.name ∙ ap within c.into_id.ensures.text in
     inr (inr (
       ap reserved_name (ap name_of refused.0 ∙ named),
-      ⊎_elim (λ base. absurd (c.args.id.unreserved base)) (λ path. path) (subst IsReserved named refused.1),
+      elim (subst IsReserved named refused.1) [ inl base ↦ absurd (c.args.id.unreserved base) | inr path ↦ path ],
     ))

@@ -1,11 +1,7 @@
-use Rattle.std.proofs.Common.{◌≡◌, ◌∷◌, List, Option, map, sym, subst, Contains, string_bytes}
-use Rattle.std.specs.Option.{MatchOption}
+use Rattle.std.proofs.Common.{◌≡◌, Contains, string_bytes}
 use Rattle.cedar_below.specs.EntityType.{type_name}
 use Rattle.cedar_below.specs.InternalName.{name_of}
 use Rattle.cedar_below.specs.PlainName.{PlainName}
-use Rattle.cedar_below.specs.declared.entity_type.EntityType.{EntityType}
-use Rattle.cedar_below.specs.declared.internal_name.InternalName.{InternalName}
-use Rattle.cedar_declarations.specs.Occurrences.{IsFirst}
 use Rattle.cedar_fragments.proofs.ResolveLemmas.{first_at}
 use Rattle.cedar_fragments.specs.HeldNames.{held_names}
 use Rattle.cedar_fragments.proofs.namespace.qualify_actions.first_action_type.Goals as goal
@@ -16,12 +12,8 @@ returns-in-Some-2 c =
     let P : PlainName → Type 0 = λ name. Contains actions (record { ty = name; eid = string_bytes c.args.id.now }) in
     let head = c.args.names.now.head in
     let item = c.name-item.result in
-    let M : InternalName → Option EntityType → Type 0 = λ name found. MatchOption found (¬ P (name_of name))
-    (λ ty. (type_name ty ≡ name_of name) × P (name_of name)) in
-    let none : ¬ P (name_of head) = subst (M head) c.in_default.is c.in_ok-ty.ensures in
-    let one : (type_name c.in-Some-2.ty ≡ name_of item) × P (name_of item) = subst (M item) c.in-Some-2.is c.in_ok-ty-2.ensures in
+    let none : ¬ P (name_of head) = rw c.in_default.is at c.in_ok-ty.ensures in
+    let one : (type_name c.in-Some-2.ty ≡ name_of item) × P (name_of item) = rw c.in-Some-2.is at c.in_ok-ty-2.ensures in
     let first = first_at P name_of head c.deref-name-items.result.now c.loop-name.name-index item c.loop-name-test.true c.name-item.is
     none c.loop-name.invariant one.1 in
-    let Q : List InternalName → Type 0 = λ items. IsFirst P (name_of head ∷ map name_of items) (name_of item) in
-    let R : PlainName → Type 0 = IsFirst P (name_of head ∷ map name_of c.args.names.now.tail.items) in
-    subst R (sym one.0) (subst Q c.deref-name-items.ensures.value first)
+    rw one.0 (rw c.deref-name-items.ensures.value at first)

@@ -1,10 +1,8 @@
-use Rattle.std.proofs.Common.{◌≡◌, List, [], ◌∷◌, Option, Some, map, ap, sym, subst, ◌∙◌, refl, ⊎_elim, Contains, string_bytes, arith}
-use Rattle.std.specs.Option.{MatchOption}
+use Rattle.std.proofs.Common.{◌≡◌, List, [], ◌∷◌, Option, Some, map, ap, sym, subst, ◌∙◌, refl, Contains, string_bytes, arith, inl, inr}
 use Rattle.cedar_below.proofs.Lists.{Contains-cons_cases}
 use Rattle.cedar_below.specs.EntityType.{type_name}
 use Rattle.cedar_below.specs.PlainName.{PlainName}
 use Rattle.cedar_below.specs.Text.{Text}
-use Rattle.cedar_below.specs.declared.entity_type.EntityType.{EntityType}
 use Rattle.cedar_declarations.specs.Names.{NamesNoAction}
 use Rattle.cedar_declarations.specs.Occurrences.{IsFirst}
 use Rattle.cedar_declarations.specs.SchemaError.{carried_action}
@@ -18,17 +16,17 @@ use Rattle.cedar_names.specs.declared.json_schema.conditional_name.ConditionalNa
 use Rattle.cedar_names.specs.declared.json_schema.reference_type.ReferenceType.TheVariants.{Entity}
 use Rattle.cedar_fragments.proofs.namespace.qualify_actions.qualify_parent.Goals as goal
 
+-- the parent is the first of its possible names under which an action is defined
 pub returns-in-Some-clause-resolved : goal.returns-in-Some-clause-resolved
 returns-in-Some-clause-resolved c =
     let id = string_bytes c.args.parent.id in
     let P : PlainName → Type 0 = λ ty. Contains (held_names c.args.all_defs.now).actions (record { ty = ty; eid = id }) in
     let names = names_of c.possibilities.result.now in
-    let M : Option EntityType → Type 0 = λ found. MatchOption found ((name : PlainName) → Contains names name → ¬ P name)
-    (λ ty. IsFirst P names (type_name ty)) in
-    let first : IsFirst P names (type_name c.in-Some.ty) = subst M c.in-Some.is c.in_ok-ty.ensures in
+    let first : IsFirst P names (type_name c.in-Some.ty) = rw c.in-Some.is at c.in_ok-ty.ensures in
     let Q : List PlainName → Type 0 = λ each. IsFirst P each (type_name c.in-Some.ty) in
     (record { ty = type_name c.in-Some.ty; eid = id }, (subst Q c.possibilities.ensures.names first, refl), refl)
 
+-- where no possible name is that of an action, the error carries the parent
 pub returns-in-None-clause-fault : goal.returns-in-None-clause-fault
 returns-in-None-clause-fault c =
     let id = string_bytes c.args.parent.id in
@@ -36,9 +34,7 @@ returns-in-None-clause-fault c =
     let actions = (held_names c.args.all_defs.now).actions in
     let P : PlainName → Type 0 = λ ty. Contains actions (record { ty = ty; eid = id }) in
     let names = names_of c.possibilities.result.now in
-    let M : Option EntityType → Type 0 = λ found. MatchOption found ((name : PlainName) → Contains names name → ¬ P name)
-    (λ ty. IsFirst P names (type_name ty)) in
-    let none : (name : PlainName) → Contains names name → ¬ P name = subst M c.in-None.is c.in_ok-ty.ensures in
+    let none : (name : PlainName) → Contains names name → ¬ P name = rw c.in-None.is at c.in_ok-ty.ensures in
     let Q : List PlainName → Type 0 = λ each. (name : PlainName) → Contains each name → ¬ P name in
     let nothing : NamesNoAction actions parent = subst Q c.possibilities.ensures.names none in
     let possibilities : possibilities_of c.new-ty.result ≡ possibilities_of c.args.parent.ty =
@@ -50,8 +46,10 @@ returns-in-None-clause-fault c =
       (λ empty. cc),
       λ carried among.
           let is : carries ≡ carried =
-          ⊎_elim (λ here. here) (λ later. absurd (omega (arith, later.1)))
-          (Contains-cons_cases carries [] carried
-          (subst (λ each. R (carries ∷ map carried_action each) carried) c.new.ensures.items among)) in
+          elim (Contains-cons_cases carries [] carried
+          (subst (λ each. R (carries ∷ map carried_action each) carried) c.new.ensures.items among)) [
+            | inl here ↦ here
+            | inr later ↦ absurd (omega (arith, later.1))
+          ] in
           (parent, refl, sym is ∙ ap (λ reference. (id, Some reference)) same, nothing),
     )

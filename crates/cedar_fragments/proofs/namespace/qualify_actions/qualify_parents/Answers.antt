@@ -1,28 +1,27 @@
-use Rattle.std.proofs.Common.{◌≡◌, map, Contains, ap, subst, arith}
+use Rattle.std.proofs.Common.{◌≡◌, map, Contains, ap, arith}
 use Rattle.std.proofs.lemmas.List.{nil_from_length}
-use Rattle.std.proofs.lemmas.Result.{err_from_is_err_and}
 use Rattle.std.specs.List.{flat_map}
 use Rattle.cedar_below.specs.declared.entity_type.EntityType.{EntityType}
 use Rattle.cedar_declarations.proofs.OccurrenceLemmas.{Contains-image}
-use Rattle.cedar_declarations.specs.SchemaError.{fault_of}
 use Rattle.cedar_fragments.proofs.Pairwise.{turn_none, turn_more, turn_all, turn_next}
 use Rattle.cedar_fragments.proofs.OneMore.{flat_one_more}
 use Rattle.cedar_fragments.proofs.UnresolvableLemmas.{unresolvable_wider}
 use Rattle.cedar_fragments.specs.ActionDeclarations.{fragment_parent}
 use Rattle.cedar_fragments.specs.FragmentLocs.{no_locs, parent_locs}
 use Rattle.cedar_fragments.specs.HeldNames.{held_names}
-use Rattle.cedar_fragments.specs.QualifyFault.{IsUnresolvable}
 use Rattle.cedar_names.specs.ConditionalExpr.{positional_reference}
-use Rattle.cedar_names.specs.Reference.{ActionReference}
 use Rattle.cedar_names.specs.declared.json_schema.conditional_name.ConditionalName.{ConditionalName}
+use Rattle.cedar_fragments.proofs.FragmentLemmas.{exit_holds}
 use Rattle.cedar_fragments.proofs.namespace.qualify_actions.qualify_parents.Goals as goal
 
+-- at first no parent is resolved
 pub loop-parent-init : goal.loop-parent-init
 loop-parent-init c = (
   turn_none _ _ _ _ _ _ c.into_iter-parent-iterator.ensures.into_iter_gives.0 c.new-qualified.ensures.items,
   ap (flat_map (parent_locs EntityType no_locs)) c.new-qualified.ensures.items,
 )
 
+-- a parent that resolves to nothing is one of all
 pub returns-in_err-qualify_parent-clause-fault : goal.returns-in_err-qualify_parent-clause-fault
 returns-in_err-qualify_parent-clause-fault c =
     let names = held_names c.args.all_defs.now in
@@ -30,13 +29,11 @@ returns-in_err-qualify_parent-clause-fault c =
     let all = map refer c.args.parents.items in
     let among = Contains-image refer c.args.parents.items c.in-Some.parent
     (turn_next _ _ _ _ _ _ _ c.in-Some.parent c.in-Some.ensures.steps.0 c.loop-parent.invariant.0) in
-    let P : ActionReference → Type 0 = Contains all in
-    let at_fault : IsUnresolvable names (λ reference. ⊥) (Contains all) (λ reference. ⊥) (fault_of c.in_err-qualify_parent.field-0.0) =
-    unresolvable_wider names (λ reference. ⊥) (λ reference. ⊥) (λ it. refer c.in-Some.parent ≡ it) (Contains all) (λ reference. ⊥) (λ reference. ⊥)
-    (λ reference none. none) (λ parent is. subst P is among) (λ reference none. none) _ c.in_err-qualify_parent.ensures.fault in
-    let p = err_from_is_err_and c.from_residual.result c.from_residual.ensures.1 in
-    rw (p.1, p.2) at_fault
+    exit_holds _ _ _ c.from_residual.ensures.1
+    (unresolvable_wider names (λ reference. ⊥) (λ reference. ⊥) (λ it. refer c.in-Some.parent ≡ it) (Contains all) (λ reference. ⊥) (λ reference. ⊥)
+    (λ reference none. none) (λ parent is. rw is at among) (λ reference none. none) _ c.in_err-qualify_parent.ensures.fault)
 
+-- one more parent is resolved
 pub loop-parent-preserved : goal.loop-parent-preserved
 loop-parent-preserved c = (
   turn_more _ _ _ _ _ _ _ _ c.in-Some.parent c.in_ok-qualify_parent.field-0 c.in-Some.ensures.steps.0 c.in_ok-push.ensures.items
@@ -46,6 +43,7 @@ loop-parent-preserved c = (
       c.in_ok-qualify_parent.ensures.locs,
 )
 
+-- at the end all are
 pub returns-clause-resolved : goal.returns-clause-resolved
 returns-clause-resolved c =
     turn_all _ _ _ _ _ _ (nil_from_length _ (omega (arith, c.in-None.ensures.steps.0, c.loop-parent.parent-iterator.rest.ok.0)))

@@ -1,11 +1,9 @@
-use Rattle.std.proofs.Common.{◌∙◌, List, map, sym, subst, Contains}
+use Rattle.std.proofs.Common.{◌∙◌, map, sym, subst, Contains}
 use Rattle.std.proofs.lemmas.Bool.{false≢true}
 use Rattle.std.proofs.lemmas.List.{take_all}
 use Rattle.std.proofs.lemmas.List.Elements.{Contains-get_or}
-use Rattle.std.specs.List.{AllByRecursion}
 use Rattle.cedar_below.specs.InternalName.{name_of}
 use Rattle.cedar_below.specs.PlainName.{PlainName, IsReserved}
-use Rattle.cedar_below.specs.declared.internal_name.InternalName.{InternalName}
 use Rattle.cedar_declarations.specs.Names.{ResolvesTo}
 use Rattle.cedar_fragments.proofs.ResolveLemmas.{none_more}
 use Rattle.cedar_fragments.proofs.UnresolvableLemmas.{resolved_by, none_reserved}
@@ -15,30 +13,30 @@ use Rattle.cedar_names.specs.Reference.{Reference}
 use Rattle.cedar_names.specs.declared.json_schema.reference_type.ReferenceType.TheVariants.{Entity}
 use Rattle.cedar_fragments.proofs.namespace.qualify_actions.qualify_requested.Goals as goal
 
+-- a resolved name that is reserved comes from one of the references
 pub returns-then-is_reserved-clause-fault : goal.returns-then-is_reserved-clause-fault
 returns-then-is_reserved-clause-fault c =
     let names = held_names c.args.all_defs.now in
     let items = c.in_ok-qualified.qualified.items in
     let listed = c.deref-name-items.result.now in
-    let P : InternalName → Type 0 = Contains listed in
     let among : Contains listed c.name-item.result =
-    subst P (sym c.name-item.is) (Contains-get_or listed c.loop-name.name-index c.name-item.result c.loop-name-test.true) in
-    let Q : List InternalName → Type 0 = λ each. Contains each c.name-item.result in
+    rw c.name-item.is (Contains-get_or listed c.loop-name.name-index c.name-item.result c.loop-name-test.true) in
     let found = resolved_by names c.args.names.items items c.in_ok-qualified.ensures.resolved c.name-item.result
-    (subst Q c.deref-name-items.ensures.value among) in
+    (rw c.deref-name-items.ensures.value at among) in
     let R : PlainName → Type 0 = λ name. (reference : Reference) × Contains (map (positional_reference Entity) c.args.names.items) reference
     × ResolvesTo names reference name × IsReserved name in
     subst R (sym c.in_ok-clone.ensures.name) (found.0, found.1, found.2, c.is_reserved.ensures.0 c.if-is_reserved.true)
 
+-- one more name is not reserved
 pub loop-name-preserved : goal.loop-name-preserved
 loop-name-preserved c =
     none_more IsReserved name_of c.deref-name-items.result.now c.loop-name.name-index c.name-item.result c.loop-name-test.true
     c.name-item.is (λ reserved. false≢true (sym c.if-is_reserved.false ∙ c.is_reserved.ensures.1 reserved)) c.loop-name.invariant
 
+-- at the end none is
 pub returns-clause-unreserved : goal.returns-clause-unreserved
 returns-clause-unreserved c =
     let names = held_names c.args.all_defs.now in
     let listed = c.deref-name-items.result.now in
-    let P : List InternalName → Type 0 = λ items. AllByRecursion (λ name. ¬ IsReserved name) (map name_of items) in
     none_reserved names c.args.names.items c.in_ok-qualified.qualified.items c.in_ok-qualified.ensures.resolved
-    (subst P (take_all c.loop-name.name-index listed c.loop-name-test.false ∙ c.deref-name-items.ensures.value) c.loop-name.invariant)
+    (rw (take_all c.loop-name.name-index listed c.loop-name-test.false, c.deref-name-items.ensures.value) at c.loop-name.invariant)

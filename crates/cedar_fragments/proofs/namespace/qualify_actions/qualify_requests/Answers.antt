@@ -1,8 +1,8 @@
-use Rattle.std.proofs.Common.{map, Contains, Some, refl, inl, inr, ⊎_elim}
+use Rattle.std.proofs.Common.{map, Contains, Some, refl, inl, inr}
 use Rattle.std.proofs.lemmas.Result.{err_from_is_err_and}
 use Rattle.cedar_declarations.specs.Counted.{IsPrincipalOrResource}
 use Rattle.cedar_declarations.specs.Mentions.{Refers}
-use Rattle.cedar_declarations.specs.SchemaError.{fault_of, qualify_fault}
+use Rattle.cedar_declarations.specs.SchemaError.{qualify_fault}
 use Rattle.cedar_fragments.proofs.LocLemmas.{kept_beside_names}
 use Rattle.cedar_fragments.proofs.QualifiedLemmas.{refused_wider}
 use Rattle.cedar_fragments.proofs.UnresolvableLemmas.{unresolvable_wider, refused_unresolvable}
@@ -12,30 +12,30 @@ use Rattle.cedar_fragments.specs.QualifyFault.{HasToResolveFor, IsUnresolvable}
 use Rattle.cedar_names.specs.ConditionalExpr.{positional_reference, positional_expr}
 use Rattle.cedar_names.specs.declared.json_schema.conditional_name.ConditionalName.{ConditionalName}
 use Rattle.cedar_names.specs.declared.json_schema.reference_type.ReferenceType.TheVariants.{Entity}
+use Rattle.cedar_fragments.proofs.FragmentLemmas.{exit_holds}
 use Rattle.cedar_fragments.proofs.namespace.qualify_actions.qualify_requests.Goals as goal
 
+-- a fault of the principals is one of the requests
 pub returns-in_err-principals-clause-fault : goal.returns-in_err-principals-clause-fault
 returns-in_err-principals-clause-fault c =
     let names = held_names c.args.all_defs.now in
     let it = fragment_requests ConditionalName positional_reference (Some c.args.requests) in
     let all = map (positional_reference Entity) c.args.requests.principals.items in
-    let at_fault : IsUnresolvable names (HasToResolveFor it) (λ parent. ⊥) (IsPrincipalOrResource it) (fault_of c.in_err-principals.field-0.0) =
-    unresolvable_wider names (Contains all) (HasToResolveFor it) (λ parent. ⊥) (λ parent. ⊥) (Contains all) (IsPrincipalOrResource it)
-    (λ reference among. inr (inl among)) (λ parent none. none) (λ reference among. inl among) _ c.in_err-principals.ensures.fault in
-    let p = err_from_is_err_and c.from_residual.result c.from_residual.ensures.1 in
-    rw (p.1, p.2) at_fault
+    exit_holds _ _ _ c.from_residual.ensures.1
+    (unresolvable_wider names (Contains all) (HasToResolveFor it) (λ parent. ⊥) (λ parent. ⊥) (Contains all) (IsPrincipalOrResource it)
+    (λ reference among. inr (inl among)) (λ parent none. none) (λ reference among. inl among) _ c.in_err-principals.ensures.fault)
 
+-- a fault of the resources too
 pub returns-in_err-resources-clause-fault : goal.returns-in_err-resources-clause-fault
 returns-in_err-resources-clause-fault c =
     let names = held_names c.args.all_defs.now in
     let it = fragment_requests ConditionalName positional_reference (Some c.args.requests) in
     let all = map (positional_reference Entity) c.args.requests.resources.items in
-    let at_fault : IsUnresolvable names (HasToResolveFor it) (λ parent. ⊥) (IsPrincipalOrResource it) (fault_of c.in_err-resources.field-0.0) =
-    unresolvable_wider names (Contains all) (HasToResolveFor it) (λ parent. ⊥) (λ parent. ⊥) (Contains all) (IsPrincipalOrResource it)
-    (λ reference among. inr (inr among)) (λ parent none. none) (λ reference among. inr among) _ c.in_err-resources.ensures.fault in
-    let p = err_from_is_err_and c.from_residual-in_err-resources.result c.from_residual-in_err-resources.ensures.1 in
-    rw (p.1, p.2) at_fault
+    exit_holds _ _ _ c.from_residual-in_err-resources.ensures.1
+    (unresolvable_wider names (Contains all) (HasToResolveFor it) (λ parent. ⊥) (λ parent. ⊥) (Contains all) (IsPrincipalOrResource it)
+    (λ reference among. inr (inr among)) (λ parent none. none) (λ reference among. inr among) _ c.in_err-resources.ensures.fault)
 
+-- and one of the context
 pub returns-in_err-context-clause-fault : goal.returns-in_err-context-clause-fault
 returns-in_err-context-clause-fault c =
     let names = held_names c.args.all_defs.now in
@@ -48,11 +48,14 @@ returns-in_err-context-clause-fault c =
     let p = err_from_is_err_and c.from_residual-in_err-context.result c.from_residual-in_err-context.ensures.1 in
     rw (p.1, p.2) at_fault
 
+-- neither principals nor resources are reserved
 pub returns-clause-unreserved : goal.returns-clause-unreserved
-returns-clause-unreserved c reference name place resolves =
-    ⊎_elim (λ among. c.in_ok-principals.ensures.unreserved reference name among resolves)
-    (λ among. c.in_ok-resources.ensures.unreserved reference name among resolves) place
+returns-clause-unreserved c reference name place resolves = elim place [
+  | inl among ↦ c.in_ok-principals.ensures.unreserved reference name among resolves
+  | inr among ↦ c.in_ok-resources.ensures.unreserved reference name among resolves
+]
 
+-- the locations of the context are kept
 pub returns-clause-locs : goal.returns-clause-locs
 returns-clause-locs c =
     kept_beside_names c.in_ok-principals.principals.items c.in_ok-resources.resources.items c.args.requests.principals.items

@@ -1,21 +1,18 @@
 use Rattle.std.proofs.Common.{◌≡◌, Some, ap}
-use Rattle.std.proofs.lemmas.Result.{err_from_is_err_and}
 use Rattle.std.specs.Option.{option_map}
 use Rattle.cedar_declarations.specs.Mentions.{Refers}
 use Rattle.cedar_fragments.proofs.QualifiedLemmas.{refused_wider}
 use Rattle.cedar_fragments.specs.HeldNames.{held_names}
-use Rattle.cedar_fragments.specs.Refused.{IsRefusedAmong}
 use Rattle.cedar_names.specs.ConditionalExpr.{positional_expr}
 use Rattle.cedar_names.specs.Expr.{Expr}
 use Rattle.cedar_names.specs.Reference.{Reference}
+use Rattle.cedar_fragments.proofs.FragmentLemmas.{exit_holds}
 use Rattle.cedar_fragments.proofs.namespace.qualify_entities.qualify_tags.Goals as goal
 
 pub returns-in_err-ty-in-Some-clause-refused : goal.returns-in_err-ty-in-Some-clause-refused
 returns-in_err-ty-in-Some-clause-refused c =
     let names = held_names c.args.all_defs.now in
     let P : Reference → Type 0 = λ reference. (expr : Expr) × (option_map positional_expr c.args.tags ≡ Some expr) × Refers expr reference in
-    let refused : IsRefusedAmong names P (c.in_err-ty-in-Some).field-0.0 =
-    refused_wider names (Refers (positional_expr c.in-Some.ty)) P
-    (λ reference refers. (positional_expr c.in-Some.ty, ap (option_map positional_expr) c.in-Some.is, refers)) _ (c.in_err-ty-in-Some).ensures.refused in
-    let p = err_from_is_err_and c.from_residual.result c.from_residual.ensures.1 in
-    rw (p.1, p.2) refused
+    exit_holds _ _ _ c.from_residual.ensures.1
+    (refused_wider names (Refers (positional_expr c.in-Some.ty)) P
+    (λ reference refers. (positional_expr c.in-Some.ty, ap (option_map positional_expr) c.in-Some.is, refers)) _ (c.in_err-ty-in-Some).ensures.refused)

@@ -1,47 +1,40 @@
-use Rattle.std.proofs.Common.{sym, subst, ap, ◌∙◌, refl, List}
-use Rattle.std.proofs.lemmas.Result.{err_from_is_err_and}
+use Rattle.std.proofs.Common.{sym, ap, ◌∙◌, refl}
 use Rattle.std.specs.String.{string_cmp_total}
-use Rattle.std.specs.declared.alloc.Global.{Global}
-use Rattle.std.specs.declared.string.String.{String}
 use Rattle.cedar_below.specs.declared.internal_name.InternalName.{InternalName}
 use Rattle.cedar_declarations.specs.Mentions.{Refers}
 use Rattle.cedar_declarations.specs.Resolved.{resolves_text, resolves_long, resolves_truth, resolves_set, resolves_extension}
 use Rattle.cedar_declarations.specs.ResolvedExpr.{resolved_reference, resolved_expr}
-use Rattle.cedar_fragments.proofs.Pairwise.{RelatedSoFar, related_none, related_more, related_all}
-use Rattle.cedar_fragments.proofs.LocLemmas.{KeepsAttribute, KeepsType, KeepsVariant, keep_attributes, keeps_attribute, keeps_common, keeps_either, keeps_entity, keeps_extension, keeps_long, keeps_plain, keeps_record, keeps_set, keeps_text, keeps_truth}
+use Rattle.cedar_fragments.proofs.Pairwise.{related_none, related_more, related_all}
+use Rattle.cedar_fragments.proofs.LocLemmas.{KeepsAttribute, keep_attributes, keeps_attribute, keeps_common, keeps_either, keeps_entity, keeps_extension, keeps_long, keeps_plain, keeps_record, keeps_set, keeps_text, keeps_truth}
 use Rattle.cedar_fragments.proofs.QualifiedLemmas.{ResolvesAttribute, Made, refused_wider, refused_one, resolved_record_type, refers_record, resolves_as, resolves_name, refers_name, refers_as}
 use Rattle.cedar_fragments.specs.HeldNames.{held_names}
-use Rattle.cedar_fragments.specs.Refused.{IsRefusedAmong}
 use Rattle.cedar_names.proofs.VariantLemmas.{variant-String, variant-Long, variant-Boolean, variant-Set, variant-Record, variant-Entity, variant-EntityOrCommon, variant-Extension, type-Plain, type-CommonTypeRef}
 use Rattle.cedar_names.specs.ConditionalExpr.{positional_reference, positional_expr, positional_variant, positional_record}
 use Rattle.cedar_names.specs.Expr.{set_expr}
 use Rattle.cedar_names.specs.declared.json_schema.conditional_name.ConditionalName.{ConditionalName}
 use Rattle.cedar_names.specs.declared.json_schema.reference_type.ReferenceType.TheVariants.{Common, Entity, CommonOrEntity}
 use Rattle.cedar_names.specs.declared.json_schema.type_of.RecordType.{out-RecordType}
-use Rattle.cedar_names.specs.declared.json_schema.type_of.Type.{«Type», Plain, CommonTypeRef}
-use Rattle.cedar_names.specs.declared.json_schema.type_of.TypeOfAttribute.{TypeOfAttribute, out-TypeOfAttribute}
-use Rattle.cedar_names.specs.declared.json_schema.type_of.TypeVariant.{TypeVariant, String as text, Long, Boolean, Set, Record, Entity as entity, EntityOrCommon, Extension}
+use Rattle.cedar_names.specs.declared.json_schema.type_of.TypeOfAttribute.{out-TypeOfAttribute}
+use Rattle.cedar_fragments.proofs.FragmentLemmas.{exit_holds}
 use Rattle.cedar_fragments.proofs.namespace.qualify_types.+qualify.Goals as goal
 
+-- references that an attribute refuses are among those of the record
 pub qualify_record-returns-in_err-ty-clause-refused : goal.qualify_record-returns-in_err-ty-clause-refused
 qualify_record-returns-in_err-ty-clause-refused t c =
     let names = held_names c.args.all_defs.now in
     let it = c.args.record_type in
     let ty = (out-TypeOfAttribute ConditionalName c.in-Some.attribute).ty in
-    let refused : IsRefusedAmong names (Refers (positional_record it)) c.in_err-ty.field-0.0 =
-    refused_wider names (Refers (positional_expr ty)) (Refers (positional_record it))
+    exit_holds _ _ _ c.from_residual.ensures.1
+    (refused_wider names (Refers (positional_expr ty)) (Refers (positional_record it))
     (refers_record it c.loop-name.invariant.0.done c.loop-name.name-iterator _ c.in-Some.name c.in-Some.attribute
-    c.loop-name.invariant.0.split c.in-Some.ensures.steps) c.in_err-ty.field-0.0 c.in_err-ty.ensures.refused in
-    let p = err_from_is_err_and c.from_residual.result c.from_residual.ensures.1 in
-    rw (p.1, p.2) refused
+    c.loop-name.invariant.0.split c.in-Some.ensures.steps) c.in_err-ty.field-0.0 c.in_err-ty.ensures.refused)
 
+-- one more attribute is resolved and keeps its locations
 pub qualify_record-loop-name-preserved : goal.qualify_record-loop-name-preserved
 qualify_record-loop-name-preserved t c =
     let names = held_names c.args.all_defs.now in
     let all = (out-RecordType ConditionalName c.args.record_type).attributes.entries in
-    let P : List (String Global × TypeOfAttribute InternalName) → Type 0 = λ made.
-    RelatedSoFar (ResolvesAttribute names) all made c.next.new.self × RelatedSoFar KeepsAttribute all made c.next.new.self in
-    subst P (sym c.in_ok-put.ensures) (
+    rw c.in_ok-put.ensures (
       related_more (ResolvesAttribute names) string_cmp_total all c.loop-name.name-iterator c.next.new.self c.loop-name.attributes.entries
           c.in-Some.name c.in-Some.attribute _ c.into_iter-name-iterator.ensures.into_iter_gives.5 c.in-Some.ensures.steps
           (refl, c.in_ok-ty.ensures.resolved) c.loop-name.invariant.0,
@@ -50,6 +43,7 @@ qualify_record-loop-name-preserved t c =
           (keeps_attribute c.in-Some.attribute _ refl c.in_ok-ty.ensures.locs) c.loop-name.invariant.1,
     )
 
+-- at the end the record type is resolved
 pub qualify_record-returns-clause-resolved : goal.qualify_record-returns-clause-resolved
 qualify_record-returns-clause-resolved t c =
     let names = held_names c.args.all_defs.now in
@@ -60,12 +54,14 @@ qualify_record-returns-clause-resolved t c =
     resolved_record_type names c.args.record_type it refl
     (related_all (ResolvesAttribute names) _ _ _ c.in-None.ensures.steps.0 c.loop-name.invariant.0)
 
+-- at first no attribute is resolved
 pub qualify_record-loop-name-init : goal.qualify_record-loop-name-init
 qualify_record-loop-name-init t c = (
   related_none _ _ _ _ (sym c.into_iter-name-iterator.ensures.into_iter_gives.0) c.new-attributes.ensures.empty,
   related_none _ _ _ _ (sym c.into_iter-name-iterator.ensures.into_iter_gives.0) c.new-attributes.ensures.empty,
 )
 
+-- the record type keeps its locations
 pub qualify_record-returns-clause-locs : goal.qualify_record-returns-clause-locs
 qualify_record-returns-clause-locs t c =
     keep_attributes c.args.record_type (record {
@@ -74,40 +70,38 @@ qualify_record-returns-clause-locs t c =
     })
     (related_all KeepsAttribute _ _ _ c.in-None.ensures.steps.0 c.loop-name.invariant.1)
 
+-- a type keeps its own location and those inside it
 pub qualify_type-returns-in_ok-ty-in-Plain-clause-locs : goal.qualify_type-returns-in_ok-ty-in-Plain-clause-locs
 qualify_type-returns-in_ok-ty-in-Plain-clause-locs t c =
     let made = c.in_ok-ty-in-Plain.ty in
-    let P : «Type» ConditionalName → Type 0 = λ it. KeepsType it (Plain made c.in-Plain.loc) in
-    subst P (sym c.in-Plain.is) (keeps_plain c.in-Plain.ty made c.in-Plain.loc c.in_ok-ty-in-Plain.ensures.locs)
+    rw c.in-Plain.is (keeps_plain c.in-Plain.ty made c.in-Plain.loc c.in_ok-ty-in-Plain.ensures.locs)
 
 pub qualify_type-returns-in_ok-type_name-in-CommonTypeRef-clause-locs :
     goal.qualify_type-returns-in_ok-type_name-in-CommonTypeRef-clause-locs
 qualify_type-returns-in_ok-type_name-in-CommonTypeRef-clause-locs t c =
     let made = (c.in_ok-type_name-in-CommonTypeRef).type_name in
-    let P : «Type» ConditionalName → Type 0 = λ it. KeepsType it (CommonTypeRef made c.in-CommonTypeRef.loc) in
-    subst P (sym c.in-CommonTypeRef.is) (keeps_common c.in-CommonTypeRef.type_name made c.in-CommonTypeRef.loc)
+    rw c.in-CommonTypeRef.is (keeps_common c.in-CommonTypeRef.type_name made c.in-CommonTypeRef.loc)
 
+-- what is refused inside a type is refused by it
 pub qualify_type-returns-in_err-ty-in-Plain-clause-refused : goal.qualify_type-returns-in_err-ty-in-Plain-clause-refused
 qualify_type-returns-in_err-ty-in-Plain-clause-refused t c =
     let names = held_names c.args.all_defs.now in
     let same = ap positional_expr c.in-Plain.is ∙ type-Plain ConditionalName positional_reference c.in-Plain.ty c.in-Plain.loc in
-    let refused : IsRefusedAmong names (Refers (positional_expr c.args.ty)) c.in_err-ty-in-Plain.field-0.0 =
-    refused_wider names (Refers (positional_variant c.in-Plain.ty)) (Refers (positional_expr c.args.ty)) (refers_as same) _
-    c.in_err-ty-in-Plain.ensures.refused in
-    let p = err_from_is_err_and c.from_residual.result c.from_residual.ensures.1 in
-    rw (p.1, p.2) refused
+    exit_holds _ _ _ c.from_residual.ensures.1
+    (refused_wider names (Refers (positional_variant c.in-Plain.ty)) (Refers (positional_expr c.args.ty)) (refers_as same) _
+    c.in_err-ty-in-Plain.ensures.refused)
 
+-- a name of a common type that resolves to nothing is refused
 pub qualify_type-returns-in_err-type_name-in-CommonTypeRef-clause-refused :
     goal.qualify_type-returns-in_err-type_name-in-CommonTypeRef-clause-refused
 qualify_type-returns-in_err-type_name-in-CommonTypeRef-clause-refused t c =
     let names = held_names c.args.all_defs.now in
     let same = ap positional_expr c.in-CommonTypeRef.is ∙ type-CommonTypeRef ConditionalName positional_reference c.in-CommonTypeRef.type_name c.in-CommonTypeRef.loc in
-    let refused : IsRefusedAmong names (Refers (positional_expr c.args.ty)) (c.in_err-type_name-in-CommonTypeRef).field-0.0 =
-    refused_one names (Refers (positional_expr c.args.ty)) (positional_reference Common c.in-CommonTypeRef.type_name) (refers_name same) _
-    (c.in_err-type_name-in-CommonTypeRef).ensures.refused in
-    let p = err_from_is_err_and (c.from_residual-in_err-type_name-in-CommonTypeRef).result (c.from_residual-in_err-type_name-in-CommonTypeRef).ensures.1 in
-    rw (p.1, p.2) refused
+    exit_holds _ _ _ (c.from_residual-in_err-type_name-in-CommonTypeRef).ensures.1
+    (refused_one names (Refers (positional_expr c.args.ty)) (positional_reference Common c.in-CommonTypeRef.type_name) (refers_name same) _
+    (c.in_err-type_name-in-CommonTypeRef).ensures.refused)
 
+-- one that resolves to a common type is resolved
 pub qualify_type-returns-in_ok-type_name-in-CommonTypeRef-clause-resolved :
     goal.qualify_type-returns-in_ok-type_name-in-CommonTypeRef-clause-resolved
 qualify_type-returns-in_ok-type_name-in-CommonTypeRef-clause-resolved t c =
@@ -117,49 +111,46 @@ qualify_type-returns-in_ok-type_name-in-CommonTypeRef-clause-resolved t c =
     (resolves_name names Common c.in-CommonTypeRef.type_name (c.in_ok-type_name-in-CommonTypeRef).type_name
     (c.in_ok-type_name-in-CommonTypeRef).ensures.resolved)
 
+-- a set refuses what the type of its elements refuses
 pub qualify_variant-returns-in_err-element-in-Set-clause-refused : goal.qualify_variant-returns-in_err-element-in-Set-clause-refused
 qualify_variant-returns-in_err-element-in-Set-clause-refused t c =
     let names = held_names c.args.all_defs.now in
     let same = ap positional_variant c.in-Set.is ∙ (variant-Set ConditionalName positional_reference c.in-Set.element
     ∙ ap (λ ty. set_expr (positional_expr ty)) (sym c.into_inner.ensures)) in
-    let refused : IsRefusedAmong names (Refers (positional_variant c.args.ty)) c.in_err-element-in-Set.field-0.0 =
-    refused_wider names (Refers (positional_expr c.into_inner.result)) (Refers (positional_variant c.args.ty)) (refers_as same) _
-    c.in_err-element-in-Set.ensures.refused in
-    let p = err_from_is_err_and c.from_residual.result c.from_residual.ensures.1 in
-    rw (p.1, p.2) refused
+    exit_holds _ _ _ c.from_residual.ensures.1
+    (refused_wider names (Refers (positional_expr c.into_inner.result)) (Refers (positional_variant c.args.ty)) (refers_as same) _
+    c.in_err-element-in-Set.ensures.refused)
 
+-- so does a record type, of what its attributes refuse
 pub qualify_variant-returns-in_err-record_type-in-Record-clause-refused :
     goal.qualify_variant-returns-in_err-record_type-in-Record-clause-refused
 qualify_variant-returns-in_err-record_type-in-Record-clause-refused t c =
     let names = held_names c.args.all_defs.now in
     let same = ap positional_variant c.in-Record.is ∙ variant-Record ConditionalName positional_reference c.in-Record.record_type in
-    let refused : IsRefusedAmong names (Refers (positional_variant c.args.ty)) (c.in_err-record_type-in-Record).field-0.0 =
-    refused_wider names (Refers (positional_record c.in-Record.record_type)) (Refers (positional_variant c.args.ty)) (refers_as same) _
-    (c.in_err-record_type-in-Record).ensures.refused in
-    let p = err_from_is_err_and (c.from_residual-in_err-record_type-in-Record).result (c.from_residual-in_err-record_type-in-Record).ensures.1 in
-    rw (p.1, p.2) refused
+    exit_holds _ _ _ (c.from_residual-in_err-record_type-in-Record).ensures.1
+    (refused_wider names (Refers (positional_record c.in-Record.record_type)) (Refers (positional_variant c.args.ty)) (refers_as same) _
+    (c.in_err-record_type-in-Record).ensures.refused)
 
+-- a name of an entity type that resolves to nothing is refused
 pub qualify_variant-returns-in_err-name-in-Entity-clause-refused : goal.qualify_variant-returns-in_err-name-in-Entity-clause-refused
 qualify_variant-returns-in_err-name-in-Entity-clause-refused t c =
     let names = held_names c.args.all_defs.now in
     let same = ap positional_variant c.in-Entity.is ∙ variant-Entity ConditionalName positional_reference c.in-Entity.name in
-    let refused : IsRefusedAmong names (Refers (positional_variant c.args.ty)) (c.in_err-name-in-Entity).field-0.0 =
-    refused_one names (Refers (positional_variant c.args.ty)) (positional_reference Entity c.in-Entity.name) (refers_name same) _
-    (c.in_err-name-in-Entity).ensures.refused in
-    let p = err_from_is_err_and (c.from_residual-in_err-name-in-Entity).result (c.from_residual-in_err-name-in-Entity).ensures.1 in
-    rw (p.1, p.2) refused
+    exit_holds _ _ _ (c.from_residual-in_err-name-in-Entity).ensures.1
+    (refused_one names (Refers (positional_variant c.args.ty)) (positional_reference Entity c.in-Entity.name) (refers_name same) _
+    (c.in_err-name-in-Entity).ensures.refused)
 
+-- so is a name of either kind
 pub qualify_variant-returns-in_err-type_name-in-EntityOrCommon-clause-refused :
     goal.qualify_variant-returns-in_err-type_name-in-EntityOrCommon-clause-refused
 qualify_variant-returns-in_err-type_name-in-EntityOrCommon-clause-refused t c =
     let names = held_names c.args.all_defs.now in
     let same = ap positional_variant c.in-EntityOrCommon.is ∙ variant-EntityOrCommon ConditionalName positional_reference c.in-EntityOrCommon.type_name in
-    let refused : IsRefusedAmong names (Refers (positional_variant c.args.ty)) (c.in_err-type_name-in-EntityOrCommon).field-0.0 =
-    refused_one names (Refers (positional_variant c.args.ty)) (positional_reference CommonOrEntity c.in-EntityOrCommon.type_name) (refers_name same) _
-    (c.in_err-type_name-in-EntityOrCommon).ensures.refused in
-    let p = err_from_is_err_and (c.from_residual-in_err-type_name-in-EntityOrCommon).result (c.from_residual-in_err-type_name-in-EntityOrCommon).ensures.1 in
-    rw (p.1, p.2) refused
+    exit_holds _ _ _ (c.from_residual-in_err-type_name-in-EntityOrCommon).ensures.1
+    (refused_one names (Refers (positional_variant c.args.ty)) (positional_reference CommonOrEntity c.in-EntityOrCommon.type_name) (refers_name same) _
+    (c.in_err-type_name-in-EntityOrCommon).ensures.refused)
 
+-- the primitive types are resolved as they are
 pub qualify_variant-returns-in-String-clause-resolved : goal.qualify_variant-returns-in-String-clause-resolved
 qualify_variant-returns-in-String-clause-resolved t c =
     resolves_as (held_names c.args.all_defs.now) (ap positional_variant c.in-String.is ∙ variant-String ConditionalName positional_reference)
@@ -175,6 +166,7 @@ qualify_variant-returns-in-Boolean-clause-resolved t c =
     resolves_as (held_names c.args.all_defs.now) (ap positional_variant c.in-Boolean.is ∙ variant-Boolean ConditionalName positional_reference)
     (variant-Boolean InternalName resolved_reference) resolves_truth
 
+-- a set is resolved with its elements
 pub qualify_variant-returns-in_ok-element-in-Set-2-clause-resolved :
     goal.qualify_variant-returns-in_ok-element-in-Set-2-clause-resolved
 qualify_variant-returns-in_ok-element-in-Set-2-clause-resolved t c =
@@ -185,6 +177,7 @@ qualify_variant-returns-in_ok-element-in-Set-2-clause-resolved t c =
     ∙ ap (λ ty. set_expr (resolved_expr ty)) (c.in_ok-element-in-Set-2).ensures.ok)
     (resolves_set (c.in_ok-element-in-Set).ensures.resolved)
 
+-- names are resolved to what they stand for
 pub qualify_variant-returns-in_ok-name-in-Entity-clause-resolved :
     goal.qualify_variant-returns-in_ok-name-in-Entity-clause-resolved
 qualify_variant-returns-in_ok-name-in-Entity-clause-resolved t c =
@@ -202,54 +195,49 @@ qualify_variant-returns-in_ok-type_name-in-EntityOrCommon-clause-resolved t c =
     (resolves_name names CommonOrEntity c.in-EntityOrCommon.type_name (c.in_ok-type_name-in-EntityOrCommon).type_name
     (c.in_ok-type_name-in-EntityOrCommon).ensures.resolved)
 
+-- an extension type is resolved as it is
 pub qualify_variant-returns-in-Extension-clause-resolved : goal.qualify_variant-returns-in-Extension-clause-resolved
 qualify_variant-returns-in-Extension-clause-resolved t c =
     resolves_as (held_names c.args.all_defs.now) (ap positional_variant c.in-Extension.is ∙ variant-Extension ConditionalName positional_reference c.in-Extension.name)
     (variant-Extension InternalName resolved_reference c.in-Extension.name) (resolves_extension _)
 
+-- each kind of type keeps the locations inside it
 pub qualify_variant-returns-in-String-clause-locs : goal.qualify_variant-returns-in-String-clause-locs
 qualify_variant-returns-in-String-clause-locs t c =
-    let P : TypeVariant ConditionalName → Type 0 = λ it. KeepsVariant it text in subst P (sym c.in-String.is) keeps_text
+    rw c.in-String.is keeps_text
 
 pub qualify_variant-returns-in-Long-clause-locs : goal.qualify_variant-returns-in-Long-clause-locs
 qualify_variant-returns-in-Long-clause-locs t c =
-    let P : TypeVariant ConditionalName → Type 0 = λ it. KeepsVariant it Long in subst P (sym c.in-Long.is) keeps_long
+    rw c.in-Long.is keeps_long
 
 pub qualify_variant-returns-in-Boolean-clause-locs : goal.qualify_variant-returns-in-Boolean-clause-locs
 qualify_variant-returns-in-Boolean-clause-locs t c =
-    let P : TypeVariant ConditionalName → Type 0 = λ it. KeepsVariant it Boolean in subst P (sym c.in-Boolean.is) keeps_truth
+    rw c.in-Boolean.is keeps_truth
 
 pub qualify_variant-returns-in_ok-element-in-Set-2-clause-locs : goal.qualify_variant-returns-in_ok-element-in-Set-2-clause-locs
 qualify_variant-returns-in_ok-element-in-Set-2-clause-locs t c =
     let made = (c.in_ok-element-in-Set-2).element in
-    let P : TypeVariant ConditionalName → Type 0 = λ it. KeepsVariant it (Set made) in
-    let From : «Type» ConditionalName → Type 0 = λ it. KeepsType it (c.in_ok-element-in-Set).element in
-    let To : «Type» InternalName → Type 0 = KeepsType c.in-Set.element.value in
-    subst P (sym c.in-Set.is) (keeps_set c.in-Set.element made
-    (subst To (sym (c.in_ok-element-in-Set-2).ensures.ok) (subst From c.into_inner.ensures (c.in_ok-element-in-Set).ensures.locs)))
+    rw c.in-Set.is (keeps_set c.in-Set.element made
+    (rw (c.in_ok-element-in-Set-2).ensures.ok (rw c.into_inner.ensures at (c.in_ok-element-in-Set).ensures.locs)))
 
 pub qualify_variant-returns-in_ok-record_type-in-Record-clause-locs :
     goal.qualify_variant-returns-in_ok-record_type-in-Record-clause-locs
 qualify_variant-returns-in_ok-record_type-in-Record-clause-locs t c =
     let made = (c.in_ok-record_type-in-Record).record_type in
-    let P : TypeVariant ConditionalName → Type 0 = λ it. KeepsVariant it (Record made) in
-    subst P (sym c.in-Record.is) (keeps_record c.in-Record.record_type made (c.in_ok-record_type-in-Record).ensures.locs)
+    rw c.in-Record.is (keeps_record c.in-Record.record_type made (c.in_ok-record_type-in-Record).ensures.locs)
 
 pub qualify_variant-returns-in_ok-name-in-Entity-clause-locs : goal.qualify_variant-returns-in_ok-name-in-Entity-clause-locs
 qualify_variant-returns-in_ok-name-in-Entity-clause-locs t c =
     let made = (c.in_ok-name-in-Entity).name in
-    let P : TypeVariant ConditionalName → Type 0 = λ it. KeepsVariant it (entity made) in
-    subst P (sym c.in-Entity.is) (keeps_entity c.in-Entity.name made)
+    rw c.in-Entity.is (keeps_entity c.in-Entity.name made)
 
 pub qualify_variant-returns-in_ok-type_name-in-EntityOrCommon-clause-locs :
     goal.qualify_variant-returns-in_ok-type_name-in-EntityOrCommon-clause-locs
 qualify_variant-returns-in_ok-type_name-in-EntityOrCommon-clause-locs t c =
     let made = (c.in_ok-type_name-in-EntityOrCommon).type_name in
-    let P : TypeVariant ConditionalName → Type 0 = λ it. KeepsVariant it (EntityOrCommon made) in
-    subst P (sym c.in-EntityOrCommon.is) (keeps_either c.in-EntityOrCommon.type_name made)
+    rw c.in-EntityOrCommon.is (keeps_either c.in-EntityOrCommon.type_name made)
 
 pub qualify_variant-returns-in-Extension-clause-locs : goal.qualify_variant-returns-in-Extension-clause-locs
 qualify_variant-returns-in-Extension-clause-locs t c =
     let name = c.in-Extension.name in
-    let P : TypeVariant ConditionalName → Type 0 = λ it. KeepsVariant it (Extension name) in
-    subst P (sym c.in-Extension.is) (keeps_extension name)
+    rw c.in-Extension.is (keeps_extension name)

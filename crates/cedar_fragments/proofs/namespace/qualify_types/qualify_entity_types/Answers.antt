@@ -1,14 +1,13 @@
 use Rattle.std.proofs.Common.{map, Contains, refl, arith}
 use Rattle.std.proofs.lemmas.List.{nil_from_length}
-use Rattle.std.proofs.lemmas.Result.{err_from_is_err_and}
 use Rattle.cedar_below.specs.InternalName.{name_of}
 use Rattle.cedar_declarations.proofs.OccurrenceLemmas.{Contains-image}
 use Rattle.cedar_fragments.proofs.Pairwise.{turn_none, turn_more, turn_all, turn_next}
 use Rattle.cedar_fragments.proofs.QualifiedLemmas.{refused_one}
 use Rattle.cedar_fragments.specs.HeldNames.{held_names}
-use Rattle.cedar_fragments.specs.Refused.{IsRefusedAmong}
 use Rattle.cedar_names.specs.ConditionalExpr.{positional_reference}
 use Rattle.cedar_names.specs.declared.json_schema.reference_type.ReferenceType.TheVariants.{Entity}
+use Rattle.cedar_fragments.proofs.FragmentLemmas.{exit_holds}
 use Rattle.cedar_fragments.proofs.namespace.qualify_types.qualify_entity_types.Goals as goal
 
 pub loop-name-init : goal.loop-name-init
@@ -18,11 +17,9 @@ pub returns-in_err-resolve_at-clause-refused : goal.returns-in_err-resolve_at-cl
 returns-in_err-resolve_at-clause-refused c =
     let names = held_names c.args.all_defs.now in
     let among = turn_next _ _ _ _ _ _ _ c.in-Some.name c.in-Some.ensures.steps.0 c.loop-name.invariant in
-    let refused : IsRefusedAmong names (Contains (map (positional_reference Entity) c.args.names.items)) c.in_err-resolve_at.field-0.0 =
-    refused_one names (Contains (map (positional_reference Entity) c.args.names.items)) (positional_reference Entity c.in-Some.name)
-    (Contains-image (positional_reference Entity) c.args.names.items c.in-Some.name among) _ c.in_err-resolve_at.ensures.refused in
-    let p = err_from_is_err_and c.from_residual.result c.from_residual.ensures.1 in
-    rw (p.1, p.2) refused
+    exit_holds _ _ _ c.from_residual.ensures.1
+    (refused_one names (Contains (map (positional_reference Entity) c.args.names.items)) (positional_reference Entity c.in-Some.name)
+    (Contains-image (positional_reference Entity) c.args.names.items c.in-Some.name among) _ c.in_err-resolve_at.ensures.refused)
 
 pub loop-name-preserved : goal.loop-name-preserved
 loop-name-preserved c =

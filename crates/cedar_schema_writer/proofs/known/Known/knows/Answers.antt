@@ -1,4 +1,4 @@
-use Rattle.std.proofs.Common.{map, sym, ◌∙◌, ⊎_elim}
+use Rattle.std.proofs.Common.{map, sym, ◌∙◌, inl, inr}
 use Rattle.std.proofs.lemmas.Bool.{false≢true}
 use Rattle.std.proofs.lemmas.List.Elements.{Contains-append_cases, Contains-append_left, Contains-append_right}
 use Rattle.cedar_below.specs.EntityType.{type_name}
@@ -23,8 +23,8 @@ returns-else-has_entity_type c =
     let name = type_name c.args.name.now in
     let among = list_any-names c.args.name.now c.args.self.now.action_types.now.keys in (
       λ there. Contains-append_right types action_types name (among.0 (sym c.contains.ensures ∙ there)),
-      λ known. ⊎_elim
-          (λ there. absurd (false≢true (sym c.if-has_entity_type.false ∙ c.has_entity_type.ensures.1 there)))
-          (λ there. c.contains.ensures ∙ among.1 there)
-          (Contains-append_cases types action_types name known),
+      λ known. elim (Contains-append_cases types action_types name known) [
+        | inl there ↦ absurd (false≢true (sym c.if-has_entity_type.false ∙ c.has_entity_type.ensures.1 there))
+        | inr there ↦ c.contains.ensures ∙ among.1 there
+      ],
     )

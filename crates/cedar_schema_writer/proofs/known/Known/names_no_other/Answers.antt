@@ -1,4 +1,4 @@
-use Rattle.std.proofs.Common.{◌≡◌, [], Option, Some, not, ap, sym, subst, ◌∙◌, ◌↔◌, IsTrue, Contains}
+use Rattle.std.proofs.Common.{◌≡◌, [], Some, ap, sym, ◌∙◌, Contains}
 use Rattle.cedar_below.specs.EntityType.{type_name}
 use Rattle.cedar_below.specs.Name.{plain_name}
 use Rattle.cedar_below.specs.PlainName.{PlainName}
@@ -17,8 +17,6 @@ returns-in_ok-other-in-Some c =
     c.in_ok-other-in-Some.ensures ∙ ap (λ (it : PlainName). name_within (Some namespace) it.base) c.name-in-Some.ensures.name in
     let path : name.path ≡ [] = ap (λ (it : PlainName). it.path) (sym c.name.ensures.name)
     ∙ c.is_unqualified.ensures.0 c.if-is_unqualified.true in
-    let P : PlainName → Type 0 = λ it. IsTrue c.knows.result ↔ Contains names.entities it in
-    let Q : Option PlainName → Type 0 = λ it. IsTrue (not c.knows.result) ↔ NamesNoOther names it name in
-    subst Q (sym (ap plain_namespace c.in-Some.is))
+    rw (ap plain_namespace c.in-Some.is)
     (answered-not (Contains names.entities (name_within (Some namespace) name.base)) (NamesNoOther names (Some namespace) name)
-    c.knows.result (subst P key c.knows.ensures) (no_other-within names namespace name.base name.path path))
+    c.knows.result (rw key at c.knows.ensures) (no_other-within names namespace name.base name.path path))

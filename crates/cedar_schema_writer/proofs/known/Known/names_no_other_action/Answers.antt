@@ -1,4 +1,4 @@
-use Rattle.std.proofs.Common.{◌≡◌, [], Option, Some, not, ap, sym, subst, ◌∙◌, ◌↔◌, IsTrue, Contains}
+use Rattle.std.proofs.Common.{◌≡◌, [], Some, ap, sym, ◌∙◌, Contains}
 use Rattle.cedar_below.specs.EntityUID.{uid_of}
 use Rattle.cedar_below.specs.Name.{plain_name}
 use Rattle.cedar_below.specs.PlainName.{PlainName}
@@ -22,8 +22,6 @@ returns-in_ok-clone-in-Some c =
     let key : uid_of c.new-other.result ≡ other =
     (λ i. let name : PlainName = ty i in let text : Text = eid i in record { ty = name; eid = text }) in
     let path : uid.ty.path ≡ [] = ap (λ (it : PlainName). it.path) (sym named) ∙ c.is_unqualified.ensures.0 c.if-is_unqualified.true in
-    let P : PlainUid → Type 0 = λ it. IsTrue c.has_action.result ↔ Contains names.actions it in
-    let Q : Option PlainName → Type 0 = λ it. IsTrue (not c.has_action.result) ↔ NamesNoOtherAction names it uid in
-    subst Q (sym (ap plain_namespace c.in-Some.is))
+    rw (ap plain_namespace c.in-Some.is)
     (answered-not (Contains names.actions other) (NamesNoOtherAction names (Some namespace) uid)
-    c.has_action.result (subst P key c.has_action.ensures) (no_other_action-within names namespace uid.ty.base uid.ty.path uid.eid path))
+    c.has_action.result (rw key at c.has_action.ensures) (no_other_action-within names namespace uid.ty.base uid.ty.path uid.eid path))

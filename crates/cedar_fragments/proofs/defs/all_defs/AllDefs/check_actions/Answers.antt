@@ -10,6 +10,7 @@ use Rattle.cedar_fragments.specs.ShadowedNames.{IsPlainAction}
 use Rattle.cedar_fragments.proofs.ShadowLemmas.{ids_of, PassedSoFar-more, passed_all, passed_next, looked_up, not_looked_up, unqualified_is_not_shadowed, not_shadowed}
 use Rattle.cedar_fragments.proofs.defs.all_defs.AllDefs.check_actions.Goals as goal
 
+-- an action of an unqualified type is shadowed by none
 pub loop-uid-preserved-then-is_unqualified : goal.loop-uid-preserved-then-is_unqualified
 loop-uid-preserved-then-is_unqualified c =
     let plain : IsUnqualified (uid_of c.in-Some.uid.now).ty = subst IsUnqualified (c.name.ensures.name ∙ c.entity_type.ensures.name)
@@ -17,6 +18,7 @@ loop-uid-preserved-then-is_unqualified c =
     PassedSoFar-more _ _ _ _ c.next.new.self c.in-Some.uid.now c.in-Some.ensures.steps
     (unqualified_is_not_shadowed (held_names c.args.self.now).actions (uid_of c.in-Some.uid.now) plain) c.loop-uid.invariant
 
+-- the plain action of the same id shadows the action
 pub returns-in-Some-get-clause-fault : goal.returns-in-Some-get-clause-fault
 returns-in-Some-get-clause-fault c =
     let actions = (held_names c.args.self.now).actions in
@@ -35,16 +37,18 @@ returns-in-Some-get-clause-fault c =
     let R : PlainUid → Type 0 = λ each. P each (uid_of c.in_ok-clone-in-Some-get-2.field-0) in
     inr (subst R (sym c.in_ok-clone-in-Some-get.ensures.uid) (subst Q (sym c.in_ok-clone-in-Some-get-2.ensures.uid) pair))
 
+-- an action whose id no plain action has is shadowed by none
 pub loop-uid-preserved : goal.loop-uid-preserved
 loop-uid-preserved c =
     let actions = (held_names c.args.self.now).actions in
     let uid = uid_of c.in-Some.uid.now in
     let P : Text → Type 0 = λ text. ¬ Contains (ids_of c.in_ok-plain.plain.entries) text in
-    let absent : P uid.eid = subst P (c.as_str.ensures ∙ c.eid.ensures)
+    let absent : P uid.eid = rw (c.as_str.ensures, c.eid.ensures) at
     (not_looked_up c.in_ok-plain.plain.entries c.as_str.result.now (sym c.in-None-get.ensures.value)) in
     PassedSoFar-more _ _ _ _ c.next.new.self c.in-Some.uid.now c.in-Some.ensures.steps
     (not_shadowed actions c.in_ok-plain.plain.entries uid c.in_ok-plain.ensures.all absent) c.loop-uid.invariant
 
+-- after the last action none is shadowed
 pub returns-clause-none : goal.returns-clause-none
 returns-clause-none c =
     λ plain qualified here there. passed_all _ _ _ _ c.in-None.ensures.steps.0 c.loop-uid.invariant qualified there plain here

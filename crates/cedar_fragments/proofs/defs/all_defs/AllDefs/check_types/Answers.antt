@@ -1,35 +1,22 @@
-use Rattle.std.proofs.Common.{Option, sym, subst, inr, Contains}
-use Rattle.std.specs.Option.{MatchOption}
+use Rattle.std.proofs.Common.{sym, subst, inr}
 use Rattle.cedar_below.specs.InternalName.{name_of}
 use Rattle.cedar_below.specs.PlainName.{PlainName}
-use Rattle.cedar_below.specs.declared.internal_name.InternalName.{InternalName}
 use Rattle.cedar_declarations.specs.Shadowing.{ShadowsType}
-use Rattle.cedar_fragments.specs.HeldNames.{held_names}
-use Rattle.cedar_fragments.specs.ShadowedNames.{type_names}
 use Rattle.cedar_fragments.proofs.ShadowLemmas.{PassedSoFar-more, passed_all, passed_next}
 use Rattle.cedar_fragments.proofs.defs.all_defs.AllDefs.check_types.Goals as goal
 
 pub returns-in-Some-found-clause-fault : goal.returns-in-Some-found-clause-fault
 returns-in-Some-found-clause-fault c =
-    let held = held_names c.args.self.now in
-    let P : Option InternalName → Type 0 = λ found. MatchOption found
-    ((plain : PlainName) → Contains (type_names held) plain → ¬ ShadowsType plain (name_of c.in-Some.name.now))
-    (λ plain. Contains (type_names held) (name_of plain) × ShadowsType (name_of plain) (name_of c.in-Some.name.now)) in
-    let pair = subst P c.in-Some-found.is c.in_ok-found.ensures in
-    let Q : PlainName → Type 0 = Contains (type_names held) in
+    let pair = rw c.in-Some-found.is at c.in_ok-found.ensures in
     let R : PlainName → Type 0 = ShadowsType (name_of c.in-Some-found.plain) in
     let among = c.requires (name_of c.in-Some.name.now)
     (passed_next _ _ c.args.names.now.keys c.loop-name.name-iterator c.next.new.self c.in-Some.name.now c.in-Some.ensures.steps
     c.loop-name.invariant) in
-    inr (pair.0, subst Q (sym c.in_ok-clone-in-Some-found.ensures.name) among, subst R (sym c.in_ok-clone-in-Some-found.ensures.name) pair.1)
+    inr (pair.0, rw c.in_ok-clone-in-Some-found.ensures.name among, subst R (sym c.in_ok-clone-in-Some-found.ensures.name) pair.1)
 
 pub loop-name-preserved : goal.loop-name-preserved
 loop-name-preserved c =
-    let held = held_names c.args.self.now in
-    let P : Option InternalName → Type 0 = λ found. MatchOption found
-    ((plain : PlainName) → Contains (type_names held) plain → ¬ ShadowsType plain (name_of c.in-Some.name.now))
-    (λ plain. Contains (type_names held) (name_of plain) × ShadowsType (name_of plain) (name_of c.in-Some.name.now)) in
-    PassedSoFar-more _ _ _ _ c.next.new.self c.in-Some.name.now c.in-Some.ensures.steps (subst P c.in-None-found.is c.in_ok-found.ensures)
+    PassedSoFar-more _ _ _ _ c.next.new.self c.in-Some.name.now c.in-Some.ensures.steps (rw c.in-None-found.is at c.in_ok-found.ensures)
     c.loop-name.invariant
 
 pub returns-clause-none : goal.returns-clause-none

@@ -1,4 +1,3 @@
-use Rattle.std.proofs.Common.{◌↔◌, Bool, IsTrue, map, sym, subst, Contains}
 use Rattle.cedar_below.proofs.Uids.{entity_uid_ord-Equal}
 use Rattle.cedar_below.specs.EntityUID.{uid_of}
 use Rattle.cedar_below.specs.contracts.entity_uid.EntityUIDOrd.TheImpl as order
@@ -7,6 +6,5 @@ use Rattle.cedar_fragments.proofs.defs.all_defs.AllDefs.is_defined_as_action.Goa
 
 pub returns : goal.returns
 returns c =
-    let P : Bool → Type 0 = λ found. IsTrue found ↔ Contains (map uid_of c.args.self.now.action_defs.keys) (uid_of c.args.uid.now) in
-    subst P (sym c.contains.ensures)
+    rw c.contains.ensures
     (found-Decides ((order.ghosts).cmp) uid_of entity_uid_ord-Equal c.args.self.now.action_defs.keys c.args.uid.now)

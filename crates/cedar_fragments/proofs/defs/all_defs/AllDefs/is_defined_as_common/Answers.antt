@@ -1,4 +1,3 @@
-use Rattle.std.proofs.Common.{◌↔◌, Bool, IsTrue, map, sym, subst, Contains}
 use Rattle.cedar_below.proofs.Names.{internal_name_ord-Equal}
 use Rattle.cedar_below.specs.InternalName.{name_of}
 use Rattle.cedar_below.specs.contracts.internal_name.InternalNameOrd.TheImpl as order
@@ -7,6 +6,5 @@ use Rattle.cedar_fragments.proofs.defs.all_defs.AllDefs.is_defined_as_common.Goa
 
 pub returns : goal.returns
 returns c =
-    let P : Bool → Type 0 = λ found. IsTrue found ↔ Contains (map name_of c.args.self.now.common_defs.keys) (name_of c.args.name.now) in
-    subst P (sym c.contains.ensures)
+    rw c.contains.ensures
     (found-Decides ((order.ghosts).cmp) name_of internal_name_ord-Equal c.args.self.now.common_defs.keys c.args.name.now)

@@ -1,4 +1,4 @@
-use Rattle.std.proofs.Common.{⊎_elim}
+use Rattle.std.proofs.Common.{⊎_elim, inl, inr}
 use Rattle.std.proofs.lemmas.List.Elements.{Contains-append_right, Contains-append_cases}
 use Rattle.cedar_fragments.specs.HeldNames.{held_names}
 use Rattle.cedar_fragments.proofs.defs.all_defs.AllDefs.rfc_70_shadowing_checks.Goals as goal
@@ -11,7 +11,7 @@ check_types-requires-2 c =
 pub returns-clause-types : goal.returns-clause-types
 returns-clause-types c =
     let held = held_names c.args.self.now in
-    λ plain qualified here there. ⊎_elim
-    (λ common. c.in_ok-check_types.ensures.none plain qualified here common)
-    (λ entity. c.in_ok-check_types-2.ensures.none plain qualified here entity)
-    (Contains-append_cases held.common held.entities qualified there)
+    λ plain qualified here there. elim (Contains-append_cases held.common held.entities qualified there) [
+      | inl common ↦ c.in_ok-check_types.ensures.none plain qualified here common
+      | inr entity ↦ c.in_ok-check_types-2.ensures.none plain qualified here entity
+    ]

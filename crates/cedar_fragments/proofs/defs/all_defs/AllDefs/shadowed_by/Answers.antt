@@ -1,14 +1,13 @@
-use Rattle.std.proofs.Common.{map, ap, sym, subst, ◌∙◌, ⊎_elim, Contains}
+use Rattle.std.proofs.Common.{map, ap, sym, ◌∙◌, inl, inr}
 use Rattle.std.proofs.lemmas.Bool.{false≢true}
 use Rattle.std.proofs.lemmas.List.Elements.{Contains-append_left, Contains-append_right, Contains-append_cases}
 use Rattle.cedar_below.specs.Id.{id_text}
 use Rattle.cedar_below.specs.InternalName.{name_of}
-use Rattle.cedar_below.specs.PlainName.{PlainName}
 use Rattle.cedar_fragments.specs.HeldNames.{held_names}
-use Rattle.cedar_fragments.specs.ShadowedNames.{type_names}
 use Rattle.cedar_fragments.proofs.ShadowLemmas.{shadow_is}
 use Rattle.cedar_fragments.proofs.defs.all_defs.AllDefs.shadowed_by.Goals as goal
 
+-- a common type of the unqualified name shadows the name
 pub returns-then-is_defined_as_common : goal.returns-then-is_defined_as_common
 returns-then-is_defined_as_common c =
     let held = held_names c.args.self.now in (
@@ -21,6 +20,7 @@ returns-then-is_defined_as_common c =
       ),
     )
 
+-- so does an entity type of that name
 pub returns-then-is_defined_as_entity : goal.returns-then-is_defined_as_entity
 returns-then-is_defined_as_entity c =
     let held = held_names c.args.self.now in (
@@ -33,6 +33,7 @@ returns-then-is_defined_as_entity c =
       ),
     )
 
+-- where neither is defined, nothing shadows it
 pub returns : goal.returns
 returns c =
     λ plain among shadows.
@@ -40,8 +41,7 @@ returns c =
     let same = shadow_is plain (name_of c.new-plain.result) (name_of c.args.name.now)
     (c.new-plain.ensures.base ∙ (c.in_ok-clone.ensures ∙ c.basename.ensures))
     (c.new-plain.ensures.path ∙ ap (map id_text) c.new.ensures.items) shadows in
-    let P : PlainName → Type 0 = Contains (type_names held) in
-    ⊎_elim
-    (λ common. false≢true (sym c.if-is_defined_as_common.false ∙ c.is_defined_as_common.ensures.1 common))
-    (λ entity. false≢true (sym c.if-is_defined_as_entity.false ∙ c.is_defined_as_entity.ensures.1 entity))
-    (Contains-append_cases held.common held.entities (name_of c.new-plain.result) (subst P same among))
+    elim (Contains-append_cases held.common held.entities (name_of c.new-plain.result) (rw same at among)) [
+      | inl common ↦ false≢true (sym c.if-is_defined_as_common.false ∙ c.is_defined_as_common.ensures.1 common)
+      | inr entity ↦ false≢true (sym c.if-is_defined_as_entity.false ∙ c.is_defined_as_entity.ensures.1 entity)
+    ]

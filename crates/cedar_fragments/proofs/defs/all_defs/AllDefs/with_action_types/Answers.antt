@@ -1,10 +1,8 @@
-use Rattle.std.proofs.Common.{sym, subst, ◌∙◌, map, List}
+use Rattle.std.proofs.Common.{sym, ◌∙◌, map}
 use Rattle.std.proofs.lemmas.Simd.{map-map}
 use Rattle.cedar_below.specs.EntityUID.{uid_of}
 use Rattle.cedar_below.specs.InternalName.{name_of}
-use Rattle.cedar_below.specs.PlainName.{PlainName}
 use Rattle.cedar_fragments.proofs.SetLemmas.{added_none, added_more, added_all}
-use Rattle.cedar_fragments.specs.HeldNames.{HasAlso}
 use Rattle.cedar_fragments.proofs.defs.all_defs.AllDefs.with_action_types.Goals as goal
 
 pub loop-uid-init : goal.loop-uid-init
@@ -18,6 +16,5 @@ loop-uid-preserved c =
 
 pub returns-clause-entities : goal.returns-clause-entities
 returns-clause-entities c =
-    let P : List PlainName → Type 0 = HasAlso (map name_of c.loop-uid.entity_defs.keys) (map name_of c.args.self.entity_defs.keys) in
-    subst P (sym (map-map _ _ c.args.self.action_defs.keys))
+    rw (map-map _ _ c.args.self.action_defs.keys)
     (added_all (λ uid. (uid_of uid).ty) (map name_of c.args.self.entity_defs.keys) c.args.self.action_defs.keys c.loop-uid.uid-iterator _ c.in-None.ensures.steps.0 c.loop-uid.invariant)

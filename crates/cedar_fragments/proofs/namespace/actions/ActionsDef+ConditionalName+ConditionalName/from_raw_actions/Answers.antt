@@ -1,8 +1,6 @@
 use Rattle.std.proofs.Common.{◌≡◌, ◌⊎◌, sym, ap, string_bytes}
-use Rattle.std.proofs.lemmas.Result.{err_from_is_err_and}
 use Rattle.std.specs.Option.{is_some}
 use Rattle.cedar_declarations.specs.Fault.{Fault, out_of_memory}
-use Rattle.cedar_declarations.specs.SchemaError.{fault_of}
 use Rattle.cedar_fragments.proofs.AttributeLemmas.{empty_by, nonempty_by, attributes_fault, attributes_named, next_has_none}
 use Rattle.cedar_fragments.proofs.DeclaredAsLemmas.{declared_action-within}
 use Rattle.cedar_fragments.proofs.ListedSoFar.{ListedSoFar-none, ListedSoFar-more, listed_next}
@@ -13,40 +11,45 @@ use Rattle.cedar_names.specs.Declaration.{action, action_declarations}
 use Rattle.cedar_names.specs.NamespaceName.{namespace_name}
 use Rattle.cedar_names.specs.RawExpr.{raw_reference}
 use Rattle.cedar_names.specs.declared.json_schema.raw_name.RawName.{RawName}
+use Rattle.cedar_fragments.proofs.FragmentLemmas.{exit_holds}
 use Rattle.cedar_fragments.proofs.namespace.actions.ActionsDef+ConditionalName+ConditionalName.from_raw_actions.Goals as goal
 
+-- the listed actions have attributes, which is a fault
 pub returns-then-not-is_empty-clause-fault : goal.returns-then-not-is_empty-clause-fault
 returns-then-not-is_empty-clause-fault c =
     let some = nonempty_by c.in_ok-ids.ids c.is_empty.result c.is_empty.ensures c.if-not-is_empty.true in
     attributes_fault (namespace_name c.args.namespace) c.args.written.entries c.in_ok-ids.ids.items
     c.in_ok-ids.ensures.listed c.in_ok-ids.ensures.in_order some
 
+-- all that have attributes are named
 pub returns-then-not-is_empty-clause-all_named : goal.returns-then-not-is_empty-clause-all_named
 returns-then-not-is_empty-clause-all_named c =
     attributes_named (namespace_name c.args.namespace) c.args.written.entries c.in_ok-ids.ids.items c.in_ok-ids.ensures.listed
 
+-- at first no action is converted
 pub loop-id-init : goal.loop-id-init
 loop-id-init c =
     ListedSoFar-none _ _ _ _ _ _ (sym c.into_iter-id-iterator.ensures.into_iter_gives.0) c.new-defs.ensures.items
 
+-- a refused uid is a fault of the declarations
 pub returns-in_err-uid-clause-fault : goal.returns-in_err-uid-clause-fault
 returns-in_err-uid-clause-fault c =
     let namespace = namespace_name c.args.namespace in
     let bag = action_declarations RawName (raw_reference namespace) namespace c.args.written.entries in
-    let P : Fault → Type 0 = λ fault. (fault ≡ out_of_memory) ⊎ IsDefinitionFault bag fault in
-    let at_fault : P (fault_of c.in_err-uid.field-0.0) = fault_of_action bag namespace (string_bytes c.in-Some.id)
+    exit_holds _ _ _ c.from_residual-in_err-uid.ensures.1
+    (fault_of_action bag namespace (string_bytes c.in-Some.id)
     (action_body RawName (raw_reference namespace) namespace c.in-Some.declared) _
     (listed_next _ _ _ _ _ c.next.new.self _ (c.in-Some.id, c.in-Some.declared) c.in-Some.ensures.steps c.loop-id.invariant)
-    c.in_err-uid.ensures.fault in
-    let p = err_from_is_err_and c.from_residual-in_err-uid.result c.from_residual-in_err-uid.ensures.1 in
-    rw (p.1, p.2) at_fault
+    c.in_err-uid.ensures.fault)
 
+-- no action has attributes, as none was listed
 pub from_raw_action-requires : goal.from_raw_action-requires
 from_raw_action-requires c =
     let none = empty_by c.in_ok-ids.ids c.is_empty.result c.is_empty.ensures c.if-not-is_empty.false in
     next_has_none c.args.written.entries c.loop-id.id-iterator c.next.new.self c.in_ok-ids.ids.items c.loop-id.invariant.done
     (c.in-Some.id, c.in-Some.declared) c.in_ok-ids.ensures.listed none c.loop-id.invariant.split c.in-Some.ensures.steps
 
+-- one more action is converted, and it is sound
 pub loop-id-preserved : goal.loop-id-preserved
 loop-id-preserved c =
     let namespace = namespace_name c.args.namespace in

@@ -1,8 +1,6 @@
 use Rattle.std.proofs.Common.{◌≡◌, ◌⊎◌, sym, ap}
 use Rattle.cedar_declarations.specs.Fault.{Fault, out_of_memory}
-use Rattle.cedar_declarations.specs.SchemaError.{fault_of}
-use Rattle.cedar_fragments.specs.DefinitionFault.{IsDefinitionFault, NamesNoAttributes}
-use Rattle.std.proofs.lemmas.Result.{err_from_is_err_and}
+use Rattle.cedar_fragments.specs.DefinitionFault.{IsDefinitionFault}
 use Rattle.cedar_below.specs.UnreservedId.{unreserved_id_text}
 use Rattle.cedar_fragments.proofs.DeclaredAsLemmas.{declared_as-within}
 use Rattle.cedar_fragments.proofs.ListedSoFar.{ListedSoFar-none, ListedSoFar-more, listed_next, listed_same, listed_each}
@@ -12,29 +10,30 @@ use Rattle.cedar_names.specs.EntityBody.{raw_entity_body}
 use Rattle.cedar_names.specs.NamespaceName.{namespace_name}
 use Rattle.cedar_names.specs.RawExpr.{raw_reference}
 use Rattle.cedar_names.specs.declared.json_schema.raw_name.RawName.{RawName}
+use Rattle.cedar_fragments.proofs.FragmentLemmas.{exit_holds}
 use Rattle.cedar_fragments.proofs.namespace.entity_types.EntityTypesDef+ConditionalName.from_raw_entity_types.Goals as goal
 
+-- at first no entity type is converted
 pub loop-id-init : goal.loop-id-init
 loop-id-init c =
     ListedSoFar-none _ _ _ _ _ _ (sym c.into_iter-id-iterator.ensures.into_iter_gives.0) c.new-defs.ensures.items
 
+-- a refused name is a fault of the declarations
 pub returns-in_err-name-clause-fault : goal.returns-in_err-name-clause-fault
 returns-in_err-name-clause-fault c =
     let namespace = namespace_name c.args.namespace in
     let bag = entity_declarations RawName (raw_reference namespace) namespace c.args.written.entries in
-    let P : Fault → Type 0 = λ fault. (fault ≡ out_of_memory) ⊎ IsDefinitionFault bag fault in
-    let at_fault : P (fault_of c.in_err-name.field-0.0) = fault_of_entity bag namespace (unreserved_id_text c.in-Some.id) (raw_entity_body namespace c.in-Some.declared) _
+    exit_holds _ _ _ c.from_residual.ensures.1
+    (fault_of_entity bag namespace (unreserved_id_text c.in-Some.id) (raw_entity_body namespace c.in-Some.declared) _
     (listed_next _ _ _ _ _ c.next.new.self _ (c.in-Some.id, c.in-Some.declared) c.in-Some.ensures.steps c.loop-id.invariant)
-    c.in_err-name.ensures.fault in
-    let p = err_from_is_err_and c.from_residual.result c.from_residual.ensures.1 in
-    rw (p.1, p.2) at_fault
+    c.in_err-name.ensures.fault)
 
+-- it names no actions
 pub returns-in_err-name-clause-no_actions : goal.returns-in_err-name-clause-no_actions
 returns-in_err-name-clause-no_actions c =
-    let named : NamesNoAttributes (fault_of c.in_err-name.field-0.0) = name_names_none _ _ _ _ c.in_err-name.ensures.fault in
-    let p = err_from_is_err_and c.from_residual.result c.from_residual.ensures.1 in
-    rw (p.1, p.2) named
+    exit_holds _ _ _ c.from_residual.ensures.1 (name_names_none _ _ _ _ c.in_err-name.ensures.fault)
 
+-- one more entity type is converted, and it is sound
 pub loop-id-preserved : goal.loop-id-preserved
 loop-id-preserved c =
     let namespace = namespace_name c.args.namespace in
@@ -45,8 +44,10 @@ loop-id-preserved c =
     (ap entity_type c.in_ok-fragment.ensures))
     (c.in_ok-name.ensures.no_action, c.in_ok-name.ensures.unreserved) c.loop-id.invariant
 
+-- at the end all are converted
 pub returns-clause-declarations : goal.returns-clause-declarations
 returns-clause-declarations c = listed_same _ _ _ _ _ _ c.in-None.ensures.steps.0 c.loop-id.invariant
 
+-- and each is sound
 pub returns-clause-sound : goal.returns-clause-sound
 returns-clause-sound c = listed_each _ _ _ _ _ _ c.in-None.ensures.steps.0 c.loop-id.invariant

@@ -1,28 +1,26 @@
-use Rattle.std.proofs.Common.{Option, map, Contains, sym, subst}
-use Rattle.std.proofs.lemmas.Result.{err_from_is_err_and}
+use Rattle.std.proofs.Common.{Option, map, Contains}
 use Rattle.cedar_declarations.specs.Counted.{IsPrincipalOrResource}
 use Rattle.cedar_declarations.specs.SchemaError.{fault_of}
 use Rattle.cedar_fragments.proofs.UnresolvableLemmas.{unresolvable_wider}
 use Rattle.cedar_fragments.specs.ActionDeclarations.{fragment_parent, fragment_requests, action_fragment_body}
 use Rattle.cedar_fragments.specs.HeldNames.{held_names}
-use Rattle.cedar_fragments.specs.QualifyFault.{HasToResolveFor, HasToResolveIn, IsParentIn, IsRequestedIn, IsUnresolvable, IsUnresolvableIn}
+use Rattle.cedar_fragments.specs.QualifyFault.{HasToResolveFor, HasToResolveIn, IsParentIn, IsRequestedIn}
 use Rattle.cedar_fragments.specs.declared.namespace.actions.ActionRequests.{ActionRequests}
 use Rattle.cedar_names.specs.ConditionalExpr.{positional_reference}
 use Rattle.cedar_names.specs.Declaration.{action}
 use Rattle.cedar_names.specs.declared.json_schema.conditional_name.ConditionalName.{ConditionalName}
+use Rattle.cedar_fragments.proofs.FragmentLemmas.{exit_holds}
 use Rattle.cedar_fragments.proofs.namespace.qualify_actions.ActionFragment+ConditionalName+ConditionalName.fully_qualify_type_references.Goals as goal
 
 pub returns-in_err-parents-clause-fault : goal.returns-in_err-parents-clause-fault
 returns-in_err-parents-clause-fault c =
     let names = held_names c.args.all_defs.now in
     let body = action (action_fragment_body ConditionalName positional_reference ConditionalName positional_reference c.args.self) in
-    let at_fault : IsUnresolvableIn names body (fault_of c.in_err-parents.field-0.0) =
-    unresolvable_wider names (λ reference. ⊥) (HasToResolveIn body)
+    exit_holds _ _ _ c.from_residual.ensures.1
+    (unresolvable_wider names (λ reference. ⊥) (HasToResolveIn body)
     (Contains (map (fragment_parent ConditionalName positional_reference) c.args.self.parents.items)) (IsParentIn body) (λ reference. ⊥)
     (IsRequestedIn body) (λ reference none. absurd none) (λ parent among. among) (λ reference none. absurd none) _
-    c.in_err-parents.ensures.fault in
-    let p = err_from_is_err_and c.from_residual.result c.from_residual.ensures.1 in
-    rw (p.1, p.2) at_fault
+    c.in_err-parents.ensures.fault)
 
 pub returns-in_err-qualify_requests-in-Some-clause-fault : goal.returns-in_err-qualify_requests-in-Some-clause-fault
 returns-in_err-qualify_requests-in-Some-clause-fault c =
@@ -30,13 +28,8 @@ returns-in_err-qualify_requests-in-Some-clause-fault c =
     let body = action (action_fragment_body ConditionalName positional_reference ConditionalName positional_reference c.args.self) in
     let fault = fault_of (c.in_err-qualify_requests-in-Some).field-0.0 in
     let requests : Option (ActionRequests ConditionalName) = c.args.self.requests in
-    let P : Option (ActionRequests ConditionalName) → Type 0 = λ each.
-    IsUnresolvable names (HasToResolveFor (fragment_requests ConditionalName positional_reference each)) (λ parent. ⊥)
-    (IsPrincipalOrResource (fragment_requests ConditionalName positional_reference each)) fault in
-    let at_fault : IsUnresolvableIn names body fault =
-    unresolvable_wider names (HasToResolveFor (fragment_requests ConditionalName positional_reference requests)) (HasToResolveIn body)
+    exit_holds _ _ _ (c.from_residual-in_err-qualify_requests-in-Some).ensures.1
+    (unresolvable_wider names (HasToResolveFor (fragment_requests ConditionalName positional_reference requests)) (HasToResolveIn body)
     (λ parent. ⊥) (IsParentIn body) (IsPrincipalOrResource (fragment_requests ConditionalName positional_reference requests)) (IsRequestedIn body)
     (λ reference has_to. has_to) (λ parent none. absurd none) (λ reference place. place) fault
-    (subst P (sym c.in-Some.is) (c.in_err-qualify_requests-in-Some).ensures.fault) in
-    let p = err_from_is_err_and (c.from_residual-in_err-qualify_requests-in-Some).result (c.from_residual-in_err-qualify_requests-in-Some).ensures.1 in
-    rw (p.1, p.2) at_fault
+    (rw c.in-Some.is (c.in_err-qualify_requests-in-Some).ensures.fault))

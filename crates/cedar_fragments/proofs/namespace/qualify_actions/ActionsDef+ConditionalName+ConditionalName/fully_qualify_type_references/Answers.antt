@@ -1,12 +1,10 @@
 use Rattle.std.proofs.Common.{◌∷◌, ap, arith}
 use Rattle.std.proofs.lemmas.List.{nil_from_length}
-use Rattle.std.proofs.lemmas.Result.{err_from_is_err_and}
 use Rattle.std.specs.List.{flat_map}
 use Rattle.cedar_below.specs.EntityUID.{uid_loc, uid_of, uid_type_loc}
 use Rattle.cedar_below.specs.declared.entity_type.EntityType.{EntityType}
 use Rattle.cedar_below.specs.declared.internal_name.InternalName.{InternalName}
 use Rattle.cedar_declarations.proofs.OccurrenceLemmas.{Contains-image}
-use Rattle.cedar_declarations.specs.SchemaError.{fault_of}
 use Rattle.cedar_declarations.specs.ResolvedExpr.{resolved_reference}
 use Rattle.cedar_fragments.proofs.Pairwise.{turn_none, turn_more, turn_all, turn_next}
 use Rattle.cedar_fragments.proofs.OneMore.{flat_one_more}
@@ -16,29 +14,30 @@ use Rattle.cedar_fragments.specs.ActionDeclarations.{action_fragment_body, actio
 use Rattle.cedar_fragments.specs.FragmentDeclarations.{resolved_action_type}
 use Rattle.cedar_fragments.specs.FragmentLocs.{action_def_locs, no_locs}
 use Rattle.cedar_fragments.specs.HeldNames.{held_names}
-use Rattle.cedar_fragments.specs.QualifyFault.{IsUnresolvableBag}
 use Rattle.cedar_names.specs.ConditionalExpr.{positional_reference}
 use Rattle.cedar_names.specs.Declaration.{action}
 use Rattle.cedar_names.specs.declared.json_schema.conditional_name.ConditionalName.{ConditionalName}
+use Rattle.cedar_fragments.proofs.FragmentLemmas.{exit_holds}
 use Rattle.cedar_fragments.proofs.namespace.qualify_actions.ActionsDef+ConditionalName+ConditionalName.fully_qualify_type_references.Goals as goal
 
+-- at first no action is resolved
 pub loop-def-init : goal.loop-def-init
 loop-def-init c = (
   turn_none _ _ _ _ _ _ c.into_iter-def-iterator.ensures.into_iter_gives.0 c.new-defs.ensures.items,
   ap (flat_map (action_def_locs InternalName no_locs EntityType no_locs)) c.new-defs.ensures.items,
 )
 
+-- the fault of an action is one of all
 pub returns-in_err-fragment-clause-fault : goal.returns-in_err-fragment-clause-fault
 returns-in_err-fragment-clause-fault c =
     let names = held_names c.args.all_defs.now in
     let bag = action_fragment_declarations ConditionalName positional_reference ConditionalName positional_reference c.args.self in
     let among = Contains-image _ c.args.self.defs.items c.in-Some.def
     (turn_next _ _ _ _ _ _ _ c.in-Some.def c.in-Some.ensures.steps.0 c.loop-def.invariant.0) in
-    let at_fault : IsUnresolvableBag names bag (fault_of c.in_err-fragment.field-0.0) =
-    unresolvable_declaration names bag _ among _ c.in_err-fragment.ensures.fault in
-    let p = err_from_is_err_and c.from_residual.result c.from_residual.ensures.1 in
-    rw (p.1, p.2) at_fault
+    exit_holds _ _ _ c.from_residual.ensures.1
+    (unresolvable_declaration names bag _ among _ c.in_err-fragment.ensures.fault)
 
+-- one more action is resolved and keeps its locations
 pub loop-def-preserved : goal.loop-def-preserved
 loop-def-preserved c =
     let uid = c.in-Some.def.uid in (
@@ -54,11 +53,13 @@ loop-def-preserved c =
           (ap (λ locs. uid_loc uid ∷ uid_type_loc uid ∷ locs) c.in_ok-fragment.ensures.locs),
     )
 
+-- at the end all actions are resolved
 pub returns-clause-resolved : goal.returns-clause-resolved
 returns-clause-resolved c =
     (resolved_turn (held_names c.args.all_defs.now) _ _
     (turn_all _ _ _ _ _ _ (nil_from_length _ (omega (arith, c.in-None.ensures.steps.0, c.loop-def.def-iterator.rest.ok.0))) c.loop-def.invariant.0)).0
 
+-- and refer to nothing that is reserved
 pub returns-clause-unreserved : goal.returns-clause-unreserved
 returns-clause-unreserved c =
     (resolved_turn (held_names c.args.all_defs.now) _ _

@@ -3,9 +3,9 @@ use Rattle.std.proofs.lemmas.Result.{err_from_is_err_and}
 use Rattle.cedar_below.specs.declared.entity_type.EntityType.{EntityType}
 use Rattle.cedar_below.specs.declared.internal_name.InternalName.{InternalName}
 use Rattle.cedar_declarations.specs.Bag.{Bag}
-use Rattle.cedar_declarations.specs.SchemaError.{fault_of, qualify_fault}
+use Rattle.cedar_declarations.specs.SchemaError.{qualify_fault}
 use Rattle.cedar_declarations.specs.ResolvedExpr.{resolved_reference}
-use Rattle.cedar_fragments.proofs.FragmentLemmas.{first_included, second_included, third_included}
+use Rattle.cedar_fragments.proofs.FragmentLemmas.{first_included, second_included, third_included, exit_holds}
 use Rattle.cedar_fragments.proofs.ResolvedBags.{ResolvesUnreservedBag, unresolvable_included, refused_included, resolved_append, none_requested}
 use Rattle.cedar_fragments.specs.ActionDeclarations.{action_fragment_declarations}
 use Rattle.cedar_fragments.specs.FragmentDeclarations.{conditional_definition, resolved_definition, resolved_action_type}
@@ -49,11 +49,9 @@ returns-in_err-entity_types-clause-fault c =
 pub returns-in_err-actions-clause-fault : goal.returns-in_err-actions-clause-fault
 returns-in_err-actions-clause-fault c =
     let it = c.args.self in
-    let at_fault : IsUnresolvableBag (held_names c.args.all_defs.now) (conditional_definition it) (fault_of c.in_err-actions.field-0.0) =
-    unresolvable_included (held_names c.args.all_defs.now) (actions it) (conditional_definition it)
-    (third_included (common it) (entities it) (actions it)) _ c.in_err-actions.ensures.fault in
-    let p = err_from_is_err_and c.from_residual-in_err-actions.result c.from_residual-in_err-actions.ensures.1 in
-    rw (p.1, p.2) at_fault
+    exit_holds _ _ _ c.from_residual-in_err-actions.ensures.1
+    (unresolvable_included (held_names c.args.all_defs.now) (actions it) (conditional_definition it)
+    (third_included (common it) (entities it) (actions it)) _ c.in_err-actions.ensures.fault)
 
 -- the parts that are resolved, together
 whole : (c : goal.In_ok-actions) → ResolvesUnreservedBag (held_names c.args.all_defs.now) (conditional_definition c.args.self)

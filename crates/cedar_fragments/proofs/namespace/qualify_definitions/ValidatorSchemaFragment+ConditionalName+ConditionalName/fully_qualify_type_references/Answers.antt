@@ -1,12 +1,10 @@
 use Rattle.std.proofs.Common.{ap, arith, map}
 use Rattle.std.proofs.lemmas.List.{nil_from_length}
-use Rattle.std.proofs.lemmas.Result.{err_from_is_err_and}
 use Rattle.cedar_below.specs.declared.entity_type.EntityType.{EntityType}
 use Rattle.cedar_below.specs.declared.internal_name.InternalName.{InternalName}
 use Rattle.cedar_below.proofs.TurnLemmas.{turn_weaker}
-use Rattle.cedar_declarations.specs.SchemaError.{fault_of}
 use Rattle.cedar_declarations.specs.Resolved.{ResolvesBag}
-use Rattle.cedar_fragments.proofs.FragmentLemmas.{flat_map-included}
+use Rattle.cedar_fragments.proofs.FragmentLemmas.{flat_map-included, exit_holds}
 use Rattle.cedar_fragments.proofs.Pairwise.{turn_none, turn_more, turn_all, turn_next}
 use Rattle.cedar_fragments.proofs.OneMore.{one_more}
 use Rattle.cedar_fragments.proofs.ResolvedBags.{ResolvesUnreservedBag, resolved_together, unresolvable_included}
@@ -14,10 +12,10 @@ use Rattle.cedar_fragments.specs.DefinitionsPairwise.{conditional_pairwise, loca
 use Rattle.cedar_fragments.specs.FragmentDeclarations.{conditional_definition, resolved_definition, conditional_fragment}
 use Rattle.cedar_fragments.specs.FragmentLocs.{definition_locs, no_locs}
 use Rattle.cedar_fragments.specs.HeldNames.{held_names}
-use Rattle.cedar_fragments.specs.QualifyFault.{IsUnresolvableBag}
 use Rattle.cedar_names.specs.declared.json_schema.conditional_name.ConditionalName.{ConditionalName}
 use Rattle.cedar_fragments.proofs.namespace.qualify_definitions.ValidatorSchemaFragment+ConditionalName+ConditionalName.fully_qualify_type_references.Goals as goal
 
+-- at first no definition is resolved
 pub loop-definition-init : goal.loop-definition-init
 loop-definition-init c = (
   turn_none _ _ _ _ _ _ c.into_iter-definition-iterator.ensures.into_iter_gives.0 c.new-definitions.ensures.items,
@@ -25,17 +23,17 @@ loop-definition-init c = (
   ap (map (definition_locs InternalName no_locs EntityType no_locs)) c.new-definitions.ensures.items,
 )
 
+-- the fault of a definition is one of the fragment
 pub returns-in_err-fully_qualify_type_references-clause-fault : goal.returns-in_err-fully_qualify_type_references-clause-fault
 returns-in_err-fully_qualify_type_references-clause-fault c =
     let names = held_names c.args.all_defs.now in
     let items = c.args.self.definitions.items in
     let among = turn_next _ _ _ _ _ _ _ c.in-Some.definition c.in-Some.ensures.steps.0 c.loop-definition.invariant.0 in
-    let at_fault : IsUnresolvableBag names (conditional_fragment c.args.self) (fault_of c.in_err-fully_qualify_type_references.field-0.0) =
-    unresolvable_included names (conditional_definition c.in-Some.definition) (conditional_fragment c.args.self)
-    (flat_map-included conditional_definition items c.in-Some.definition among) _ c.in_err-fully_qualify_type_references.ensures.fault in
-    let p = err_from_is_err_and c.from_residual.result c.from_residual.ensures.1 in
-    rw (p.1, p.2) at_fault
+    exit_holds _ _ _ c.from_residual.ensures.1
+    (unresolvable_included names (conditional_definition c.in-Some.definition) (conditional_fragment c.args.self)
+    (flat_map-included conditional_definition items c.in-Some.definition among) _ c.in_err-fully_qualify_type_references.ensures.fault)
 
+-- one more definition is resolved and keeps its name and locations
 pub loop-definition-preserved : goal.loop-definition-preserved
 loop-definition-preserved c =
     let qualified = c.in_ok-fully_qualify_type_references in (
@@ -49,6 +47,7 @@ loop-definition-preserved c =
           c.in_ok-push.ensures.items c.loop-definition.invariant.2 qualified.ensures.locs,
     )
 
+-- at the end all definitions are resolved
 pub returns-clause-resolved : goal.returns-clause-resolved
 returns-clause-resolved c =
     (resolved_together (held_names c.args.all_defs.now) conditional_definition resolved_definition c.args.self.definitions.items
@@ -56,6 +55,7 @@ returns-clause-resolved c =
     (turn_all _ _ _ _ _ _ (nil_from_length _ (omega (arith, c.in-None.ensures.steps.0, c.loop-definition.definition-iterator.rest.ok.0)))
     c.loop-definition.invariant.0)).0
 
+-- also definition by definition
 pub returns-clause-pairwise : goal.returns-clause-pairwise
 returns-clause-pairwise c =
     let names = held_names c.args.all_defs.now in
@@ -64,6 +64,7 @@ returns-clause-pairwise c =
     (turn_all _ _ _ _ _ _ (nil_from_length _ (omega (arith, c.in-None.ensures.steps.0, c.loop-definition.definition-iterator.rest.ok.0)))
     c.loop-definition.invariant.0)
 
+-- and refer to nothing that is reserved
 pub returns-clause-unreserved : goal.returns-clause-unreserved
 returns-clause-unreserved c =
     (resolved_together (held_names c.args.all_defs.now) conditional_definition resolved_definition c.args.self.definitions.items

@@ -1,6 +1,5 @@
 use Rattle.std.proofs.Common.{◌∷◌, ap, arith}
 use Rattle.std.proofs.lemmas.List.{nil_from_length}
-use Rattle.std.proofs.lemmas.Result.{err_from_is_err_and}
 use Rattle.std.specs.List.{flat_map}
 use Rattle.cedar_below.specs.EntityType.{type_loc, type_name}
 use Rattle.cedar_below.specs.declared.internal_name.InternalName.{InternalName}
@@ -14,19 +13,21 @@ use Rattle.cedar_fragments.proofs.UnresolvableLemmas.{to_resolve, resolves_decla
 use Rattle.cedar_fragments.specs.FragmentLocs.{entity_type_locs, no_locs}
 use Rattle.cedar_fragments.specs.HeldNames.{held_names}
 use Rattle.cedar_fragments.specs.QualifyFault.{HasToResolveIn}
-use Rattle.cedar_fragments.specs.Refused.{IsRefusedAmong}
 use Rattle.cedar_fragments.specs.TypeDeclarations.{fragment_body, entity_type_declarations}
 use Rattle.cedar_names.specs.ConditionalExpr.{positional_reference}
 use Rattle.cedar_names.specs.Declaration.{entity_type}
 use Rattle.cedar_names.specs.declared.json_schema.conditional_name.ConditionalName.{ConditionalName}
+use Rattle.cedar_fragments.proofs.FragmentLemmas.{exit_holds}
 use Rattle.cedar_fragments.proofs.namespace.qualify_entities.EntityTypesDef+ConditionalName.fully_qualify_type_references.Goals as goal
 
+-- at first no entity type is resolved
 pub loop-def-init : goal.loop-def-init
 loop-def-init c = (
   turn_none _ _ _ _ _ _ c.into_iter-def-iterator.ensures.into_iter_gives.0 c.new-defs.ensures.items,
   ap (flat_map (entity_type_locs InternalName no_locs)) c.new-defs.ensures.items,
 )
 
+-- references that one of them refuses are among those of all
 pub returns-in_err-fragment-clause-refused : goal.returns-in_err-fragment-clause-refused
 returns-in_err-fragment-clause-refused c =
     let names = held_names c.args.all_defs.now in
@@ -34,11 +35,10 @@ returns-in_err-fragment-clause-refused c =
     let body = entity_type (fragment_body ConditionalName positional_reference c.in-Some.def.fragment) in
     let among = Contains-image _ c.args.self.defs.items c.in-Some.def
     (turn_next _ _ _ _ _ _ _ c.in-Some.def c.in-Some.ensures.steps.0 c.loop-def.invariant.0) in
-    let refused : IsRefusedAmong names (HasToResolve bag) c.in_err-fragment.field-0.0 =
-    refused_wider names (HasToResolveIn body) (HasToResolve bag) (to_resolve bag _ among) _ c.in_err-fragment.ensures.refused in
-    let p = err_from_is_err_and c.from_residual.result c.from_residual.ensures.1 in
-    rw (p.1, p.2) refused
+    exit_holds _ _ _ c.from_residual.ensures.1
+    (refused_wider names (HasToResolveIn body) (HasToResolve bag) (to_resolve bag _ among) _ c.in_err-fragment.ensures.refused)
 
+-- one more entity type is resolved and keeps its locations
 pub loop-def-preserved : goal.loop-def-preserved
 loop-def-preserved c = (
   turn_more _ _ _ _ _ _ _ _ c.in-Some.def _ c.in-Some.ensures.steps.0 c.in_ok-push.ensures.items
@@ -51,6 +51,7 @@ loop-def-preserved c = (
       (ap (λ locs. type_loc c.in-Some.def.name ∷ locs) c.in_ok-fragment.ensures.locs),
 )
 
+-- at the end all are
 pub returns-clause-resolved : goal.returns-clause-resolved
 returns-clause-resolved c =
     turn_all _ _ _ _ _ _ (nil_from_length _ (omega (arith, c.in-None.ensures.steps.0, c.loop-def.def-iterator.rest.ok.0))) c.loop-def.invariant.0
