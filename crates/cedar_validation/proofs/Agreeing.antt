@@ -1,5 +1,5 @@
 -- A schema, and the same with its descendants closed: the faults of the one are those of the other.
-use Rattle.std.proofs.Common.{◌≡◌, ◌↔◌, ◌∙◌, List, map, inl, inr, ⊎_elim, subst, sym, Contains}
+use Rattle.std.proofs.Common.{◌≡◌, ◌↔◌, ◌∙◌, List, map, inl, inr, subst, sym, Contains}
 use Rattle.cedar_below.proofs.Chains.{first_step, last_step, refined}
 use Rattle.cedar_below.proofs.Lists.{Contains-preimage}
 use Rattle.cedar_below.specs.Chain.{Chain, one}
@@ -52,8 +52,7 @@ module _ {P Q T : Type 0} {shape : Shape P Q T} {items others : List (P × Q)} (
   has name there =
       let it = Contains-preimage (λ (each : P × Q). each.0) items name there in
       let other = found.at it.0 it.1 in
-      let S : P → Type 0 = Contains (map (λ (each : P × Q). each.0) others) in
-      subst S (sym other.2 ∙ it.2) (Contains-image (λ (each : P × Q). each.0) others other.0 other.1)
+      rw (sym other.2 ∙ it.2) at (Contains-image (λ (each : P × Q). each.0) others other.0 other.1)
 
   -- what is of a kind is so among the others
   with_kind : (S : T → Type 0) (it : P × Q) → Contains items it → S (shape.kind it.1)
@@ -65,8 +64,7 @@ module _ {P Q T : Type 0} {shape : Shape P Q T} {items others : List (P × Q)} (
       → (it : Q) × Contains others (name, it) × S (shape.kind it)
   of_kind S name of =
       let other = found.at (name, of.0) of.1 in
-      let C : P → Type 0 = λ each. Contains others (each, other.0.1) in
-      (other.0.1, subst C (sym other.2) other.1, subst S other.3 of.2)
+      (other.0.1, rw (sym other.2) at other.1, subst S other.3 of.2)
 
 module _ (extensions : Extensions) (schema other : PlainSchema) (types : Agrees type_shape schema.entity_types other.entity_types)
     (actions : Agrees action_shape schema.actions other.actions) where
@@ -146,8 +144,7 @@ module _ {P Q T : Type 0} (shape : Shape P Q T) (items closed : List (P × Q)) (
   pub listed_chain : (lower upper : P) → Lists shape closed lower upper → Chain (Lists shape items) lower upper
   listed_chain lower upper lists =
       let it = pairwise_back (Closes shape items) items closed are (upper, lists.0) lists.1 in
-      let S : P → Type 0 = Chain (Lists shape items) lower in
-      subst S it.2.key ((it.2.descendants lower).0 lists.2)
+      rw it.2.key at ((it.2.descendants lower).0 lists.2)
 
   -- each item is found among the closed ones
   found : Found shape items closed
@@ -176,11 +173,10 @@ module _ {P Q T : Type 0} (shape : Shape P Q T) (items closed : List (P × Q)) (
   pub leads_back : (key other : P) (names : List P) → key ≡ other
       → ((lower : P) → Contains names lower ↔ Chain (Lists shape closed) lower other)
       → (lower : P) → Contains names lower ↔ Chain (Lists shape items) lower key
-  leads_back key other names same leads lower =
-      let S : P → Type 0 = Chain (Lists shape items) lower in (
-        λ among. subst S (sym same) (refined listed_chain ((leads lower).0 among)),
-        λ chain. (leads lower).1 (one (chain_listed lower other (subst S same chain))),
-      )
+  leads_back key other names same leads lower = (
+    λ among. rw (sym same) at (refined listed_chain ((leads lower).0 among)),
+    λ chain. (leads lower).1 (one (chain_listed lower other (rw same at chain))),
+  )
 
 module _ (extensions : Extensions) (schema closed : PlainSchema)
     (types : HoldsPairwise (ClosesType schema) schema.entity_types closed.entity_types)

@@ -1,5 +1,5 @@
 -- What is made sure of the items of a list, one after another.
-use Rattle.std.proofs.Common.{◌≡◌, ◌⊎◌, List, [], ◌∷◌, refl, inl, inr, ⊎_elim, subst, sym, arith, Contains}
+use Rattle.std.proofs.Common.{◌≡◌, ◌⊎◌, List, [], ◌∷◌, refl, inl, inr, subst, sym, arith, Contains}
 use Rattle.cedar_below.proofs.Lists.{Contains-cons, Contains-cons_cases}
 
 -- of each item it is made sure, but of those that are left, which are items too
@@ -35,5 +35,4 @@ module _ {A : Type 0} (P : A → Type 0) (all : List A) where
   -- where none is left, it is made sure of each
   pub checking_all : (left : List A) → left ≡ [] → Checking P all left → (x : A) → Contains all x → P x
   checking_all left nothing so_far x there =
-      let Q : List A → Type 0 = λ items. Contains items x in
-      elim (so_far.checked x there) [ inl sound ↦ sound | inr still ↦ let none : Contains [] x = subst Q nothing still in absurd (omega (arith, none.1)) ]
+      elim (so_far.checked x there) [ inl sound ↦ sound | inr still ↦ let none : Contains [] x = rw nothing at still in absurd (omega (arith, none.1)) ]

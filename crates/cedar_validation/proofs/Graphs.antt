@@ -93,8 +93,7 @@ module _ {K V P S : Type 0} (graph : Graph K V P) (entries : List (K × V)) (sor
   lists_of upper lower has =
       let node = some_with (hash.get graph.eq before upper) (λ it. IsTrue (graph.has_edge it lower)) has in
       let entry = entry_before upper node.0 node.1 in
-      let T : V → Type 0 = λ it. Contains (graph.below it) (graph.under lower) in
-      (entry.0, entry.1, entry.2, subst T (sym entry.3) ((graph.edge node.0 lower).0 node.2))
+      (entry.0, entry.1, entry.2, rw (sym entry.3) at ((graph.edge node.0 lower).0 node.2))
 
   -- and the other way round
   edge_of : (upper lower : K) → Lists (graph.under lower) (graph.under upper)
@@ -121,9 +120,8 @@ module _ {K V P S : Type 0} (graph : Graph K V P) (entries : List (K × V)) (sor
       one (edge_of upper lower (subst U (sym is_lower) (subst (T p) (sym is_upper) step)))
   keys_chain {p = p} (more {b = middle} step rest) lower upper is_lower is_upper =
       let T : P → P → Type 0 = Lists in
-      let U : P → Type 0 = λ it. T it (graph.under step.0.0) in
       joined (keys_chain rest step.0.0 upper step.2 is_upper)
-      (one (edge_of step.0.0 lower (subst U (sym is_lower) (subst (T p) (sym step.2) step))))
+      (one (edge_of step.0.0 lower (rw (sym is_lower) at (subst (T p) (sym step.2) step))))
 
   -- where no key is on a cycle, no name is
   pub none_on_cycle : ((key : K) → ¬ Reaches graph.eq graph.has_edge before key key) → (name : P) → ¬ Chain Lists name name
@@ -162,27 +160,21 @@ module _ {K V P S : Type 0} (graph : Graph K V P) (entries : List (K × V)) (sor
         let first = found_before entry among in
         let second : hash.get graph.eq after entry.0 ≡ Some other.1 =
         get_alike graph.laws after entry.0 other.0 ((graph.same entry.0 other.0).1 is) ∙ found_after other also in
-        let T : Option V → Type 0 = λ o. AreAlike graph.is_alike o (hash.get graph.eq after entry.0) in
-        let U : Option V → Type 0 = λ o. AreAlike graph.is_alike (Some entry.1) o in
         let W : Option V → K → Type 0 = λ o key. IsSomeAnd o (λ it. IsTrue (graph.has_edge it key)) in
         record {
           key = is;
-          alike = subst U second (subst T first (alike entry.0));
+          alike = rw second at (rw first at (alike entry.0));
           below_it = λ lower. (
             λ listed.
                 let key = graph.key_below other.1 lower listed in
                 let X : P → Type 0 = Contains (graph.below other.1) in
-                let Y : P → Type 0 = λ it. Chain Lists it (graph.under entry.0) in
                 let Z : Option V → Type 0 = λ o. W o key.0 in
-                subst Y key.1
-                (names_chain (sound entry.0 key.0 (subst Z (sym second) ((graph.edge other.1 key.0).1 (subst X (sym key.1) listed))))),
+                rw key.1 at (names_chain (sound entry.0 key.0 (subst Z (sym second) ((graph.edge other.1 key.0).1 (subst X (sym key.1) listed))))),
             λ chain.
                 let first_one = first_step Lists lower (graph.under entry.0) chain in
                 let key = graph.key_below first_one.1.0.1 lower first_one.1.3 in
-                let X : P → Type 0 = Contains (graph.below other.1) in
-                let Z : Option V → Type 0 = λ o. W o key.0 in
                 let has = complete entry.0 key.0 (keys_chain chain key.0 entry.0 key.1 refl) in
-                subst X key.1 ((graph.edge other.1 key.0).0 (subst Z second has)),
+                rw key.1 at ((graph.edge other.1 key.0).0 (rw second at has)),
           );
         }
 
@@ -216,9 +208,7 @@ module _ {K V P S : Type 0} (graph : Graph K V P) (entries : List (K × V)) (sor
             let key = Contains-preimage graph.under (keys_of items) name among in
             let it = Contains-preimage (λ (e : K × V). e.0) items key.0 key.1 in
             let other = each it.0 it.1 in
-            let T : P → Type 0 = Contains (map graph.under (keys_of others)) in
-            subst T (other.2 ∙ (ap graph.under it.2 ∙ key.2))
-            (Contains-image graph.under (keys_of others) other.0.0 (Contains-image (λ (e : K × V). e.0) others other.0 other.1))
+            rw (other.2 ∙ (ap graph.under it.2 ∙ key.2)) at (Contains-image graph.under (keys_of others) other.0.0 (Contains-image (λ (e : K × V). e.0) others other.0 other.1))
 
     -- each entry has its closed one in turn
     pub closed_in_turn : HoldsPairwise (IsClosedOf graph.under graph.below graph.is_alike entries) entries closed.entries

@@ -1,5 +1,5 @@
 -- Entity types one below the other, as they stand in a map that is in order.
-use Rattle.std.proofs.Common.{◌≡◌, ◌⊎◌, List, [], ◌∷◌, ap, inl, inr, map, subst, sym, ◌∙◌, ⊎_elim, Contains}
+use Rattle.std.proofs.Common.{◌≡◌, ◌⊎◌, List, [], ◌∷◌, ap, inl, inr, subst, sym, ◌∙◌, Contains}
 use Rattle.std.proofs.lemmas.Cmp.{eq_by_cmp_equiv}
 use Rattle.std.proofs.lemmas.Map.Keys.{IsDistinct-from_sorted}
 use Rattle.std.proofs.lemmas.Map.Views.{lookup-from_Contains}
@@ -44,19 +44,17 @@ module _ (parts : Parts) where
       → type_name entry.0 ≡ name → P (entity_type_of entry.1).kind → IsOfKind (plain_parts parts) name P
   kind_there P entry name among same is =
       let it = (plain_entry entry).1 in
-      let Q : PlainName → Type 0 = λ each. Contains (map plain_entry parts.entity_types.entries) (each, it) in
-      (it, subst Q same (Contains-image plain_entry parts.entity_types.entries entry among), is)
+      (it, rw same at (Contains-image plain_entry parts.entity_types.entries entry among), is)
 
   -- and the other way round
   kind_here : (P : EntityTypeKind → Type 0) (name : PlainName) → IsOfKind (plain_parts parts) name P
       → (entry : Item) × Contains parts.entity_types.entries entry × (type_name entry.0 ≡ name) × P (entity_type_of entry.1).kind
   kind_here P name of =
-      let entry = Contains-preimage plain_entry parts.entity_types.entries (name, of.0) of.1 in
-      let Q : SchemaEntityType → Type 0 = λ it. P it.kind in (
+      let entry = Contains-preimage plain_entry parts.entity_types.entries (name, of.0) of.1 in (
         entry.0,
         entry.1,
         ap (λ (it : PlainName × SchemaEntityType). it.0) entry.2,
-        subst Q (sym (ap (λ (it : PlainName × SchemaEntityType). it.1) entry.2)) of.2,
+        rw (sym (ap (λ (it : PlainName × SchemaEntityType). it.1) entry.2)) at of.2,
       )
 
   -- an entry lists its descendants
@@ -83,8 +81,7 @@ module _ (parts : Parts) where
     pair_sound each lower upper lists =
         let types = parts.entity_types.entries in
         let entry = Contains-preimage plain_entry types (upper, lists.0) lists.1 in
-        let Q : SchemaEntityType → Type 0 = λ it. Contains it.descendants lower in
-        let below = subst Q (sym (ap (λ (it : PlainName × SchemaEntityType). it.1) entry.2)) lists.2 in
+        let below = rw (sym (ap (λ (it : PlainName × SchemaEntityType). it.1) entry.2)) at lists.2 in
         let named : type_name entry.0.0 ≡ upper = ap (λ (it : PlainName × SchemaEntityType). it.0) entry.2 in
         let key = Contains-named entry.0.1.descendants.keys lower below in
         let checked = each entry.0 entry.1 in
@@ -99,8 +96,7 @@ module _ (parts : Parts) where
               let first = stands_at entry.0 entry.0.0 entry.1 (λ i. type_name entry.0.0) in
               let second = stands_at over.0 entry.0.0 over.1 (over.2 ∙ sym named) in
               let same : over.0.1 ≡ entry.0.1 = cc in
-              let R : ValidatorEntityType → Type 0 = λ node. IsEnumerated (entity_type_of node).kind in
-              (checked.1 key.0 it.0.1 key.1 (stands_at it.0 key.0 it.1 (it.2 ∙ sym key.2))).not_external (subst R same over.3) it.3;
+              (checked.1 key.0 it.0.1 key.1 (stands_at it.0 key.0 it.1 (it.2 ∙ sym key.2))).not_external (rw same at over.3) it.3;
         }
 
   module _ (entry : Item) (among : Contains parts.entity_types.entries entry) (fault : Fault) where

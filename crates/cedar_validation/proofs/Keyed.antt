@@ -1,5 +1,5 @@
 -- Entries of maps in order, against what their keys stand for.
-use Rattle.std.proofs.Common.{◌≡◌, ◌↔◌, IsTrue, List, [], ◌∷◌, Some, is_some, map, sym, subst, ◌∙◌, refl, Contains}
+use Rattle.std.proofs.Common.{◌≡◌, ◌↔◌, IsTrue, List, [], ◌∷◌, Some, is_some, map, sym, ◌∙◌, refl, Contains}
 use Rattle.std.proofs.lemmas.Map.Entries.{place_from_lookup}
 use Rattle.std.proofs.lemmas.Map.Made.{is_some-lookup}
 use Rattle.std.proofs.lemmas.Option.{get_or_from_slice_get, slice_get_within}
@@ -34,15 +34,13 @@ module _ {K V P Q : Type 0} (f : K → P) (plain : K × V → P × Q) (keyed : (
   -- a key stands for one of the names
   pub key_has : (es : List (K × V)) (key : K) → Contains (keys_of es) key → Contains (map (λ (it : P × Q). it.0) (map plain es)) (f key)
   key_has es key among =
-      let R : List P → Type 0 = λ names. Contains names (f key) in
-      subst R (sym (names_of_keys es)) (Contains-image f (keys_of es) key among)
+      rw (sym (names_of_keys es)) at (Contains-image f (keys_of es) key among)
 
   -- one of the names is what a key stands for
   pub has_key : (es : List (K × V)) (name : P) → Contains (map (λ (it : P × Q). it.0) (map plain es)) name
       → (key : K) × Contains (keys_of es) key × (f key ≡ name)
   has_key es name among =
-      let R : List P → Type 0 = λ names. Contains names name in
-      Contains-preimage f (keys_of es) name (subst R (names_of_keys es) among)
+      Contains-preimage f (keys_of es) name (rw (names_of_keys es) at among)
 
   module _ (cmp : K → K → Ordering) (ties : (a b : K) → (cmp a b ≡ Equal) ↔ (f a ≡ f b)) (key : K) where
     -- keys tie where they have one name
@@ -55,10 +53,9 @@ module _ {K V P Q : Type 0} (f : K → P) (plain : K × V → P × Q) (keyed : (
     -- something is found exactly where the name is one of them
     pub stands : (es : List (K × V)) → IsTrue (is_some (lookup (is_at (cmp key)) es)) ↔ Contains (map (λ (it : P × Q). it.0) (map plain es)) (f key)
     stands es =
-        let any = list_any-Contains f (f key) (is_at (cmp key)) decides (keys_of es) in
-        let R : List P → Type 0 = λ names. Contains names (f key) in (
-          λ there. subst R (sym (names_of_keys es)) (any.0 (sym (is_some-lookup (is_at (cmp key)) es) ∙ there)),
-          λ among. is_some-lookup (is_at (cmp key)) es ∙ any.1 (subst R (names_of_keys es) among),
+        let any = list_any-Contains f (f key) (is_at (cmp key)) decides (keys_of es) in (
+          λ there. rw (sym (names_of_keys es)) at (any.0 (sym (is_some-lookup (is_at (cmp key)) es) ∙ there)),
+          λ among. is_some-lookup (is_at (cmp key)) es ∙ any.1 (rw (names_of_keys es) at among),
         )
 
     -- what is found is an entry of the name

@@ -1,5 +1,5 @@
 -- What entries of a map list, and what they list as plain data.
-use Rattle.std.proofs.Common.{◌≡◌, ◌↔◌, List, map, ap, sym, subst, ◌∙◌, Contains}
+use Rattle.std.proofs.Common.{◌≡◌, ◌↔◌, List, map, ap, sym, ◌∙◌, Contains}
 use Rattle.cedar_below.proofs.Chains.{refined}
 use Rattle.cedar_below.proofs.Lists.{Contains-preimage}
 use Rattle.cedar_below.specs.Chain.{Chain, one}
@@ -19,20 +19,16 @@ module _ {K V P Q : Type 0} (under : K → P) (below : V → List P) (plain : K 
   there : (lower upper : P) → ListsIn under below entries lower upper → Lists lower upper
   there lower upper step =
       let it = (plain step.0).1 in
-      let A : P → Type 0 = λ name. Contains (map plain entries) (name, it) in
-      let B : List P → Type 0 = λ names. Contains names lower in
-      (it, subst A (keyed step.0 ∙ step.2) (Contains-image plain entries step.0 step.1), subst B (sym (lists step.0)) step.3)
+      (it, rw (keyed step.0 ∙ step.2) at (Contains-image plain entries step.0 step.1), rw (sym (lists step.0)) at step.3)
 
   -- and the other way round
   here : (lower upper : P) → Lists lower upper → ListsIn under below entries lower upper
   here lower upper step =
-      let entry = Contains-preimage plain entries (upper, step.0) step.1 in
-      let A : Q → Type 0 = λ it. Contains (listed it) lower in
-      let B : List P → Type 0 = λ names. Contains names lower in (
+      let entry = Contains-preimage plain entries (upper, step.0) step.1 in (
         entry.0,
         entry.1,
         sym (keyed entry.0) ∙ ap (λ (it : P × Q). it.0) entry.2,
-        subst B (lists entry.0) (subst A (sym (ap (λ (it : P × Q). it.1) entry.2)) step.2),
+        rw (lists entry.0) at (rw (sym (ap (λ (it : P × Q). it.1) entry.2)) at step.2),
       )
 
   -- so chains of both lead to the same names

@@ -1,5 +1,5 @@
 -- What types name: known, or why they are refused.
-use Rattle.std.proofs.Common.{◌≡◌, ◌∙◌, ◌⊎◌, Some, refl, inl, inr, ⊎_elim, subst, sym, Contains, List}
+use Rattle.std.proofs.Common.{◌≡◌, ◌∙◌, ◌⊎◌, Some, refl, inl, inr, subst, sym, Contains, List}
 use Rattle.cedar_below.specs.PlainName.{PlainName}
 use Rattle.cedar_declarations.specs.EntityTypeKind.{EntityTypeKind, enumerated_kind, external_kind, kind_fields, kind_tags, standard_kind}
 use Rattle.cedar_declarations.specs.Fault.{Fault, unknown_extension_type, out_of_memory}

@@ -1,5 +1,5 @@
 -- Entries moved from a table to a hashed map.
-use Rattle.std.proofs.Common.{◌≡◌, Bool, Contains, HashMap, List, subst}
+use Rattle.std.proofs.Common.{◌≡◌, Bool, Contains, HashMap, List}
 use Rattle.std.proofs.lemmas.Map.Keys.{IsDistinct-from_sorted}
 use Rattle.std.specs.List.{IsDistinct}
 use Rattle.std.specs.List.Sorted.{IsStrictlySortedBy}
@@ -15,6 +15,5 @@ pub hashed_each : {K V S : Type 0} {eq : K → K → Bool} (cmp : K → K → Or
     → (P : K × V → Type 0) → ((entry : K × V) → Contains nodes entry → P entry)
     → (entry : K × V) → Contains moved.entries entry → P entry
 hashed_each {K = K} {eq = eq} cmp tied nodes ordered moved held P each entry among =
-    let U : (K → K → Bool) → Type 0 = λ test. IsDistinct test (keys_of nodes) in
     let tests : eq_by_cmp cmp ≡ eq = λ i a b. tied a b i in
-    each entry (held (subst U tests (IsDistinct-from_sorted cmp (keys_of nodes) ordered)) entry among)
+    each entry (held (rw tests at (IsDistinct-from_sorted cmp (keys_of nodes) ordered)) entry among)

@@ -1,5 +1,5 @@
 -- Principals, resources and descendants of actions that aren't of the schema.
-use Rattle.std.proofs.Common.{◌⊎◌, [], ◌∷◌, subst, sym, inl, inr, ⊎_elim, arith, Contains}
+use Rattle.std.proofs.Common.{◌⊎◌, [], ◌∷◌, subst, sym, inl, inr, arith, Contains}
 use Rattle.cedar_schema_elements.specs.ActionKind.{kind_principals, kind_resources}
 use Rattle.cedar_below.specs.PlainName.{PlainName}
 use Rattle.cedar_below.specs.PlainUid.{PlainUid}
@@ -16,7 +16,7 @@ pub one_unknown : (extensions : Extensions) (schema : PlainSchema) (name : Plain
     → IsSchemaFault extensions schema (undeclared_entity_types (name ∷ []))
 one_unknown extensions schema name unknown = (
   λ none. cc,
-  λ other among. let P : PlainName → Type 0 = IsUnknownType schema in subst P (Contains-single name other among) unknown,
+  λ other among. rw (Contains-single name other among) at unknown,
 )
 
 -- why an action is refused is why its schema is

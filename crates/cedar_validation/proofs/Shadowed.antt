@@ -1,5 +1,5 @@
 -- Names that nothing without a namespace stands beside.
-use Rattle.std.proofs.Common.{◌≡◌, [], sym, subst, ◌∙◌}
+use Rattle.std.proofs.Common.{◌≡◌, [], sym, ◌∙◌}
 use Rattle.cedar_below.specs.EntityType.{type_name}
 use Rattle.cedar_below.specs.EntityUID.{uid_of}
 use Rattle.cedar_below.specs.PlainName.{IsActionType, PlainName}
@@ -29,16 +29,14 @@ plain_is plain other base path nothing = λ i. record { base = base i; path = (p
 pub no_type_shadows : (parts : Parts) (qualified : EntityType) (short : PlainName) → short.base ≡ (type_name qualified).base
     → short.path ≡ [] → ¬ HasEntityType (plain_parts parts) short → ShadowsNoType parts qualified
 no_type_shadows parts qualified short base path absent = λ plain among shadows.
-    let P : PlainName → Type 0 = HasEntityType (plain_parts parts) in
-    absent (subst P (plain_is plain short (shadows.3 ∙ sym base) shadows.0 path) among)
+    absent (rw (plain_is plain short (shadows.3 ∙ sym base) shadows.0 path) at among)
 
 pub no_action_shadows : (parts : Parts) (qualified : EntityUID) (short : PlainUid)
     → HasAction (plain_parts parts) (uid_of qualified) → short.ty.base ≡ (uid_of qualified).ty.base → short.ty.path ≡ []
     → short.eid ≡ (uid_of qualified).eid → ¬ HasAction (plain_parts parts) short → ShadowsNoAction parts qualified
 no_action_shadows parts qualified short here base path eid absent = λ are plain among shadows.
-    let P : PlainUid → Type 0 = HasAction (plain_parts parts) in
     let same : plain.ty ≡ short.ty =
     plain_is plain.ty short.ty (are plain among ∙ (sym (are (uid_of qualified) here) ∙ sym base)) shadows.0 path in
     let ids : plain.eid ≡ short.eid = shadows.2 ∙ sym eid in
     let whole : plain ≡ short = λ i. record { ty = same i; eid = ids i } in
-    absent (subst P whole among)
+    absent (rw whole at among)

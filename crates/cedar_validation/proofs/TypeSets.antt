@@ -1,5 +1,5 @@
 -- Entity types in sets.
-use Rattle.std.proofs.Common.{◌≡◌, true, cond, List, ◌∷◌, map, sym, subst, ◌∙◌, inl, inr, ⊎_elim, Contains}
+use Rattle.std.proofs.Common.{◌≡◌, true, cond, List, ◌∷◌, map, sym, ◌∙◌, inl, inr, ⊎_elim, Contains}
 use Rattle.std.specs.List.{list_any}
 use Rattle.cedar_below.specs.EntityType.{type_name}
 use Rattle.cedar_below.specs.EntityUID.{uid_of}
@@ -21,7 +21,6 @@ pub types_more : (Has : PlainUid → Type 0) (all left rest : List EntityUID) (o
     → ((q : EntityType) → list_any (same_type q) new ≡ cond (same_type key q) true (list_any (same_type q) old))
     → TypesSoFar Has all (map type_name old) left → TypesSoFar Has all (map type_name new) rest
 types_more Has all left rest old new key uid is named has updates so_far =
-    let P : PlainName → Type 0 = Contains (map type_name new) in
     let kept : Checking (λ each. Contains (map type_name new) (uid_of each).ty) all left = record {
       checked = λ x among. elim (so_far.collected.checked x among) [ inl before ↦ inl (inserted_kept old new key updates (uid_of x).ty before) | inr later ↦ inr later ];
       among = so_far.collected.among;
@@ -33,5 +32,5 @@ types_more Has all left rest old new key uid is named has updates so_far =
           (inserted_cases old new key updates name among);
       collected =
           checking_more (λ each. Contains (map type_name new) (uid_of each).ty) all left rest uid is kept
-          (subst P named (inserted_new old new key updates));
+          (rw named at (inserted_new old new key updates));
     }

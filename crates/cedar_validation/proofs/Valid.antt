@@ -1,5 +1,5 @@
 -- A schema of which all is made sure has no fault.
-use Rattle.std.proofs.Common.{[], ◌∷◌, refl, inl, ⊎_elim, Contains, inr}
+use Rattle.std.proofs.Common.{[], ◌∷◌, refl, inl, Contains, inr}
 use Rattle.cedar_below.proofs.Lists.{Contains-cons}
 use Rattle.cedar_below.specs.PlainName.{PlainName}
 use Rattle.cedar_below.specs.PlainUid.{PlainUid}

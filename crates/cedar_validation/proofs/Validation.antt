@@ -1,5 +1,5 @@
 -- A schema whose parts were closed and checked.
-use Rattle.std.proofs.Common.{◌≡◌, ◌⊎◌, List, [], inl, inr, ⊎_elim, map}
+use Rattle.std.proofs.Common.{◌≡◌, ◌⊎◌, List, [], inl, inr, map}
 use Rattle.cedar_schema_elements.specs.ValidatorActionId.{plain_action_entry}
 use Rattle.cedar_schema_elements.specs.declared.action_id.ValidatorActionId.{ValidatorActionId}
 use Rattle.cedar_below.proofs.Chains.{refined}

@@ -1,5 +1,5 @@
 -- What stands in types, as their attributes are gone through.
-use Rattle.std.proofs.Common.{◌≡◌, ◌⊎◌, ◌≤◌, ◌+◌, ℕ, inl, inr, ⊎_elim, subst, arith}
+use Rattle.std.proofs.Common.{◌≡◌, ◌⊎◌, ◌≤◌, ◌+◌, ℕ, inl, inr, arith}
 use Rattle.cedar_below.specs.PlainName.{PlainName}
 use Rattle.cedar_declarations.specs.TypeMentions.{FieldsMentionEntity, FieldsMentionExtensionType, MentionsEntity, MentionsExtensionType}
 use Rattle.cedar_type_rules.specs.Ty.{Fields, Ty, end, field, record_of, set_of}
@@ -30,7 +30,7 @@ module _ (Known KnownExtension : PlainName → Type 0) (all : Fields) where
   module _ (left rest : Fields) (text : Text) (required : Bool) (ty : Ty) (is : left ≡ field text required ty rest)
       (so_far : Walked Known KnownExtension all left) where
     next : Walked Known KnownExtension all (field text required ty rest)
-    next = let P : Fields → Type 0 = Walked Known KnownExtension all in subst P is so_far
+    next = rw is at so_far
 
     -- what stands in it stands in them all
     pub walked_entity : (name : PlainName) → MentionsEntity ty name → FieldsMentionEntity all name
@@ -53,7 +53,7 @@ module _ (Known KnownExtension : PlainName → Type 0) (all : Fields) where
   -- where none is left, what stands in them is known
   module _ (left : Fields) (nothing : left ≡ end) (so_far : Walked Known KnownExtension all left) where
     done : Walked Known KnownExtension all end
-    done = let P : Fields → Type 0 = Walked Known KnownExtension all in subst P nothing so_far
+    done = rw nothing at so_far
 
     pub walked_all : ((name : PlainName) → FieldsMentionEntity all name → Known name)
         × ((name : PlainName) → FieldsMentionExtensionType all name → KnownExtension name)

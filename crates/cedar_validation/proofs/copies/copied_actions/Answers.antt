@@ -1,14 +1,11 @@
-use Rattle.std.proofs.Common.{ap, subst, ◌∙◌}
+use Rattle.std.proofs.Common.{ap, ◌∙◌}
 use Rattle.std.proofs.lemmas.Result.{IfOk-weaker}
 use Rattle.cedar_schema_elements.specs.ValidatorActionId.{action_loc, action_of, name_loc, name_type_loc}
-use Rattle.cedar_schema_elements.specs.declared.action_id.ValidatorActionId.{ValidatorActionId}
 use Rattle.cedar_below.proofs.Uids.{entity_uid_ord-Equal}
 use Rattle.cedar_below.specs.EntityUID.{uid_loc, uid_of, uid_type_loc}
-use Rattle.cedar_below.specs.Lists.{SameItems}
 use Rattle.cedar_below.specs.contracts.entity_uid.EntityUIDOrd.TheImpl as entity_uid_ord
 use Rattle.cedar_below.proofs.ShownLemmas.{copy_ties}
 use Rattle.cedar_below.proofs.TurnLemmas.{turn_weaker}
-use Rattle.cedar_declarations.specs.SameSchema.{SameActionKind}
 use Rattle.cedar_validation.specs.Copies.{IsActionCopied}
 use Rattle.cedar_validation.proofs.copies.copied_actions.Goals as goal
 
@@ -22,14 +19,12 @@ returns c =
     (λ copies turn.
     turn_weaker _ IsActionCopied
     (λ it copy ran.
-    let Kind : ValidatorActionId → Type 0 = λ given. SameActionKind (action_of copy.1).kind (action_of given).kind in
-    let Below : ValidatorActionId → Type 0 = λ given. SameItems (action_of copy.1).descendants (action_of given).descendants in
     record {
       same = record {
         key = ran.0.says.met.0 ∙ ap uid_of ran.0.shows;
         uid = ran.1.says.met.0 ∙ ap (λ each. (action_of each).uid) ran.1.shows;
-        kind = subst Kind ran.1.shows ran.1.says.met.1.1.1.0;
-        descendants = subst Below ran.1.shows ran.1.says.met.1.1.1.1.0;
+        kind = rw ran.1.shows at ran.1.says.met.1.1.1.0;
+        descendants = rw ran.1.shows at ran.1.says.met.1.1.1.1.0;
       };
       key_loc = ran.0.says.met.1.0 ∙ ap uid_loc ran.0.shows;
       key_type_loc = ran.0.says.met.1.1.0 ∙ ap uid_type_loc ran.0.shows;

@@ -1,13 +1,11 @@
-use Rattle.std.proofs.Common.{ap, subst, ◌∙◌}
+use Rattle.std.proofs.Common.{ap, ◌∙◌}
 use Rattle.std.proofs.lemmas.Result.{IfOk-weaker}
 use Rattle.cedar_below.proofs.Names.{entity_type_ord-Equal}
 use Rattle.cedar_below.specs.EntityType.{type_loc, type_name}
-use Rattle.cedar_below.specs.Lists.{SameItems}
 use Rattle.cedar_below.specs.contracts.entity_type.EntityTypeOrd.TheImpl as entity_type_ord
 use Rattle.cedar_below.proofs.ShownLemmas.{copy_ties}
 use Rattle.cedar_below.proofs.TurnLemmas.{turn_weaker}
-use Rattle.cedar_schema_elements.specs.ValidatorEntityType.{PlainEntityType, attributes_of, descendant_names, entity_type_of, name_loc}
-use Rattle.cedar_schema_elements.specs.declared.entity_type.ValidatorEntityType.{ValidatorEntityType}
+use Rattle.cedar_schema_elements.specs.ValidatorEntityType.{PlainEntityType, attributes_of, entity_type_of, name_loc}
 use Rattle.cedar_types.specs.Located.{located_at}
 use Rattle.cedar_validation.specs.Copies.{IsTypeCopied}
 use Rattle.cedar_validation.proofs.copies.copied_types.Goals as goal
@@ -23,13 +21,12 @@ returns c =
     turn_weaker _ IsTypeCopied
     (λ it copy ran.
     let same = ran.1.says.met.0 ∙ ap entity_type_of ran.1.shows in
-    let P : ValidatorEntityType → Type 0 = λ given. SameItems (descendant_names copy.1) (descendant_names given) in
     record {
       same = record {
         key = ran.0.says.met.0 ∙ ap type_name ran.0.shows;
         name = ap (λ (each : PlainEntityType). each.name) same;
         kind = ap (λ (each : PlainEntityType). each.kind) same;
-        descendants = subst P ran.1.shows ran.1.says.met.1.1.1.0;
+        descendants = rw ran.1.shows at ran.1.says.met.1.1.1.0;
       };
       key_loc = ran.0.says.met.1.0 ∙ ap type_loc ran.0.shows;
       name_loc = ran.1.says.met.1.0 ∙ ap name_loc ran.1.shows;

@@ -1,4 +1,4 @@
-use Rattle.std.proofs.Common.{◌≡◌, ◌⊎◌, sym, subst, ◌∙◌, None, Some, inl, inr, ⊎_elim}
+use Rattle.std.proofs.Common.{◌≡◌, ◌⊎◌, sym, ◌∙◌, None, Some, inl, inr}
 use Rattle.std.proofs.lemmas.Result.{err_from_is_err_and}
 use Rattle.std.specs.BTreeMap.{get}
 use Rattle.cedar_below.specs.EntityType.{type_name}
@@ -41,13 +41,12 @@ loop-lower-preserved-in-Continue-1 c =
     let parts = c.args.parts.now in
     let lower = c.in-Some.lower.now in
     let found : get (entity_type_ord.ghosts).cmp parts.entity_types lower ≡ Some c.in-Some-get.below.now = sym c.in-Some-get.ensures.value in
-    let P : ValidatorEntityType → Type 0 = λ below. IsKindSound (entity_type_of below).kind (entity_type_of c.args.above.now).kind in
     checking_more (IsChecked parts c.args.above.now) c.args.above.now.descendants.keys _ _ lower c.in-Some.ensures.steps
     c.loop-lower.invariant
     (λ below stands.
     let e : Some c.in-Some-get.below.now ≡ Some below = sym found ∙ stands in
     let same : c.in-Some-get.below.now ≡ below = cc in
-    subst P same c.in_ok-check_kinds-in-Some-get.ensures.sound)
+    rw same at c.in_ok-check_kinds-in-Some-get.ensures.sound)
 
 pub returns-in_err-check_kinds-in-Some-get-clause-fault : goal.returns-in_err-check_kinds-in-Some-get-clause-fault
 returns-in_err-check_kinds-in-Some-get-clause-fault c =

@@ -1,9 +1,7 @@
-use Rattle.std.proofs.Common.{List, ap, map, subst, Contains}
+use Rattle.std.proofs.Common.{ap, map}
 use Rattle.std.proofs.lemmas.Result.{err_from_is_err_and}
 use Rattle.cedar_below.specs.EntityType.{type_name}
-use Rattle.cedar_below.specs.PlainName.{PlainName}
 use Rattle.cedar_declarations.specs.SchemaError.{fault_of}
-use Rattle.cedar_declarations.specs.ValidSchema.{HasEntityType}
 use Rattle.cedar_validation.proofs.Checking.{checking_all, checking_here, checking_more, checking_none}
 use Rattle.cedar_validation.proofs.HierarchyLemmas.{IsCheckedBelow, Item, below_fault, pair_sound, undeclared_fault}
 use Rattle.cedar_validation.specs.Parts.{IsRefusal, plain_parts}
@@ -18,9 +16,8 @@ pub loop-upper-preserved : goal.loop-upper-preserved
 loop-upper-preserved c =
     let parts = c.args.parts.now in
     let entry : Item = (c.in-Some.upper.now, c.in-Some.above.now) in
-    let P : List PlainName → Type 0 = λ names. (lower : PlainName) → Contains names lower → HasEntityType (plain_parts parts) lower in
     checking_more (IsCheckedBelow parts) parts.entity_types.entries _ _ entry c.in-Some.ensures.steps c.loop-upper.invariant
-    (subst P (ap (map type_name) c.iter.ensures.rest) c.in_ok-check_declared.ensures.sound, c.in_ok-check_below.ensures.sound)
+    (rw (ap (map type_name) c.iter.ensures.rest) at c.in_ok-check_declared.ensures.sound, c.in_ok-check_below.ensures.sound)
 
 pub returns-in_err-check_declared-clause-fault : goal.returns-in_err-check_declared-clause-fault
 returns-in_err-check_declared-clause-fault c =

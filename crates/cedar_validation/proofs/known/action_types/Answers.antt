@@ -42,8 +42,6 @@ returns c = λ name. (
       let actions = c.args.parts.now.actions.entries in
       let names = map type_name c.loop-uid.types.keys in
       let key = key_of_uid actions of.0 of.1 in
-      let P : PlainName → Type 0 = Contains names in
-      subst P (ap (λ (uid : PlainUid). uid.ty) key.2 ∙ of.2)
-      (checking_all (λ each. Contains names (uid_of each).ty) (keys_of actions) _ c.in-None.ensures.steps.0
+      rw (ap (λ (uid : PlainUid). uid.ty) key.2 ∙ of.2) at (checking_all (λ each. Contains names (uid_of each).ty) (keys_of actions) _ c.in-None.ensures.steps.0
       c.loop-uid.invariant.collected key.0 key.1),
 )

@@ -1,4 +1,4 @@
-use Rattle.std.proofs.Common.{◌≡◌, Bool, ap, inl, inr, ⊎_elim, string_bytes, subst, sym, ◌∙◌}
+use Rattle.std.proofs.Common.{◌≡◌, Bool, ap, inl, inr, string_bytes, sym, ◌∙◌}
 use Rattle.std.proofs.lemmas.Result.{err_from_is_err_and}
 use Rattle.cedar_below.specs.Name.{plain_name}
 use Rattle.cedar_declarations.specs.SchemaError.{fault_of}
@@ -10,17 +10,16 @@ use Rattle.cedar_types.specs.Meaning.{attribute_of, fields_of, ty_of}
 use Rattle.cedar_validation.proofs.Results.{on_err, on_ok}
 use Rattle.cedar_validation.proofs.MentionLemmas.{extension_fault}
 use Rattle.cedar_validation.proofs.Walk.{walked_all, walked_entity, walked_extension, walked_more}
-use Rattle.cedar_validation.specs.Mentions.{IsKnownThroughout, IsUnknownIn, Knows, KnowsExtension}
+use Rattle.cedar_validation.specs.Mentions.{IsUnknownIn, Knows, KnowsExtension}
 use Rattle.cedar_validation.proofs.mentions.+mentions.Goals as goal
 
 pub check_attributes-loop-name-preserved : goal.check_attributes-loop-name-preserved
 check_attributes-loop-name-preserved t c =
     let known = c.args.known.now in
     let attribute = c.in-Some.attribute.now in
-    let P : Ty → Type 0 = IsKnownThroughout known in
     let same : ty_of c.deref.result.now ≡ (attribute_of attribute).1 =
     ap ty_of c.deref.ensures ∙ ap (λ (p : Bool × Ty). p.1) (sym (attribute_of-parts attribute)) in
-    let sound = subst P same c.in_ok-check_type.ensures.sound in
+    let sound = rw same at c.in_ok-check_type.ensures.sound in
     walked_more (Knows known) (KnowsExtension known) (fields_of c.args.attrs.now) _ _ (string_bytes c.in-Some._name.now)
     (attribute_of attribute).0 (attribute_of attribute).1
     (ap (λ entries. fields_from (plain_attributes entries)) c.in-Some.ensures.steps) c.loop-name.invariant sound.0 sound.1
@@ -30,13 +29,12 @@ check_attributes-returns-in_err-check_type-clause-fault t c =
     let known = c.args.known.now in
     let attribute = c.in-Some.attribute.now in
     let fault = fault_of c.in_err-check_type.field-0.0 in
-    let P : Ty → Type 0 = λ ty. IsUnknownIn known ty fault in
     let same : ty_of c.deref.result.now ≡ (attribute_of attribute).1 =
     ap ty_of c.deref.ensures ∙ ap (λ (p : Bool × Ty). p.1) (sym (attribute_of-parts attribute)) in
     let steps = ap (λ entries. fields_from (plain_attributes entries)) c.in-Some.ensures.steps in
     let all = fields_of c.args.attrs.now in
     let at_fault : IsUnknownIn known (record_of all ClosedAttributes) fault =
-    elim (subst P same c.in_err-check_type.ensures.fault) [
+    elim (rw same at c.in_err-check_type.ensures.fault) [
       | inl wanting ↦ inl wanting
       | inr one ↦ inr (elim one [
         | inl of ↦ inl (
@@ -66,15 +64,13 @@ check_attributes-returns-clause-sound t c =
 pub check_type-returns-in-Entity-clause-sound : goal.check_type-returns-in-Entity-clause-sound
 check_type-returns-in-Entity-clause-sound t c =
     let kind = c.in-Entity.kind in
-    let P : Ty → Type 0 = IsKnownThroughout c.args.known.now in
-    on_ok c.check_kind.result c.check_kind.ensures.sound (λ sound. subst P (sym (ap ty_of c.in-Entity.is ∙ ty_of-entity kind)) sound)
+    on_ok c.check_kind.result c.check_kind.ensures.sound (λ sound. rw (sym (ap ty_of c.in-Entity.is ∙ ty_of-entity kind)) at sound)
 
 pub check_type-returns-in-Entity-clause-fault : goal.check_type-returns-in-Entity-clause-fault
 check_type-returns-in-Entity-clause-fault t c =
     let kind = c.in-Entity.kind in
     on_err c.check_kind.result c.check_kind.ensures.fault
-    (λ error why. let P : Ty → Type 0 = λ ty. IsUnknownIn c.args.known.now ty (fault_of error) in
-    subst P (sym (ap ty_of c.in-Entity.is ∙ ty_of-entity kind)) why)
+    (λ error why. rw (sym (ap ty_of c.in-Entity.is ∙ ty_of-entity kind)) at why)
 
 pub check_type-returns-in-ExtensionType-clause-fault : goal.check_type-returns-in-ExtensionType-clause-fault
 check_type-returns-in-ExtensionType-clause-fault t c =

@@ -2,12 +2,11 @@ use Rattle.std.proofs.Common.{◌≡◌, ◌⊎◌, subst, sym, inl, inr, ⊎_el
 use Rattle.std.proofs.lemmas.Result.{err_from_is_err_and}
 use Rattle.cedar_below.proofs.Lists.{Contains-preimage}
 use Rattle.cedar_below.specs.PlainName.{PlainName}
-use Rattle.cedar_below.specs.PlainUid.{PlainUid}
 use Rattle.cedar_declarations.proofs.OccurrenceLemmas.{Contains-image}
 use Rattle.cedar_declarations.specs.Fault.{out_of_memory}
-use Rattle.cedar_declarations.specs.PlainSchema.{SchemaAction, SchemaEntityType}
+use Rattle.cedar_declarations.specs.PlainSchema.{SchemaEntityType}
 use Rattle.cedar_declarations.specs.SchemaError.{fault_of}
-use Rattle.cedar_declarations.specs.ValidSchema.{IsContextOf, IsTypeIn, IsTypeOfKind}
+use Rattle.cedar_declarations.specs.ValidSchema.{IsTypeIn, IsTypeOfKind}
 use Rattle.cedar_schema_elements.specs.ValidatorActionId.{plain_action_entry}
 use Rattle.cedar_schema_elements.specs.ValidatorEntityType.{plain_entry}
 use Rattle.cedar_type_rules.specs.Ty.{Ty}
@@ -27,8 +26,7 @@ returns-clause-sound c =
     c.in_ok-check_each.ensures.sound entry.0 entry.1 of (subst P (sym entry.2) in_type.2))
     (λ in_action.
     let entry = Contains-preimage plain_action_entry parts.actions.entries in_action.0 in_action.1 in
-    let P : PlainUid × SchemaAction → Type 0 = λ it. IsContextOf it.1.kind of in
-    sound entry.0 entry.1 of (subst P (sym entry.2) in_action.2)))
+    sound entry.0 entry.1 of (rw (sym entry.2) at in_action.2)))
 
 pub returns-clause-fault : goal.returns-clause-fault
 returns-clause-fault c =

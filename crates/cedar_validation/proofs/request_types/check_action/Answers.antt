@@ -1,7 +1,6 @@
-use Rattle.std.proofs.Common.{List, Contains, subst, sym, inl, inr, ⊎_elim}
+use Rattle.std.proofs.Common.{sym, inl, inr}
 use Rattle.std.proofs.lemmas.Result.{err_from_is_err_and}
 use Rattle.cedar_schema_elements.specs.ValidatorActionId.{action_of}
-use Rattle.cedar_below.specs.PlainName.{PlainName}
 use Rattle.cedar_declarations.specs.SchemaError.{fault_of}
 use Rattle.cedar_validation.proofs.RequestTypeLemmas.{for_cases, principal_of, resource_of}
 use Rattle.cedar_validation.proofs.Results.{on_ok}
@@ -16,8 +15,7 @@ returns-in_err-check_declared-clause-fault c =
     let at_fault : IsMisplaced (plain_parts c.args.parts.now) it fault =
     elim c.in_err-check_declared.ensures.fault [
       | inl wanting ↦ inl wanting
-      | inr of ↦ let P : List PlainName → Type 0 = λ names. Contains names of.0 in
-          inr (inl (of.0, of.1, principal_of it.kind of.0 (subst P c.principals.ensures.names of.2), of.3))
+      | inr of ↦ inr (inl (of.0, of.1, principal_of it.kind of.0 (rw c.principals.ensures.names at of.2), of.3))
     ] in
     let p = err_from_is_err_and c.from_residual.result c.from_residual.ensures.1 in
     rw (p.1, p.2) at_fault
@@ -29,8 +27,7 @@ returns-in_err-check_declared-2-clause-fault c =
     let at_fault : IsMisplaced (plain_parts c.args.parts.now) it fault =
     elim c.in_err-check_declared-2.ensures.fault [
       | inl wanting ↦ inl wanting
-      | inr of ↦ let P : List PlainName → Type 0 = λ names. Contains names of.0 in
-          inr (inl (of.0, of.1, resource_of it.kind of.0 (subst P c.resources.ensures.names of.2), of.3))
+      | inr of ↦ inr (inl (of.0, of.1, resource_of it.kind of.0 (rw c.resources.ensures.names at of.2), of.3))
     ] in
     let p = err_from_is_err_and c.from_residual-in_err-check_declared-2.result c.from_residual-in_err-check_declared-2.ensures.1 in
     rw (p.1, p.2) at_fault
@@ -41,7 +38,6 @@ returns-clause-sound c =
     on_ok c.check_descendants.result c.check_descendants.ensures.sound
     (λ descendants. record {
       types = λ name of.
-          let P : List PlainName → Type 0 = λ names. Contains names name in
-          elim (for_cases it.kind name of) [ inl among ↦ c.in_ok-check_declared.ensures.sound name (subst P (sym c.principals.ensures.names) among) | inr among ↦ c.in_ok-check_declared-2.ensures.sound name (subst P (sym c.resources.ensures.names) among) ];
+          elim (for_cases it.kind name of) [ inl among ↦ c.in_ok-check_declared.ensures.sound name (rw (sym c.principals.ensures.names) at among) | inr among ↦ c.in_ok-check_declared-2.ensures.sound name (rw (sym c.resources.ensures.names) at among) ];
       descendants = descendants;
     })

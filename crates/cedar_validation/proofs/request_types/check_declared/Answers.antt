@@ -1,18 +1,14 @@
-use Rattle.std.proofs.Common.{inr, subst}
+use Rattle.std.proofs.Common.{inr}
 use Rattle.cedar_below.proofs.Lists.{Contains-preimage}
 use Rattle.cedar_below.specs.EntityType.{type_name}
-use Rattle.cedar_below.specs.PlainName.{PlainName}
 use Rattle.cedar_declarations.proofs.OccurrenceLemmas.{Contains-image}
-use Rattle.cedar_declarations.specs.ValidSchema.{HasEntityType}
 use Rattle.cedar_validation.proofs.Keyed.{type_stands}
-use Rattle.cedar_validation.specs.Parts.{plain_parts}
 use Rattle.cedar_validation.proofs.request_types.check_declared.Goals as goal
 
 pub returns-in-None-clause-sound : goal.returns-in-None-clause-sound
 returns-in-None-clause-sound c = λ name among.
     let key = Contains-preimage type_name c.args.names name among in
-    let P : PlainName → Type 0 = HasEntityType (plain_parts c.args.parts.now) in
-    subst P key.2 ((type_stands c.args.parts.now.entity_types.entries key.0).0 (c.in-None.ensures key.0 key.1))
+    rw key.2 at ((type_stands c.args.parts.now.entity_types.entries key.0).0 (c.in-None.ensures key.0 key.1))
 
 pub returns-in_ok-undeclared-in-Some-clause-fault : goal.returns-in_ok-undeclared-in-Some-clause-fault
 returns-in_ok-undeclared-in-Some-clause-fault c =

@@ -1,28 +1,22 @@
-use Rattle.std.proofs.Common.{Contains, List, ap, inr, subst, sym}
+use Rattle.std.proofs.Common.{ap, inr, sym}
 use Rattle.cedar_below.proofs.Lists.{Contains-preimage}
 use Rattle.cedar_below.specs.EntityUID.{uid_of}
-use Rattle.cedar_below.specs.PlainUid.{PlainUid}
 use Rattle.cedar_declarations.proofs.OccurrenceLemmas.{Contains-image}
 use Rattle.cedar_declarations.specs.Fault.{undeclared_action_descendant}
-use Rattle.cedar_declarations.specs.ValidSchema.{HasAction}
 use Rattle.cedar_validation.proofs.Keyed.{action_stands}
-use Rattle.cedar_validation.specs.Parts.{plain_parts}
 use Rattle.cedar_validation.proofs.request_types.check_descendants.Goals as goal
 
 pub returns-in-None-clause-sound : goal.returns-in-None-clause-sound
 returns-in-None-clause-sound c = λ uid among.
-    let P : List PlainUid → Type 0 = λ uids. Contains uids uid in
-    let key = Contains-preimage uid_of c.descendants.result uid (subst P (sym c.descendants.ensures.uids) among) in
-    let Q : PlainUid → Type 0 = HasAction (plain_parts c.args.parts.now) in
-    subst Q key.2 ((action_stands c.args.parts.now.actions.entries key.0).0 (c.in-None.ensures key.0 key.1))
+    let key = Contains-preimage uid_of c.descendants.result uid (rw (sym c.descendants.ensures.uids) at among) in
+    rw key.2 at ((action_stands c.args.parts.now.actions.entries key.0).0 (c.in-None.ensures key.0 key.1))
 
 pub returns-in_ok-clone-in-Some-clause-fault : goal.returns-in_ok-clone-in-Some-clause-fault
 returns-in_ok-clone-in-Some-clause-fault c =
     let key = c.in-Some.lower.now in
-    let P : List PlainUid → Type 0 = λ uids. Contains uids (uid_of key) in
     inr (
       uid_of key,
       ap undeclared_action_descendant c.in_ok-clone-in-Some.ensures.uid,
-      subst P c.descendants.ensures.uids (Contains-image uid_of c.descendants.result key c.in-Some.ensures.0),
+      rw c.descendants.ensures.uids at (Contains-image uid_of c.descendants.result key c.in-Some.ensures.0),
       λ has. c.in-Some.ensures.1 ((action_stands c.args.parts.now.actions.entries key).1 has),
     )

@@ -1,18 +1,15 @@
-use Rattle.std.proofs.Common.{subst, inr}
+use Rattle.std.proofs.Common.{inr}
 use Rattle.cedar_schema_elements.specs.ValidatorActionId.{action_of}
-use Rattle.cedar_type_rules.specs.Ty.{Ty}
 use Rattle.cedar_types.specs.Meaning.{ty_of}
 use Rattle.cedar_validation.proofs.MentionLemmas.{context_is, context_of}
 use Rattle.cedar_validation.proofs.Results.{on_err, on_ok}
-use Rattle.cedar_validation.specs.Mentions.{IsKnownThroughout}
 use Rattle.cedar_validation.proofs.mentions.ValidatorActionIdTyped.check_types.Goals as goal
 
 pub returns-in-Some-clause-sound : goal.returns-in-Some-clause-sound
 returns-in-Some-clause-sound c =
     let kind = (action_of c.args.self.now).kind in
-    let P : Ty → Type 0 = IsKnownThroughout c.args.known.now in
     on_ok c.check_type.result c.check_type.ensures.sound
-    (λ sound of is. subst P (context_is kind (ty_of c.in-Some.context.now) of c.in-Some.ensures.ty is) sound)
+    (λ sound of is. rw (context_is kind (ty_of c.in-Some.context.now) of c.in-Some.ensures.ty is) at sound)
 
 pub returns-in-Some-clause-fault : goal.returns-in-Some-clause-fault
 returns-in-Some-clause-fault c =

@@ -1,15 +1,14 @@
-use Rattle.std.proofs.Common.{◌≡◌, ◌⊎◌, Some, subst, sym, ◌∙◌, inr}
+use Rattle.std.proofs.Common.{◌≡◌, ◌⊎◌, Some, sym, ◌∙◌, inr}
 use Rattle.std.proofs.lemmas.Result.{err_from_is_err_and}
 use Rattle.cedar_declarations.specs.Fault.{out_of_memory}
 use Rattle.cedar_declarations.specs.SchemaError.{fault_of}
 use Rattle.cedar_declarations.specs.ValidSchema.{IsTypeOfKind}
 use Rattle.cedar_schema_elements.specs.ValidatorEntityType.{entity_type_of}
-use Rattle.cedar_type_rules.specs.Ty.{Fields, Ty, record_of}
-use Rattle.cedar_type_rules.specs.declared.open_tag.OpenTag.TheVariants.{ClosedAttributes}
+use Rattle.cedar_type_rules.specs.Ty.{Ty}
 use Rattle.cedar_types.specs.Meaning.{ty_of}
 use Rattle.cedar_validation.proofs.MentionLemmas.{attributes_fault, kind_known, tags_of_kind}
 use Rattle.cedar_validation.proofs.Results.{on_err, on_ok}
-use Rattle.cedar_validation.specs.Mentions.{IsKnownThroughout, IsUnknownIn}
+use Rattle.cedar_validation.specs.Mentions.{IsUnknownIn}
 use Rattle.cedar_validation.proofs.mentions.ValidatorEntityTypeTyped.check_types.Goals as goal
 
 pub returns-in_err-check_attributes-clause-fault : goal.returns-in_err-check_attributes-clause-fault
@@ -17,9 +16,8 @@ returns-in_err-check_attributes-clause-fault c =
     let known = c.args.known.now in
     let kind = (entity_type_of c.args.self.now).kind in
     let fault = fault_of c.in_err-check_attributes.field-0.0 in
-    let P : Fields → Type 0 = λ fields. IsUnknownIn known (record_of fields ClosedAttributes) fault in
     let at_fault : (fault ≡ out_of_memory) ⊎ ((of : Ty) × IsTypeOfKind kind of × IsUnknownIn known of fault) =
-    attributes_fault known kind fault (subst P c.attributes.ensures.fields c.in_err-check_attributes.ensures.fault) in
+    attributes_fault known kind fault (rw c.attributes.ensures.fields at c.in_err-check_attributes.ensures.fault) in
     let p = err_from_is_err_and c.from_residual.result c.from_residual.ensures.1 in
     rw (p.1, p.2) at_fault
 
@@ -27,12 +25,10 @@ pub returns-in-Some-clause-sound : goal.returns-in-Some-clause-sound
 returns-in-Some-clause-sound c =
     let known = c.args.known.now in
     let kind = (entity_type_of c.args.self.now).kind in
-    let P : Fields → Type 0 = λ fields. IsKnownThroughout known (record_of fields ClosedAttributes) in
-    let Q : Ty → Type 0 = IsKnownThroughout known in
     on_ok c.check_type.result c.check_type.ensures.sound
-    (λ sound. kind_known known kind (subst P c.attributes.ensures.fields c.in_ok-check_attributes.ensures.sound)
+    (λ sound. kind_known known kind (rw c.attributes.ensures.fields at c.in_ok-check_attributes.ensures.sound)
     (λ tags is. let both : Some (ty_of c.in-Some.tags.now) ≡ Some tags = c.in-Some.ensures.ty ∙ is in
-    let same : ty_of c.in-Some.tags.now ≡ tags = cc in subst Q same sound))
+    let same : ty_of c.in-Some.tags.now ≡ tags = cc in rw same at sound))
 
 pub returns-in-Some-clause-fault : goal.returns-in-Some-clause-fault
 returns-in-Some-clause-fault c =
