@@ -47,10 +47,12 @@ pub fn references_fit_their_positions()
 /// Alike names refer to the same, as bags and types read them: conditional names, of the kinds that
 /// they say themselves or that their places permit, full names, and the types of actions.
 pub fn alike_names_refer_to_the_same()
-    ensures own { RefersAlike Conditional ⟦<ConditionalName as FragmentName>⟧.is_alike own_reference }
+    ensures own { RefersAlike Conditional ⟦<ConditionalName as FragmentName>⟧.is_alike
+        own_reference }
     ensures placed { RefersAlike Conditional ⟦<ConditionalName as FragmentName>⟧.is_alike
         positional_reference }
-    ensures resolved { RefersAlike Full ⟦<InternalName as FragmentName>⟧.is_alike resolved_reference }
+    ensures resolved { RefersAlike Full ⟦<InternalName as FragmentName>⟧.is_alike
+        resolved_reference }
     ensures action_types { RefersAlike ActionEntityType ⟦<EntityType as FragmentName>⟧.is_alike
         resolved_action_type }
 {}

@@ -31,7 +31,8 @@ module _ {K : Type 0} (eq : K → K → Bool) where
 module _ {K : Type 0} (eq : K → K → Bool) where
   -- the number of the key stands in the list
   abbrev pub StandsIn : List K → List ℕ → K → Type 0
-  StandsIn names numbers key = (number : ℕ) × Contains numbers number × IsNumbered eq names key number
+  StandsIn names numbers key = (number : ℕ) × Contains numbers number
+      × IsNumbered eq names key number
 
 module _ {K : Type 0} (eq : K → K → Bool) where
   -- the number of the second key stands in the list of the first

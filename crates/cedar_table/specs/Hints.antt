@@ -8,7 +8,9 @@ use Rattle.cedar_table.specs.declared.hints.Hints.{Hints}
 
 -- the hash of what a key is made of, begun with a number
 abbrev pub hash_by : ℕ → HashWrites → ℕ
-hash_by seed writes = folding.finish (fold folding.write (fold folding.write folding.initial (u64 seed)) writes)
+hash_by seed writes =
+    let begun = fold folding.write folding.initial (u64 seed) in
+    folding.finish (fold folding.write begun writes)
 
 -- the part of a hash that a hint keeps
 abbrev pub tag_of : ℕ → ℕ
