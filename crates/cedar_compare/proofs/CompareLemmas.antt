@@ -1,5 +1,7 @@
 -- What is told of two versions of a schema as their parts are gone over.
 use Rattle.std.proofs.Common.{◌≡◌, Bool, true, List, [], ◌∷◌, ◌++◌, Option, Some, None, inl, inr, refl, ap, subst, sym, ◌∙◌, ⊎_elim, map, Contains}
+use Rattle.std.proofs.Math.Logic.{∥∥₁_elim}
+use Rattle.std.proofs.Props.{props}
 use Rattle.std.proofs.lemmas.Bool.{false≢true}
 use Rattle.std.proofs.lemmas.List.{map-append}
 use Rattle.std.proofs.lemmas.List.Elements.{Contains-append_cases, Contains-append_left, Contains-append_right}
@@ -21,7 +23,6 @@ use Rattle.cedar_below.specs.declared.entity_type.EntityType.{EntityType}
 use Rattle.cedar_below.specs.declared.entity_uid.EntityUID.{EntityUID}
 use Rattle.cedar_below.specs.declared.extension.Extensions.{Extensions}
 use Rattle.cedar_compare.proofs.AllLemmas.{AreAllSubjects, RequestsSoFar, all_losses, nothing_lost, requests_more}
-use Rattle.cedar_compare.proofs.FindLemmas.{plain_keys}
 use Rattle.cedar_compare.proofs.LeftLemmas.{SureSoFar}
 use Rattle.cedar_compare.proofs.SortedLemmas.{one_at}
 use Rattle.cedar_compare.proofs.ToldLemmas.{AnswersSoFar, answered_append, answered_none, none_there, told_kept, told_lost, told_none}
@@ -244,23 +245,26 @@ kept_not_lost extensions old new keeps (action_lost it cause) ((real, of, none),
 kept_not_lost extensions old new keeps (request_lost it cause) ((real, of, none), true_one) = none (keeps.requests it real of)
 
 -- so where all is kept, nothing is told
+pub no_losses : (extensions : Extensions) (old new : PlainSchema) → Keeps extensions old new → (told : List PlainDifference)
+    → AreLosses extensions old new told → told ≡ []
+no_losses extensions old new keeps [] losses = refl
+no_losses extensions old new keeps (it ∷ rest) losses =
+    absurd (kept_not_lost extensions old new keeps it (losses.true_ones it (Contains-cons it rest it (inl refl))))
+
+-- the same of differences as a call gives them
 pub nothing_told : (extensions : Extensions) (old new : PlainSchema) → Keeps extensions old new → (lost : List Difference)
     → AreLosses extensions old new (map plain_difference lost) → lost ≡ []
 nothing_told extensions old new keeps [] losses = refl
 nothing_told extensions old new keeps (it ∷ rest) losses =
-    let first = plain_difference it in
-    absurd (kept_not_lost extensions old new keeps first
-    (losses.true_ones first (Contains-cons first (map plain_difference rest) first (inl refl))))
+    let none = no_losses extensions old new keeps (map plain_difference (it ∷ rest)) losses in absurd cc
 
--- a schema whose names and uids are in order has what stands under them once
-pub schema_keyed : (schema : ValidatorSchema) (names : List EntityType) (uids : List EntityUID)
-    → names ≡ map (λ entry. entry.0) (schema_entries schema) → uids ≡ map (λ entry. entry.0) (action_entries schema)
-    → IsStrictlySortedBy name_cmp (map type_name names) → IsStrictlySortedBy uid_cmp (map uid_of uids) → IsKeyed (schema_of schema)
-schema_keyed schema names uids names_are uids_are named in_order = record {
-  types = one_at name_cmp name_cmp-total (schema_of schema).entity_types (subst (IsStrictlySortedBy name_cmp)
-      (ap (map type_name) names_are ∙ sym (plain_keys type_name plain_type (schema_entries schema))) named);
-  actions = one_at uid_cmp uid_cmp-total (schema_of schema).actions (subst (IsStrictlySortedBy uid_cmp)
-      (ap (map uid_of) uids_are ∙ sym (plain_keys uid_of action_of (action_entries schema))) in_order);
+-- a schema has what stands under its names and uids once, since these are in order
+pub schema_keyed : (schema : ValidatorSchema) → IsKeyed (schema_of schema)
+schema_keyed schema = record {
+  types = one_at name_cmp name_cmp-total (schema_of schema).entity_types
+      (∥∥₁_elim schema.in_order (Prim.hlevel props) (λ ordered. ordered.entity_types));
+  actions = one_at uid_cmp uid_cmp-total (schema_of schema).actions
+      (∥∥₁_elim schema.in_order (Prim.hlevel props) (λ ordered. ordered.actions));
 }
 
 module _ {A : Type 0} (P : A → Type 0) (all : List A) where

@@ -14,6 +14,7 @@ pub mod LostLemmas
 pub mod NoTags
 pub mod RequestLemmas
 pub mod RequestSteps
+pub mod SameLemmas
 pub mod SampledLemmas
 pub mod SortedLemmas
 pub mod StandLemmas

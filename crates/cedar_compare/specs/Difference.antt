@@ -110,8 +110,8 @@ IsTypeCause extensions old new it cause =
     × Contains new.entity_types (it.uid.ty, other)
     × IsCauseOfKinds extensions ty.kind other.kind cause
 
--- a cause is true of an action whose entity is lost: the new schema doesn't define it, or one of the
--- two schemas alone lists it below the other action
+-- a cause is true of an action whose entity is lost: the new schema doesn't define it, or one of
+-- the two schemas alone lists it below the other action
 abbrev pub IsActionCause : PlainSchema → PlainSchema → PlainUid → PlainCause → Type 0
 IsActionCause old new uid gone = ¬ DefinesAction new uid
 IsActionCause old new uid (action_above upper) =

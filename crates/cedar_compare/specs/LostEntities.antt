@@ -30,8 +30,8 @@ one_tag value = entry [] value no_entry
 abbrev pub plain_outside : Outside → Tree × List PlainStep
 plain_outside it = (value_tree it.value, steps_of it.steps)
 
--- what is found of the tags of two types: a value of a tag that only the first has, or that all tags
--- of the one are tags of the other
+-- what is found of the tags of two types: a value of a tag that only the first has, or that all
+-- tags of the one are tags of the other
 abbrev pub IsTagOutside : Extensions → Option Ty → Option Ty → Option (Tree × List PlainStep)
     → Type 0
 IsTagOutside extensions old new None = (tags : Entries) → IsValue (map_value tags)

@@ -28,8 +28,8 @@ AreChoicesAt schema name (Some choices) = (it : SchemaEntityType)
 abbrev pub IsUidOfType : PlainSchema → PlainName → PlainUid → Type 0
 IsUidOfType schema name uid = (uid.ty ≡ name) × MayHaveId schema uid
 
--- what is found of the uids of a type: one that the old schema may have and the new may not, or that
--- there is none
+-- what is found of the uids of a type: one that the old schema may have and the new may not, or
+-- that there is none
 abbrev pub IsUidOutside : PlainSchema → PlainSchema → PlainName → Option PlainUid → Type 0
 IsUidOutside old new name None =
     (uid : PlainUid) → IsUidOfType old name uid → MayHaveId new uid
@@ -50,8 +50,8 @@ IsContextIn schema ty = (uid : PlainUid) × (it : SchemaAction)
     × Contains schema.actions (uid, it) × IsContextOf it.kind ty
 
 -- a request is of these uids, and its context is a real value of the type
-pub record IsSampleRequest (extensions : Extensions) (principal action resource : PlainUid) (ty : Ty)
-    (it : PlainRequest) : Type 0 where
+pub record IsSampleRequest (extensions : Extensions) (principal action resource : PlainUid)
+    (ty : Ty) (it : PlainRequest) : Type 0 where
   pub principal_is : it.principal ≡ principal
   pub action_is : it.action ≡ action
   pub resource_is : it.resource ≡ resource

@@ -80,12 +80,14 @@ abbrev pub AreActionUppersSoFar : PlainSchema → PlainSchema → (PlainUid → 
 AreActionUppersSoFar one other IsLeft uppers = (uid : EntityUID)
     → IsActionUpperSoFar one other (IsLeft (uid_of uid)) (uid_of uid) (action_upper_at uppers uid)
 
--- what is found of an action: why its entity is lost, or that the new schema defines it and both list
--- the same above it
+-- what is found of an action: why its entity is lost, or that the new schema defines it and both
+-- list the same above it
 abbrev pub IsActionAnswer : PlainSchema → PlainSchema → PlainUid → Option PlainCause → Type 0
 IsActionAnswer old new uid None = DefinesAction new uid
-    × ((upper : PlainUid) → ListsDescendantAction old uid upper → ListsDescendantAction new uid upper)
-    × ((upper : PlainUid) → ListsDescendantAction new uid upper → ListsDescendantAction old uid upper)
+    × ((upper : PlainUid) → ListsDescendantAction old uid upper
+    → ListsDescendantAction new uid upper)
+    × ((upper : PlainUid) → ListsDescendantAction new uid upper
+    → ListsDescendantAction old uid upper)
 IsActionAnswer old new uid (Some cause) = IsActionCause old new uid cause
 
 -- for each action there stands what is found above it: an action that one of two schemas alone

@@ -94,11 +94,6 @@ fn lost<'a>(
     ensures kept { IfOk result (λ lost. (lost.items ≡ [])
         → Keeps extensions.now (schema_of old.now) (schema_of new.now)) }
 {
-    // That names and uids are in order is known from their iterators.
-    let _old_names = old.entity_type_names();
-    let _old_uids = old.actions();
-    let _new_names = new.entity_type_names();
-    let _new_uids = new.actions();
     let versions = Versions {
         alloc,
         old,

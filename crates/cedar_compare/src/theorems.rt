@@ -1,11 +1,14 @@
 //! Laws of what a new version of a schema keeps.
 
+ghost use Rattle.std.specs.Prelude.{◌≡◌, List, []};
 ghost use Rattle.cedar_below.specs.PlainName.{PlainName};
 ghost use Rattle.cedar_below.specs.PlainUid.{PlainUid};
 ghost use Rattle.cedar_below.specs.declared.extension.Extensions.{Extensions};
+ghost use Rattle.cedar_compare.specs.Difference.{AreLosses, PlainDifference};
 ghost use Rattle.cedar_compare.specs.Keeps.{Keeps, LosesAction, LosesEntityType, LosesRequest};
 ghost use Rattle.cedar_compare.specs.SchemaBelow.{SchemaBelow};
 ghost use Rattle.cedar_declarations.specs.PlainSchema.{PlainSchema};
+ghost use Rattle.cedar_declarations.specs.SameSchema.{SameSchema};
 
 /// Every schema keeps itself, and what keeps a schema keeps all that this one keeps.
 pub fn keeping_is_a_preorder()
@@ -26,6 +29,17 @@ pub fn what_is_kept_is_not_lost()
     ensures requests { (extensions : Extensions) (old new : PlainSchema)
         → Keeps extensions old new → (principal : PlainName) (action : PlainUid)
         (resource : PlainName) → ¬ LosesRequest extensions old new principal action resource }
+{}
+
+/// Of two schemas that are the same, which is what `==` tells, none loses anything to the other: a
+/// list that tells just what is lost, or what is gained, is empty.
+pub fn equal_schemas_lose_nothing()
+    ensures kept { (extensions : Extensions) (old new : PlainSchema) → SameSchema old new
+        → Keeps extensions old new }
+    ensures lost { (extensions : Extensions) (old new : PlainSchema) → SameSchema old new
+        → (told : List PlainDifference) → AreLosses extensions old new told → told ≡ [] }
+    ensures gained { (extensions : Extensions) (old new : PlainSchema) → SameSchema old new
+        → (told : List PlainDifference) → AreLosses extensions new old told → told ≡ [] }
 {}
 
 /// What permissive subtyping allows loses nothing: where a schema is below another, that one keeps

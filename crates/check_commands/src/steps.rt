@@ -86,8 +86,8 @@ fn is_lacking_in(ty: &Type, name: &str) -> bool {
     attrs.get_attr(name).is_none()
 }
 
-/// What is said of the second of two types where one alone has an attribute or requires it, or where
-/// none has it and the first admits further ones, if that is so.
+/// What is said of the second of two types where one alone has an attribute or requires it, or
+/// where none has it and the first admits further ones, if that is so.
 fn attribute_words(own: &Type, other: &Type, name: &str) -> Option<&'static str> {
     if is_lacking_in(own, name) && is_lacking_in(other, name) {
         return Some("admits no further attributes");

@@ -1,0 +1,156 @@
+-- A schema keeps all that another admits which is the same.
+use Rattle.std.proofs.Common.{◌≡◌, inl, inr, subst, sym, ◌∙◌, ⊎_elim, Contains}
+use Rattle.cedar_below.specs.Lists.{HoldsPairwise, SameItems}
+use Rattle.cedar_below.specs.PlainName.{PlainName}
+use Rattle.cedar_below.specs.PlainUid.{PlainUid}
+use Rattle.cedar_below.specs.declared.extension.Extensions.{Extensions}
+use Rattle.cedar_compare.specs.Entities.{IsEntityIn, IsEntityOfKind, IsIdOf, MayStandAbove}
+use Rattle.cedar_compare.specs.Keeps.{Keeps}
+use Rattle.cedar_compare.specs.Requests.{IsRequestIn, MayHaveId, PlainRequest}
+use Rattle.cedar_declarations.proofs.TurnLemmas.{turn_back, turn_forth}
+use Rattle.cedar_declarations.specs.ActionEntities.{IsDefinedKind}
+use Rattle.cedar_declarations.specs.EntityTypeKind.{EntityTypeKind, standard_kind, enumerated_kind, external_kind}
+use Rattle.cedar_declarations.specs.Environments.{Environment, IsRequestOf}
+use Rattle.cedar_declarations.specs.PlainSchema.{ActionEntity, ActionKind, PlainSchema, SchemaAction, SchemaEntityType, defined_action, external_action}
+use Rattle.cedar_declarations.specs.SameSchema.{SameAction, SameActionKind, SameEntityType, SameSchema}
+use Rattle.cedar_declarations.specs.ValidSchema.{ListsDescendantAction}
+
+-- the same entity types the other way round
+type_back : (it other : PlainName × SchemaEntityType) → SameEntityType it other → SameEntityType other it
+type_back it other same = record {
+  key = sym same.key;
+  name = sym same.name;
+  kind = sym same.kind;
+  descendants = λ name. ((same.descendants name).1, (same.descendants name).0);
+}
+
+-- the same requests the other way round
+kind_back : (kind other : ActionKind) → SameActionKind kind other → SameActionKind other kind
+kind_back (defined_action principals resources context) (defined_action others other_resources other_context) same = (
+  λ name. ((same.0 name).1, (same.0 name).0),
+  λ name. ((same.1 name).1, (same.1 name).0),
+  sym same.2,
+)
+kind_back external_action external_action same = tt
+kind_back _ _ same = absurd same
+
+-- the same actions the other way round
+action_back : (it other : PlainUid × SchemaAction) → SameAction it other → SameAction other it
+action_back it other same = record {
+  key = sym same.key;
+  uid = sym same.uid;
+  kind = kind_back it.1.kind other.1.kind same.kind;
+  descendants = λ uid. ((same.descendants uid).1, (same.descendants uid).0);
+}
+
+-- entity types and actions are pairwise the same
+abbrev AreAlike : PlainSchema → PlainSchema → Type 0
+AreAlike schema other =
+    HoldsPairwise SameEntityType schema.entity_types other.entity_types × HoldsPairwise SameAction schema.actions other.actions
+
+-- so they are the other way round
+alike_back : (schema other : PlainSchema) → AreAlike schema other → AreAlike other schema
+alike_back schema other alike = (
+  turn_back SameEntityType SameEntityType type_back schema.entity_types other.entity_types alike.0,
+  turn_back SameAction SameAction action_back schema.actions other.actions alike.1,
+)
+
+-- a kind for the same requests as a defined one is defined
+defined_like : (kind other : ActionKind) → SameActionKind kind other → IsDefinedKind kind → IsDefinedKind other
+defined_like (defined_action p r c) (defined_action q s d) same is = tt
+defined_like (defined_action p r c) external_action same is = absurd same
+defined_like external_action other same is = absurd is
+
+-- and is for them
+asked_like : (kind other : ActionKind) (it : Environment) → SameActionKind kind other → IsRequestOf kind it → IsRequestOf other it
+asked_like (defined_action p r c) (defined_action q s d) it same of =
+    ((same.0 it.principal).0 of.0, (same.1 it.resource).0 of.1, sym same.2 ∙ of.2)
+asked_like (defined_action p r c) external_action it same of = absurd same
+asked_like external_action other it same of = absurd of
+
+module _ (schema other : PlainSchema) (alike : AreAlike schema other) where
+  -- an entity type of the one schema is one of the other, of the same kind and with the same descendants
+  type_there : (name : PlainName) (it : SchemaEntityType) → Contains schema.entity_types (name, it)
+      → (found : SchemaEntityType) × Contains other.entity_types (name, found) × (it.kind ≡ found.kind)
+      × SameItems it.descendants found.descendants
+  type_there name it among =
+      let found = turn_forth SameEntityType schema.entity_types other.entity_types alike.0 (name, it) among in
+      let P : PlainName → Type 0 = λ key. Contains other.entity_types (key, found.0.1) in
+      (found.0.1, subst P (sym found.2.key) found.1, found.2.kind, found.2.descendants)
+
+  -- an action of the one schema is one of the other, for the same requests and with the same descendants
+  action_there : (uid : PlainUid) (it : SchemaAction) → Contains schema.actions (uid, it)
+      → (found : SchemaAction) × Contains other.actions (uid, found) × SameActionKind it.kind found.kind
+      × SameItems it.descendants found.descendants
+  action_there uid it among =
+      let found = turn_forth SameAction schema.actions other.actions alike.1 (uid, it) among in
+      let P : PlainUid → Type 0 = λ key. Contains other.actions (key, found.0.1) in
+      (found.0.1, subst P (sym found.2.key) found.1, found.2.kind, found.2.descendants)
+
+  -- what the one lists the other lists
+  lists_there : (lower upper : PlainUid) → ListsDescendantAction schema lower upper → ListsDescendantAction other lower upper
+  lists_there lower upper lists =
+      let found = action_there upper lists.0 lists.1 in
+      (found.0, found.1, (found.3 lower).0 lists.2)
+
+module _ (extensions : Extensions) (old new : PlainSchema) (alike : AreAlike old new) where
+  -- what may stand above entities of a type still may
+  stand_there : (name : PlainName) (upper : PlainUid) → MayStandAbove old name upper → MayStandAbove new name upper
+  stand_there name upper may =
+      let found = type_there old new alike upper.ty may.0 may.1 in
+      (found.0, found.1, (found.3 name).0 may.2, subst (λ kind. IsIdOf kind upper.eid) found.2 may.3)
+
+  -- entities of a kind stay so
+  kind_there : (kind : EntityTypeKind) (it : ActionEntity) → IsEntityOfKind extensions old kind it → IsEntityOfKind extensions new kind it
+  kind_there (standard_kind fields openness tags) it of = (of.0, of.1, λ upper among. stand_there it.uid.ty upper (of.2 upper among))
+  kind_there (enumerated_kind choices) it of = of
+  kind_there external_kind it of = of
+
+  -- each entity stays one
+  entity_there : (it : ActionEntity) → IsEntityIn extensions old it → IsEntityIn extensions new it
+  entity_there it among =
+      ⊎_elim
+      (λ of. (let found = type_there old new alike it.uid.ty of.0 of.1 in
+      inl (found.0, found.1, kind_there found.0.kind it (subst (λ kind. IsEntityOfKind extensions old kind it) found.2 of.2))))
+      (λ of. (let found = action_there old new alike it.uid of.defined.0 of.defined.1 in
+      inr (record {
+        defined = (found.0, found.1, defined_like of.defined.0.kind found.0.kind found.2 of.defined.2);
+        attributes = of.attributes;
+        tags = of.tags;
+        ancestors = λ upper. (
+          λ above. lists_there old new alike it.uid upper ((of.ancestors upper).0 above),
+          λ lists. (of.ancestors upper).1 (lists_there new old (alike_back old new alike) it.uid upper lists),
+        );
+      })))
+      among
+
+  -- an id that a type may have it still may
+  id_there : (uid : PlainUid) → MayHaveId old uid → MayHaveId new uid
+  id_there uid may it among =
+      let found = type_there new old (alike_back old new alike) uid.ty it among in
+      subst (λ kind. IsIdOf kind uid.eid) (sym found.2) (may found.0 found.1)
+
+  -- each request stays one
+  request_there : (it : PlainRequest) → IsRequestIn extensions old it → IsRequestIn extensions new it
+  request_there it (environment, (action, among, asked), types, has, first, second) =
+      let found = action_there old new alike environment.action action among in (
+        environment,
+        (found.0, found.1, asked_like action.kind found.0.kind environment found.2 asked),
+        types,
+        has,
+        id_there it.principal first,
+        id_there it.resource second,
+      )
+
+  -- so all is kept
+  alike_keeps : Keeps extensions old new
+  alike_keeps = record {
+    entities = λ it real of. entity_there it of;
+    requests = λ it real of. request_there it of;
+  }
+
+-- schemas that are the same keep each other
+pub same_keep : (extensions : Extensions) (old new : PlainSchema) → SameSchema old new → Keeps extensions old new × Keeps extensions new old
+same_keep extensions old new same =
+    let alike : AreAlike old new = (same.entity_types, same.actions) in
+    (alike_keeps extensions old new alike, alike_keeps extensions new old (alike_back old new alike))
