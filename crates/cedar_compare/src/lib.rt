@@ -1,4 +1,9 @@
-//! What a new version of a schema takes away: what that means, with its laws, and what it is.
+//! Two versions of a schema, compared: what the new one takes away and what it adds.
+//!
+//! [`compare`] gives a [`Comparison`]. Each [`Difference`] is of an entity type, an action or an
+//! environment, with an entity or a request that only the one version admits, and a [`Cause`].
+//! [`CompareFault`] says why two schemas aren't compared. [`theorems`] has laws of what a new
+//! version keeps, and [`examples`] worked examples.
 #![tactic(auto)]
 
 pub use compare_fault::{CompareFault, Version};

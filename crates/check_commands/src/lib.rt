@@ -1,5 +1,7 @@
 //! What the program `cedar_check` does: files of schemas are read, built, shown, drawn, linked,
 //! laid out and compared.
+//!
+//! [`run`] does it over any files ([`FileAccess`]) and any two writers, and answers the status.
 #![tactic(auto)]
 
 mod answers;
