@@ -122,10 +122,19 @@ fn comparison_text(alloc: Global, comparison: &Comparison) -> M<String> {
 
 /// What is told of the schemas of two texts of declarations, or why they aren't compared.
 pub(crate) fn told(alloc: Global, old: &str, new: &str) -> Result<String, Fail> {
-    let (old, new) = (schema_of(alloc, old)?, schema_of(alloc, new)?);
+    let old = schema_of(alloc, old)?;
+    told_of(alloc, &old, &schema_of(alloc, new)?)
+}
+
+/// What is told of two schemas, or why they aren't compared.
+pub(crate) fn told_of(
+    alloc: Global,
+    old: &ValidatorSchema,
+    new: &ValidatorSchema,
+) -> Result<String, Fail> {
     let extensions = sample_extensions(alloc)?;
     let samples = vec![in alloc; sample(alloc)?]?;
-    match compare(alloc, &old, &new, &extensions, &samples) {
+    match compare(alloc, old, new, &extensions, &samples) {
         Ok(comparison) => Ok(comparison_text(alloc, &comparison)?),
         Err(fault) => Ok(fault.to_string(alloc)?),
     }
