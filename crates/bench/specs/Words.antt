@@ -14,11 +14,11 @@ abbrev pub schema_piece_names : List Text
 schema_piece_names =
     codes "build-whole" ∷ codes "build-split" ∷ codes "build-common-chain" ∷ codes "close-chain"
     ∷ codes "close-ring" ∷ codes "close-star" ∷ codes "close-trees" ∷ codes "schema-look-up"
-    ∷ codes "look-up-lacking" ∷ codes "look-up-flood" ∷ codes "look-up-apart"
+    ∷ codes "look-up-lacking" ∷ codes "look-up-hashed" ∷ codes "look-up-flood" ∷ codes "look-up-apart"
     ∷ codes "environments" ∷ codes "known-attributes" ∷ codes "validate" ∷ codes "write-back"
     ∷ codes "build-environments" ∷ codes "build-flood" ∷ codes "build-table-flood"
-    ∷ codes "build-apart" ∷ codes "copy-schema"
-    ∷ codes "scale" ∷ []
+    ∷ codes "build-apart" ∷ codes "copy-schema" ∷ codes "compare-same"
+    ∷ codes "compare-changed" ∷ codes "scale" ∷ []
 
 -- the names of the pieces of work on JSON
 abbrev pub json_piece_names : List Text

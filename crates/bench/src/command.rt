@@ -45,6 +45,7 @@ fn schema_piece_named(name: &str) -> Option<Piece>
         "close-trees" => Some(Piece::CloseTrees),
         "schema-look-up" => Some(Piece::SchemaLookUp),
         "look-up-lacking" => Some(Piece::LookUpLacking),
+        "look-up-hashed" => Some(Piece::LookUpHashed),
         "look-up-flood" => Some(Piece::LookUpFlood),
         "look-up-apart" => Some(Piece::LookUpApart),
         "environments" => Some(Piece::Environments),
@@ -56,6 +57,8 @@ fn schema_piece_named(name: &str) -> Option<Piece>
         "build-table-flood" => Some(Piece::BuildTableFlood),
         "build-apart" => Some(Piece::BuildApart),
         "copy-schema" => Some(Piece::CopySchema),
+        "compare-same" => Some(Piece::CompareSame),
+        "compare-changed" => Some(Piece::CompareChanged),
         "scale" => Some(Piece::Scale),
         _ => None,
     }

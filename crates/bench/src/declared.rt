@@ -87,15 +87,17 @@ fn entity_types(
     Ok(entity_types)
 }
 
-/// The declaration of an action for requests of each entity type of some numbers on each of others.
+/// The declaration of an action for requests of each entity type of some numbers on each of others,
+/// with an attribute of a type in its context.
 fn action(
     alloc: Global,
     principals: Range<usize>,
     resources: Range<usize>,
+    ty: Type<RawName>,
 ) -> Result<ActionType<RawName>, Stop> {
     let principal_types = references(alloc, principals)?;
     let resource_types = references(alloc, resources)?;
-    let context = record_of(alloc, plain(TypeVariant::String))?;
+    let context = record_of(alloc, ty)?;
     Ok(ActionType {
         attributes: None,
         applies_to: Some(ApplySpec {
@@ -119,7 +121,22 @@ fn add_action(
     principals: Range<usize>,
     resources: Range<usize>,
 ) -> Result<(), Stop> {
-    actions.insert(name, action(alloc, principals, resources)?)?;
+    let context = plain(TypeVariant::String);
+    actions.insert(name, action(alloc, principals, resources, context)?)?;
+    Ok(())
+}
+
+/// Declares the action of a number, for requests of its entity type on itself, with an attribute of
+/// a type in its context.
+fn add_own_action(
+    alloc: Global,
+    actions: &mut BTreeMap<String, ActionType<RawName>>,
+    number: usize,
+    ty: Type<RawName>,
+) -> Result<(), Stop> {
+    let name = numbered(alloc, "action", number)?;
+    let end = number.saturating_add(1);
+    actions.insert(name, action(alloc, number..end, number..end, ty)?)?;
     Ok(())
 }
 
@@ -130,9 +147,7 @@ fn actions(
 ) -> Result<BTreeMap<String, ActionType<RawName>>, Stop> {
     let mut actions = BTreeMap::new(alloc);
     for number in numbers {
-        let name = numbered(alloc, "action", number)?;
-        let end = number.saturating_add(1);
-        add_action(alloc, &mut actions, name, number..end, number..end)?;
+        add_own_action(alloc, &mut actions, number, plain(TypeVariant::String))?;
     }
     Ok(actions)
 }
@@ -177,6 +192,27 @@ pub(crate) fn whole_fragment(alloc: Global, count: usize) -> Result<Fragment<Raw
 /// As many entity types and actions, in one fragment.
 pub(crate) fn whole(alloc: Global, count: usize) -> Result<Vec<Fragment<RawName>>, Stop> {
     alone(alloc, definition(alloc, 0..count)?)
+}
+
+/// As many entity types and actions, in one fragment. Those of every tenth number have an attribute
+/// of another type than in `whole`, the action in its context.
+pub(crate) fn changed(alloc: Global, count: usize) -> Result<Vec<Fragment<RawName>>, Stop> {
+    let mut changed = definition(alloc, 0..count)?;
+    for number in (0..count).step_by(10) {
+        add_entity_type(
+            alloc,
+            &mut changed.entity_types,
+            number,
+            plain(TypeVariant::Boolean),
+        )?;
+        add_own_action(
+            alloc,
+            &mut changed.actions,
+            number,
+            plain(TypeVariant::Boolean),
+        )?;
+    }
+    alone(alloc, changed)
 }
 
 /// The first number of eight digits.

@@ -11,7 +11,7 @@ use std::ops::Range;
 /// first eight are just what makes a factor zero.
 pub(crate) const ALIKE: &str = "FloodOf000017770VMgAjaq9";
 
-/// Letters as many, with which they have one hash in the table of a schema, whose seed is another.
+/// Letters as many, with which they have one hash with the first seed of the tables of schemas.
 pub(crate) const ALIKE_IN_TABLES: &str = "FloodOf000100137D_KVxV0Q";
 
 /// Letters as many, with which they have unlike ones.

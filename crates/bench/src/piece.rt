@@ -51,7 +51,9 @@ pub(crate) enum Piece {
     SchemaLookUp,
     /// An entity type and an action that aren't among them.
     LookUpLacking,
-    /// An entity type looked up among as many whose names hash alike in the table of a schema.
+    /// The look-up that `SchemaLookUp` is, in two hash maps of std.
+    LookUpHashed,
+    /// An entity type looked up among as many whose names hash alike with a table's first seed.
     LookUpFlood,
     /// An entity type looked up among as many with names as long that don't.
     LookUpApart,
@@ -67,12 +69,16 @@ pub(crate) enum Piece {
     BuildEnvironments,
     /// As many entity types whose names hash alike, built from one fragment.
     BuildFlood,
-    /// As many entity types whose names hash alike in the table of a schema.
+    /// As many entity types whose names hash alike with a table's first seed.
     BuildTableFlood,
     /// As many entity types with names as long that hash apart.
     BuildApart,
     /// A copy of a schema of as many entity types and actions.
     CopySchema,
+    /// A schema of as many entity types and actions, compared with an equal one.
+    CompareSame,
+    /// The same, compared with one of which every tenth entity type and action is another.
+    CompareChanged,
     /// As many entity types and actions, built from one fragment: more than a schema is thought to
     /// have.
     Scale,
@@ -85,7 +91,7 @@ pub(crate) enum Piece {
 }
 
 /// All pieces, in the order in which they are measured.
-pub(crate) const PIECES: [Piece; 39] = [
+pub(crate) const PIECES: [Piece; 42] = [
     Piece::SubtypeClosedStrict,
     Piece::SubtypeClosedPermissive,
     Piece::SubtypeOpenStrict,
@@ -110,6 +116,7 @@ pub(crate) const PIECES: [Piece; 39] = [
     Piece::CloseTrees,
     Piece::SchemaLookUp,
     Piece::LookUpLacking,
+    Piece::LookUpHashed,
     Piece::LookUpFlood,
     Piece::LookUpApart,
     Piece::Environments,
@@ -121,6 +128,8 @@ pub(crate) const PIECES: [Piece; 39] = [
     Piece::BuildTableFlood,
     Piece::BuildApart,
     Piece::CopySchema,
+    Piece::CompareSame,
+    Piece::CompareChanged,
     Piece::Scale,
     Piece::ParseJson,
     Piece::ReadJson,
@@ -164,6 +173,7 @@ impl Piece {
             Piece::CloseTrees => "close-trees",
             Piece::SchemaLookUp => "schema-look-up",
             Piece::LookUpLacking => "look-up-lacking",
+            Piece::LookUpHashed => "look-up-hashed",
             Piece::LookUpFlood => "look-up-flood",
             Piece::LookUpApart => "look-up-apart",
             Piece::Environments => "environments",
@@ -175,6 +185,8 @@ impl Piece {
             Piece::BuildTableFlood => "build-table-flood",
             Piece::BuildApart => "build-apart",
             Piece::CopySchema => "copy-schema",
+            Piece::CompareSame => "compare-same",
+            Piece::CompareChanged => "compare-changed",
             Piece::Scale => "scale",
             Piece::ParseJson => "parse-json",
             Piece::ReadJson => "read-json",
@@ -201,14 +213,17 @@ impl Piece {
                 &[(10, 100_000), (100, 10_000), (1000, 1000)]
             }
             Piece::UnionJoins => &[(30, 1000), (100, 100), (300, 10)],
-            Piece::BuildWhole | Piece::BuildSplit | Piece::Validate | Piece::ConvertBack => {
-                &[(100, 50), (1000, 5), (5000, 1)]
-            }
+            Piece::BuildWhole
+            | Piece::BuildSplit
+            | Piece::Validate
+            | Piece::ConvertBack
+            | Piece::CompareSame
+            | Piece::CompareChanged => &[(100, 50), (1000, 5), (5000, 1)],
             Piece::BuildCommonChain => &[(10, 1000), (1000, 10), (100_000, 1)],
             Piece::CloseChain => &[(50, 200), (150, 20), (500, 2)],
             Piece::CloseRing => &[(30, 500), (100, 50), (300, 5)],
             Piece::CloseStar | Piece::CloseTrees => &[(50, 1000), (500, 100), (5000, 5)],
-            Piece::SchemaLookUp | Piece::LookUpLacking => {
+            Piece::SchemaLookUp | Piece::LookUpLacking | Piece::LookUpHashed => {
                 &[(100, 100_000), (1000, 100_000), (5000, 100_000)]
             }
             Piece::LookUpFlood | Piece::LookUpApart => &[(1000, 100_000), (20_000, 100_000)],

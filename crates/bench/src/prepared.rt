@@ -5,7 +5,7 @@ ghost use Rattle.cedar_below.specs.TypeNames.{TypeNamesFit};
 
 use crate::by_hand::{actions, growing_types, standard_types, uid};
 use crate::declared::{
-    FIRST, applying_to_all, chain, crossing, eight_digits, split, whole, whole_fragment,
+    FIRST, applying_to_all, chain, changed, crossing, eight_digits, split, whole, whole_fragment,
 };
 use crate::graphs::{Graph, Shape, graph};
 use crate::names::{ALIKE, ALIKE_IN_TABLES, APART, entity_type, lettered, numbered};
@@ -21,7 +21,7 @@ use cedar_schema::{
     Attributes, OpenTag, Type, ValidatorActionId, ValidatorEntityType, ValidatorSchema,
 };
 use std::alloc::Global;
-use std::collections::BTreeMap;
+use std::collections::{BTreeMap, HashMap};
 
 /// What is asked of one type.
 #[derive(Clone, Copy)]
@@ -82,8 +82,12 @@ pub(crate) enum Borrowed {
     Joins(Vec<Type>),
     /// A schema, of which something is asked.
     Schema(OfSchema, ValidatorSchema),
+    /// Two versions of a schema, which are compared.
+    Versions(ValidatorSchema, ValidatorSchema),
     /// A schema, in which an entity type and an action are looked up.
     Declared(ValidatorSchema, EntityType, EntityUID),
+    /// Hash maps of names and of uids, in which one of each is looked up.
+    Hashed(HashMap<EntityType, usize>, HashMap<EntityUID, usize>, EntityType, EntityUID),
     /// A schema, and a type of which it may know attributes.
     KnownAttributes(ValidatorSchema, Type),
     /// A text that is JSON, of which something is asked.
@@ -209,11 +213,30 @@ fn schema_alone(alloc: Global, question: OfSchema, count: usize) -> Result<Prepa
     on_borrowed(Borrowed::Schema(question, schema))
 }
 
+/// A schema of as many entity types and actions, to be compared with that of some fragments.
+fn versions(alloc: Global, count: usize, new: Vec<Fragment<RawName>>) -> Result<Prepared, Stop> {
+    let new = built(alloc, new)?;
+    let old = built(alloc, whole(alloc, count)?)?;
+    on_borrowed(Borrowed::Versions(old, new))
+}
+
 /// The entity type and the action of a number, to be looked up among as many of each.
 fn schema_look_up(alloc: Global, count: usize, number: usize) -> Result<Prepared, Stop> {
     let (ty, action) = (entity_type(alloc, number)?, uid(alloc, number)?);
     let schema = built(alloc, whole(alloc, count)?)?;
     on_borrowed(Borrowed::Declared(schema, ty, action))
+}
+
+/// The entity type and the action of a number, to be looked up in hash maps of as many of each.
+fn hashed_look_up(alloc: Global, count: usize, number: usize) -> Result<Prepared, Stop> {
+    let mut types = HashMap::new(alloc);
+    let mut actions = HashMap::new(alloc);
+    for each in 0..count {
+        types.insert(entity_type(alloc, each)?, each)?;
+        actions.insert(uid(alloc, each)?, each)?;
+    }
+    let (ty, action) = (entity_type(alloc, number)?, uid(alloc, number)?);
+    on_borrowed(Borrowed::Hashed(types, actions, ty, action))
 }
 
 /// The last entity type of those of some letters and a number of eight digits, to be looked up, and
@@ -293,6 +316,7 @@ pub(crate) fn prepare(alloc: Global, piece: Piece, count: usize) -> Result<Prepa
         Piece::CloseTrees => close(alloc, Shape::Trees, count),
         Piece::SchemaLookUp => schema_look_up(alloc, count, count.saturating_sub(1)),
         Piece::LookUpLacking => schema_look_up(alloc, count, count),
+        Piece::LookUpHashed => hashed_look_up(alloc, count, count.saturating_sub(1)),
         Piece::LookUpFlood => lettered_look_up(alloc, ALIKE_IN_TABLES, count),
         Piece::LookUpApart => lettered_look_up(alloc, APART, count),
         Piece::Environments => environments(alloc, count),
@@ -304,6 +328,8 @@ pub(crate) fn prepare(alloc: Global, piece: Piece, count: usize) -> Result<Prepa
         Piece::BuildTableFlood => build(eight_digits(alloc, ALIKE_IN_TABLES, count)?),
         Piece::BuildApart => build(eight_digits(alloc, APART, count)?),
         Piece::CopySchema => schema_alone(alloc, OfSchema::Copy, count),
+        Piece::CompareSame => versions(alloc, count, whole(alloc, count)?),
+        Piece::CompareChanged => versions(alloc, count, changed(alloc, count)?),
         Piece::Scale => build(whole(alloc, count)?),
         Piece::ParseJson => text(alloc, OfText::Parse, count),
         Piece::ReadJson => text(alloc, OfText::Read, count),

@@ -1,5 +1,6 @@
 //! Why a measurement stops.
 
+use cedar_compare::CompareFault;
 use cedar_json::JsonSchemaFault;
 use cedar_json_writer::WriteFault;
 use cedar_schema::below::{EntityType, Memory, NameFault};
@@ -70,6 +71,15 @@ impl From<WriteBackFault> for Stop {
         match refused {
             WriteBackFault::Memory => Stop::Memory,
             WriteBackFault::Unwritable => Stop::Refused,
+        }
+    }
+}
+
+impl From<CompareFault> for Stop {
+    fn from(refused: CompareFault) -> Self {
+        match refused {
+            CompareFault::Memory(_) => Stop::Memory,
+            _ => Stop::Refused,
         }
     }
 }

@@ -3,6 +3,7 @@
 use crate::graphs::Graph;
 use crate::prepared::{Borrowed, Given, OfOne, OfSchema, OfText, OfTwo, built, no_extensions};
 use crate::stop::Stop;
+use cedar_compare::{Comparison, compare};
 use cedar_json::fragment_from_json;
 use cedar_json_writer::fragment_to_json;
 use cedar_schema::below::{EntityType, EntityUID, ValidationMode, Value};
@@ -67,6 +68,12 @@ fn separated(alloc: Global, one: &Type, other: &Type) -> Result<usize, Stop> {
     }
     let found = separating_value(alloc, one, other, &extensions, &[])?;
     Ok(usize::from(found.is_some()))
+}
+
+/// How many differences there are between two versions of a schema, lost and gained together.
+fn differences(alloc: Global, old: &ValidatorSchema, new: &ValidatorSchema) -> Result<usize, Stop> {
+    let Comparison { lost, gained } = compare(alloc, old, new, &no_extensions(alloc), &[])?;
+    Ok(lost.len().saturating_add(gained.len()))
 }
 
 /// How many of an entity type and an action a schema has.
@@ -145,8 +152,8 @@ impl OfSchema {
 
 impl Borrowed {
     /// Does the work once, and answers what it computed: 1 or 0 for yes or no, the length of a
-    /// text, or how many names were compared, attributes or members are listed, or environments or
-    /// declarations there are.
+    /// text, or how many names were compared, attributes or members are listed, or environments,
+    /// declarations or differences there are.
     pub(crate) fn work(&self, alloc: Global) -> Result<usize, Stop> {
         match self {
             Borrowed::One(question, ty) => question.work(alloc, ty),
@@ -155,7 +162,11 @@ impl Borrowed {
             Borrowed::Membership(ty, value) => Ok(has_type(alloc, ty, value)),
             Borrowed::Joins(types) => joined(alloc, types),
             Borrowed::Schema(question, schema) => question.work(alloc, schema),
+            Borrowed::Versions(old, new) => differences(alloc, old, new),
             Borrowed::Declared(schema, ty, uid) => Ok(found(schema, ty, uid)),
+            Borrowed::Hashed(types, actions, ty, uid) => {
+                Ok(usize::from(types.contains_key(ty)) + usize::from(actions.contains_key(uid)))
+            }
             Borrowed::KnownAttributes(schema, ty) => {
                 Ok(ty.all_attributes(alloc, schema)?.keys().count())
             }
