@@ -176,11 +176,8 @@ pub resolved_record-split : (it : RecordType InternalName) (done left rest : Ent
     (member (string_bytes name) (out-TypeOfAttribute InternalName attribute).required (attribute_expr attribute) (resolved_members rest)))
     (out-RecordType InternalName it).additional_attributes
 resolved_record-split it done left rest name attribute split is =
-    record_type_expr-entries InternalName resolved_reference it
-    ∙ ap (λ members. record_expr members (out-RecordType InternalName it).additional_attributes)
-    (ap resolved_members (split ∙ ap (λ others. done ++ others) is)
-    ∙ (resolved_members-append done ((name, attribute) ∷ rest)
-    ∙ ap (append_members (resolved_members done)) (resolved_members-one name attribute rest)))
+    cc (record_type_expr-entries InternalName resolved_reference it, split, is, resolved_members-append done
+        ((name, attribute) ∷ rest), resolved_members-one name attribute rest)
 
 -- of a record type some entries are elaborated, and others are left
 pub record ElaboratedSoFar (scope : TypeScope) (it : RecordType InternalName) (items : Items) (left : Entries) : Type 0 where
@@ -283,8 +280,8 @@ module _ (scope : TypeScope) (it : RecordType InternalName) (items : Items) (lef
       let all = entries_of it in
       let plain : List (Text × (Bool × Expr)) =
       map (λ entry. (string_bytes entry.0, flag_and_expr InternalName resolved_reference entry.1)) all in
-      let P : Entries → Type 0 = λ entries. MembersElaborateTo defined (resolved_members entries) (fields_from (plain_attributes items)) in
-      let elaborated : P all = rw ElaboratedSoFar-done at (so_far.elaborated defined knows) in
+      let Elaborates : Entries → Type 0 = λ entries. MembersElaborateTo defined (resolved_members entries) (fields_from (plain_attributes items)) in
+      let elaborated : Elaborates all = rw ElaboratedSoFar-done at (so_far.elaborated defined knows) in
       let names : field_names (fields_from (plain_attributes items)) ≡ map string_bytes (keys_of all) =
       MembersElaborateTo-names defined plain elaborated
       ∙ (map-map (λ item. item.0) (λ entry. (string_bytes entry.0, flag_and_expr InternalName resolved_reference entry.1)) all
