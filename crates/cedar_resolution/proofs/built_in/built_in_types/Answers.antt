@@ -17,5 +17,7 @@ returns c =
     let items = c.ext_types-name-items.result.now in
     let primitives : List (Text × Expr) → List (Text × Expr) = λ rest.
     (codes "Bool", truth_expr) ∷ (codes "Long", long_expr) ∷ (codes "String", text_expr) ∷ rest in
-    cc (c.loop-name.invariant, take_all c.loop-name.name-index items c.loop-name-test.false, map-map entry
-        plain_name items, c.ext_types-name-items.ensures)
+    c.loop-name.invariant
+    ∙ ap primitives
+    (ap (map (λ (name : Name). entry (plain_name name))) (take_all c.loop-name.name-index items c.loop-name-test.false)
+    ∙ (sym (map-map entry plain_name items) ∙ ap (map entry) c.ext_types-name-items.ensures))

@@ -12,8 +12,9 @@ use Rattle.cedar_resolution.proofs.collecting.add_entity_types.Goals as goal
 pub loop-def-init : goal.loop-def-init
 loop-def-init c =
     add_none _ entity_item _ _ _ _ refl
-    (cc (c.into_iter-def-iterator.ensures.into_iter_gives.0, c.into_defs-def-items.ensures resolved_reference,
-        entities_declared InternalName resolved_reference c.into_defs-def-items.result.items))
+    (ap (map entity_item) c.into_iter-def-iterator.ensures.into_iter_gives.0
+    ∙ sym (ap declared_entities (c.into_defs-def-items.ensures resolved_reference)
+    ∙ entities_declared InternalName resolved_reference c.into_defs-def-items.result.items))
 
 pub loop-def-preserved : goal.loop-def-preserved
 loop-def-preserved c =

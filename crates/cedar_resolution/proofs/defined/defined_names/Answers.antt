@@ -55,8 +55,9 @@ module _ (c : After-deref) where
   built_in_are =
       let bag = conditional_bag c.args.fragments.now in
       let extensions = c.args.extensions.now in
-      cc (c.in_ok-built_in.ensures, same_aliases bag extensions (held_names c.in_ok-declared.declared)
-          (declared_just c.args.fragments.now c.in_ok-declared.declared c.in_ok-declared.ensures))
+      c.in_ok-built_in.ensures
+      ∙ ap (λ others. built_ins extensions ++ others) (same_aliases bag extensions (held_names c.in_ok-declared.declared)
+      (declared_just c.args.fragments.now c.in_ok-declared.declared c.in_ok-declared.ensures))
 
 pub returns-clause-built_in : goal.returns-clause-built_in
 returns-clause-built_in c = built_in_are ((goal.at.returns-clause-built_in c).After-deref)
