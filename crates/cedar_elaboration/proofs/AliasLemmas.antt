@@ -1,5 +1,5 @@
 -- Built-in types and aliases: none stands twice, and none has an open record.
-use Rattle.std.proofs.Common.{◌⊎◌, not, zero, suc, Bool, true, false, List, [], ◌∷◌, ◌++◌, map, ap, sym, subst, ◌∙◌, inl, inr, ⊎_elim, arith, Contains, cond}
+use Rattle.std.proofs.Common.{◌⊎◌, not, zero, suc, Bool, true, false, List, [], ◌∷◌, ◌++◌, map, ap, sym, subst, ◌∙◌, inl, inr, arith, Contains, cond}
 use Rattle.std.proofs.lemmas.List.{map-append}
 use Rattle.std.proofs.lemmas.List.Elements.{Contains-append_cases}
 use Rattle.std.specs.List.{filter}

@@ -176,8 +176,11 @@ pub resolved_record-split : (it : RecordType InternalName) (done left rest : Ent
     (member (string_bytes name) (out-TypeOfAttribute InternalName attribute).required (attribute_expr attribute) (resolved_members rest)))
     (out-RecordType InternalName it).additional_attributes
 resolved_record-split it done left rest name attribute split is =
-    cc (record_type_expr-entries InternalName resolved_reference it, split, is, resolved_members-append done
-        ((name, attribute) ∷ rest), resolved_members-one name attribute rest)
+    record_type_expr-entries InternalName resolved_reference it
+    ∙ ap (λ members. record_expr members (out-RecordType InternalName it).additional_attributes)
+    (ap resolved_members (split ∙ ap (λ others. done ++ others) is)
+    ∙ (resolved_members-append done ((name, attribute) ∷ rest)
+    ∙ ap (append_members (resolved_members done)) (resolved_members-one name attribute rest)))
 
 -- of a record type some entries are elaborated, and others are left
 pub record ElaboratedSoFar (scope : TypeScope) (it : RecordType InternalName) (items : Items) (left : Entries) : Type 0 where

@@ -10,9 +10,10 @@ use Rattle.cedar_elaboration.proofs.type_scope.TypeScope.extension_type.Goals as
 
 pub returns-then-has_type-clause-ty : goal.returns-then-has_type-clause-ty
 returns-then-has_type-clause-ty c =
-    cc (c.extension.ensures, c.in-Some.ensures.name, extension_name-same (name_of c.new-name.result)
-        (unreserved_id_text c.args.name.now) (c.new-name.ensures.base ∙ (c.into_id.ensures.text ∙
-        c.in_ok-clone.ensures)) (c.new-name.ensures.path ∙ ap (map id_text) c.new.ensures.items))
+    c.extension.ensures ∙ ap extension_of (c.in-Some.ensures.name
+    ∙ extension_name-same (name_of c.new-name.result) (unreserved_id_text c.args.name.now)
+    (c.new-name.ensures.base ∙ (c.into_id.ensures.text ∙ c.in_ok-clone.ensures))
+    (c.new-name.ensures.path ∙ ap (map id_text) c.new.ensures.items))
 
 pub returns-then-has_type-clause-known : goal.returns-then-has_type-clause-known
 returns-then-has_type-clause-known c =
