@@ -209,8 +209,7 @@ module _ (bag : Bag) (extensions : Extensions) (declared : List (EntityType × E
       none.2,
     ),
   )
-  shape_fault name (enumerated ids) among none = absurd none
-  shape_fault name (external parents) among none = absurd none
+  shape_fault name _ among none = absurd none
 
   -- a refusal of parents is a fault of the bag, unless memory ran out
   pub parent_fault : (fault : Fault)

@@ -9,7 +9,7 @@ use Rattle.cedar_declarations.specs.EntityTypeKind.{EntityTypeKind}
 use Rattle.cedar_declarations.specs.Fault.{Fault, shape_not_record, out_of_memory}
 use Rattle.cedar_declarations.specs.Mentions.{HasOpenRecord}
 use Rattle.cedar_declarations.specs.ElaboratesTo.{IsRecordType}
-use Rattle.cedar_names.specs.EntityBody.{EntityBody, standard, external}
+use Rattle.cedar_names.specs.EntityBody.{EntityBody, standard, enumerated, external}
 use Rattle.cedar_names.specs.Expr.{Expr}
 use Rattle.cedar_type_rules.specs.Ty.{Ty, Fields, record_of}
 use Rattle.cedar_type_rules.specs.declared.open_tag.OpenTag.TheVariants.{ClosedAttributes}

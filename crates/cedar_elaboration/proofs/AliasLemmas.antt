@@ -1,5 +1,5 @@
 -- Built-in types and aliases: none stands twice, and none has an open record.
-use Rattle.std.proofs.Common.{◌⊎◌, not, zero, suc, Bool, true, false, List, [], ◌∷◌, ◌++◌, map, ap, sym, subst, ◌∙◌, inl, inr, ⊎_elim, arith, Contains, cond}
+use Rattle.std.proofs.Common.{◌⊎◌, not, zero, suc, Bool, true, false, List, [], ◌∷◌, ◌++◌, map, ap, sym, subst, ◌∙◌, inl, inr, arith, Contains, cond}
 use Rattle.std.proofs.lemmas.List.{map-append}
 use Rattle.std.proofs.lemmas.List.Elements.{Contains-append_cases}
 use Rattle.std.specs.List.{filter}
@@ -61,24 +61,24 @@ defined_twice bag extensions fit name twice =
       | inr (inr both) ↦
           let here = Contains-preimage key front name both.0 in
           let there = Contains-preimage key (aliases bag extensions) name both.1 in
-          let Q : PlainName → Type 0 = λ each. Contains front (each, here.0.1) in
-          absurd (alias_apart bag extensions there.0.0 there.0.1 here.0.1 there.1 (subst Q (here.2 ∙ sym there.2) here.1))
+          let IsInFront : PlainName → Type 0 = λ each. Contains front (each, here.0.1) in
+          absurd (alias_apart bag extensions there.0.0 there.0.1 here.0.1 there.1 (subst IsInFront (here.2 ∙ sym there.2) here.1))
     ]
 
 -- what a built-in base name stands for has no open record
 pub built_in_closed : (extensions : Extensions) (word : Text) (body : Expr)
     → Contains (built_in_types extensions) (word, body) → ¬ HasOpenRecord body
 built_in_closed extensions word body (zero, below, is) is_open =
-    let P : Text × Expr → Type 0 = λ each. HasOpenRecord each.1 in absurd (subst P (sym is) is_open)
+    let IsOpen : Text × Expr → Type 0 = λ each. HasOpenRecord each.1 in absurd (subst IsOpen (sym is) is_open)
 built_in_closed extensions word body (suc zero, below, is) is_open =
-    let P : Text × Expr → Type 0 = λ each. HasOpenRecord each.1 in absurd (subst P (sym is) is_open)
+    let IsOpen : Text × Expr → Type 0 = λ each. HasOpenRecord each.1 in absurd (subst IsOpen (sym is) is_open)
 built_in_closed extensions word body (suc (suc zero), below, is) is_open =
-    let P : Text × Expr → Type 0 = λ each. HasOpenRecord each.1 in absurd (subst P (sym is) is_open)
+    let IsOpen : Text × Expr → Type 0 = λ each. HasOpenRecord each.1 in absurd (subst IsOpen (sym is) is_open)
 built_in_closed extensions word body (suc (suc (suc k)), below, is) is_open =
-    let P : Text × Expr → Type 0 = λ each. HasOpenRecord each.1 in
+    let IsOpen : Text × Expr → Type 0 = λ each. HasOpenRecord each.1 in
     let found = Contains-preimage (λ name. (name.base, extension_expr name.base)) (extension_types extensions)
     (word, body) (k, omega (arith, below), is) in
-    subst P (sym found.2) is_open
+    subst IsOpen (sym found.2) is_open
 
 -- a common type is declared, or stands for what a built-in base name does
 pub declared_or_built_in : (bag : Bag) (extensions : Extensions) (it : PlainName × Expr)
@@ -89,8 +89,8 @@ declared_or_built_in bag extensions it among = elim (common_cases bag extensions
     | inl declared ↦ inl declared
     | inr built_in ↦
         let found = Contains-preimage (λ it. (built_in_name it.0, it.1)) (built_in_types extensions) it built_in in
-        let P : Expr → Type 0 = λ body. Contains (built_in_types extensions) (found.0.0, body) in
-        inr (found.0.0, subst P (ap (λ each. each.1) found.2) found.1)
+        let IsBuiltIn : Expr → Type 0 = λ body. Contains (built_in_types extensions) (found.0.0, body) in
+        inr (found.0.0, subst IsBuiltIn (ap (λ each. each.1) found.2) found.1)
   ]
   | inr alias ↦ inr (it.0.base, (alias_of bag extensions it.0 it.1 alias).0)
 ]

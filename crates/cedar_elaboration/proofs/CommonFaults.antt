@@ -104,8 +104,8 @@ module _ (bag : Bag) (extensions : Extensions) (declared built_in : List (Intern
       elim (declared_or_built_in bag extensions it (same_defined.common it stands)) [
         | inl declared ↦ inr (it.1, common_counts bag it declared, mentions, unqualified, unknown)
         | inr built_in ↦
-            let P : PlainName → Type 0 = Contains (extension_types extensions) in
-            absurd (unknown (subst P (λ i. record { base = name.base; path = sym unqualified i })
+            let IsExtensionType : PlainName → Type 0 = Contains (extension_types extensions) in
+            absurd (unknown (subst IsExtensionType (λ i. record { base = name.base; path = sym unqualified i })
             (known_built_in extensions are.fit built_in.0 it.1 built_in.1 name.base mentions)))
       ]
   common_fault (reserved_name name) (it, stands, (reference, refers, reserved)) =

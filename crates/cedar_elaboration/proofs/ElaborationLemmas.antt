@@ -85,9 +85,9 @@ module _ (items : List (PlainName × Expr)) (entities extensions : List PlainNam
         holds = λ name other among. elim (inserted_cases cmp name_of internal_name_ord-Equal ty_of entries key ty (name, other) among) [
           | inl old ↦ so_far.holds name other old
           | inr new ↦
-              let P : PlainName → Type 0 = λ each. Contains items (each, item.1) in (
+              let Defines : PlainName → Type 0 = λ each. Contains items (each, item.1) in (
                 item.1,
-                subst P (sym same ∙ ap (λ pair. pair.0) new) (Contains-at items item_index item is),
+                subst Defines (sym same ∙ ap (λ pair. pair.0) new) (Contains-at items item_index item is),
                 rw (ap (λ pair. pair.1) new) at elaborated,
               )
         ];
@@ -154,8 +154,8 @@ module _ (items : List (PlainName × Expr)) (entities : List PlainName) {E : Typ
   elaborated_each (Ok types) once holds each = λ name expr among.
       let entry = Contains-preimage (λ it. it.0) (elaborated_types types) name
       (each name (Contains-image (λ it. it.0) items (name, expr) among)) in
-      let P : PlainName → Type 0 = λ it. Contains (elaborated_types types) (it, entry.0.1) in
-      let stands : Contains (elaborated_types types) (name, entry.0.1) = subst P entry.2 entry.1 in
+      let Stands : PlainName → Type 0 = λ it. Contains (elaborated_types types) (it, entry.0.1) in
+      let stands : Contains (elaborated_types types) (name, entry.0.1) = subst Stands entry.2 entry.1 in
       let elaborated = holds name entry.0.1 stands in
       let same : elaborated.0 ≡ expr = value_once items once name elaborated.0 expr elaborated.1 among in
       (entry.0.1, stands, rw same at elaborated.2)

@@ -107,9 +107,9 @@ NumberedSoFar-more names entries key name item_index same next absent so_far =
         sound = λ each at among. elim (inserted_cases cmp name_of internal_name_ord-Equal (λ it. it) entries key item_index (each, at) among) [
           | inl old ↦ slice_get-front names (name ∷ []) at each (so_far.numbered.sound each at old)
           | inr new ↦
-              let R : ℕ → Type 0 = λ k. slice_get (names ++ name ∷ []) k ≡ Some each in
+              let StandsAt : ℕ → Type 0 = λ k. slice_get (names ++ name ∷ []) k ≡ Some each in
               let it : name ≡ each = sym same ∙ ap (λ pair. pair.0) new in
-              subst R (sym next ∙ ap (λ pair. pair.1) new) (slice_get-next names [] name ∙ ap Some it)
+              subst StandsAt (sym next ∙ ap (λ pair. pair.1) new) (slice_get-next names [] name ∙ ap Some it)
         ];
       };
       once = λ each twice. elim (Twice-append names (name ∷ []) each twice) [

@@ -79,18 +79,18 @@ module _ {Z : Type 0} (items : List (PlainName × Expr)) (indices : List (PlainN
             let stands : slice_get (item_names items) j ≡ Some other = numbered.sound other j it.2.3 in
             let in_names : Contains (item_names items) other = Contains-at (item_names items) j other stands in
             let body = Contains-preimage (λ each. each.0) items other in_names in
-            let Q : PlainName → Type 0 = λ each. Contains items (each, body.0.1) in
-            let R : PlainName → Type 0 = λ each. Contains items (each, item.0.1) in (
+            let DefinesBody : PlainName → Type 0 = λ each. Contains items (each, body.0.1) in
+            let DefinesItem : PlainName → Type 0 = λ each. Contains items (each, item.0.1) in (
               other,
               stands,
               (
                 item.0.1,
                 reference,
                 body.0.1,
-                subst R item.2 (Contains-at items i item.0 item.1),
+                subst DefinesItem item.2 (Contains-at items i item.0 item.1),
                 it.1,
                 rw it.2.2 (inl (refl, inl (may, in_names))),
-                (may, subst Q body.2 body.1),
+                (may, subst DefinesBody body.2 body.1),
               ),
             )
       ]

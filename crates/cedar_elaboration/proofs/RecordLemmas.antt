@@ -283,8 +283,8 @@ module _ (scope : TypeScope) (it : RecordType InternalName) (items : Items) (lef
       let all = entries_of it in
       let plain : List (Text × (Bool × Expr)) =
       map (λ entry. (string_bytes entry.0, flag_and_expr InternalName resolved_reference entry.1)) all in
-      let P : Entries → Type 0 = λ entries. MembersElaborateTo defined (resolved_members entries) (fields_from (plain_attributes items)) in
-      let elaborated : P all = rw ElaboratedSoFar-done at (so_far.elaborated defined knows) in
+      let Elaborates : Entries → Type 0 = λ entries. MembersElaborateTo defined (resolved_members entries) (fields_from (plain_attributes items)) in
+      let elaborated : Elaborates all = rw ElaboratedSoFar-done at (so_far.elaborated defined knows) in
       let names : field_names (fields_from (plain_attributes items)) ≡ map string_bytes (keys_of all) =
       MembersElaborateTo-names defined plain elaborated
       ∙ (map-map (λ item. item.0) (λ entry. (string_bytes entry.0, flag_and_expr InternalName resolved_reference entry.1)) all

@@ -72,8 +72,8 @@ module _ (defined : Defined) (scope : TypeScope) (kind : ReferenceType) (name : 
       elim (rw (← same) at is_defined) [
         | inl common ↦
             let it = Contains-preimage (λ each. each.0) defined.common name common.1 in
-            let Q : PlainName → Type 0 = λ each. Contains defined.common (each, it.0.1) in
-            no_common absent it.0.1 (common.0, subst Q it.2 it.1)
+            let Defines : PlainName → Type 0 = λ each. Contains defined.common (each, it.0.1) in
+            no_common absent it.0.1 (common.0, subst Defines it.2 it.1)
         | inr entity ↦ no_entity entity.0 ((knows.entities name).0 entity.1)
       ]
 

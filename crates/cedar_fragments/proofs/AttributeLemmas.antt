@@ -1,7 +1,7 @@
 -- The ids of actions that are written with attributes.
 use Rattle.std.specs.Cmp.{unsigned_Decides}
 use Rattle.std.specs.declared.vec.Vec.{Vec}
-use Rattle.std.proofs.Common.{vec_len, ◌==◌, eq-eqb, ◌≡◌, ◌≢◌, length, ◌⊎◌, ◌↔◌, Bool, true, false, List, [], ◌∷◌, ◌++◌, map, ap, sym, subst, ◌∙◌, refl, inl, inr, ⊎_elim, append_assoc, Contains, Option, None, Some, string_bytes, arith}
+use Rattle.std.proofs.Common.{vec_len, ◌==◌, eq-eqb, ◌≡◌, ◌≢◌, length, ◌⊎◌, ◌↔◌, Bool, true, false, List, [], ◌∷◌, ◌++◌, map, ap, sym, subst, ◌∙◌, refl, inl, inr, append_assoc, Contains, Option, None, Some, string_bytes, arith}
 use Rattle.std.proofs.lemmas.Bool.{false≢true}
 use Rattle.std.proofs.lemmas.List.{append-nil, map-append}
 use Rattle.std.proofs.lemmas.List.Elements.{Contains-append_left, Contains-append_right, Contains-append_cases}
@@ -133,8 +133,8 @@ ids_exact namespace entries id = (
       let found = listed_action entries id among in
       let bag = action_declarations RawName (raw_reference namespace) namespace entries in
       let body = action_body RawName (raw_reference namespace) namespace found.0.1 in
-      let P : Text → Type 0 = λ each. Contains bag (record { namespace = namespace; id = each; body = action body }) in
-      (body, subst P found.3 (Contains-image _ entries found.0 found.1), found.2),
+      let Declares : Text → Type 0 = λ each. Contains bag (record { namespace = namespace; id = each; body = action body }) in
+      (body, subst Declares found.3 (Contains-image _ entries found.0 found.1), found.2),
   λ has.
       let found = Contains-preimage _ entries _ has.1 in
       rw (ap (λ (it : Declaration). it.id) found.2) at

@@ -1,5 +1,5 @@
 -- Definitions of a fragment that are made one after another.
-use Rattle.std.proofs.Common.{◌≡◌, List, ◌∷◌, ◌++◌, Contains, Option, sym, subst, ◌∙◌, refl, arith, ap}
+use Rattle.std.proofs.Common.{◌≡◌, List, ◌∷◌, ◌++◌, Contains, Option, refl, arith, ap}
 use Rattle.std.proofs.lemmas.List.Elements.{Contains-append_right}
 use Rattle.std.specs.List.{AllByRecursion}
 use Rattle.cedar_below.specs.declared.name.Name.{Name}

@@ -1,5 +1,5 @@
 -- Refusals that name the actions with attributes of a definition.
-use Rattle.std.proofs.Common.{◌≡◌, ◌⊎◌, List, [], ◌∷◌, Option, Contains, arith, subst, sym, ⊎_elim, inl, inr}
+use Rattle.std.proofs.Common.{◌≡◌, ◌⊎◌, List, [], ◌∷◌, Option, Contains, arith, inl, inr}
 use Rattle.std.specs.Option.{option_map}
 use Rattle.cedar_below.proofs.Lists.{Contains-cons_cases}
 use Rattle.cedar_below.specs.Lists.{Included}

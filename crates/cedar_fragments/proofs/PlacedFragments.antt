@@ -1,5 +1,5 @@
 -- The references of fragments fit their positions.
-use Rattle.std.proofs.Common.{◌≡◌, List, ◌++◌, Option, None, Some, map, ap, sym, subst, ⊎_elim, ◌∙◌, arith, Contains, inl, inr}
+use Rattle.std.proofs.Common.{◌≡◌, List, ◌++◌, Option, None, Some, map, ap, sym, ◌∙◌, arith, Contains, inl, inr}
 use Rattle.std.proofs.lemmas.List.Elements.{Contains-append_cases}
 use Rattle.std.specs.List.{flat_map}
 use Rattle.cedar_below.proofs.Lists.{Contains-preimage}

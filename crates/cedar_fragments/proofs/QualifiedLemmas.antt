@@ -1,5 +1,5 @@
 -- Types and references that are resolved one after another.
-use Rattle.std.proofs.Common.{◌≡◌, Bool, List, [], ◌∷◌, ◌++◌, map, ap, sym, subst, ◌∙◌, refl, inl, inr, ⊎_elim, Contains, string_bytes, arith}
+use Rattle.std.proofs.Common.{◌≡◌, Bool, List, [], ◌∷◌, ◌++◌, map, ap, sym, subst, refl, inl, inr, Contains, string_bytes, arith}
 use Rattle.std.specs.declared.alloc.Global.{Global}
 use Rattle.std.specs.declared.string.String.{String}
 use Rattle.cedar_below.proofs.Lists.{Contains-cons_cases}
@@ -7,7 +7,7 @@ use Rattle.cedar_below.specs.Lists.{HoldsPairwise}
 use Rattle.cedar_below.specs.InternalName.{name_of}
 use Rattle.cedar_below.specs.declared.internal_name.InternalName.{InternalName}
 use Rattle.cedar_declarations.specs.Mentions.{Refers, MembersRefer}
-use Rattle.cedar_declarations.specs.Names.{Names, ResolvesTo, IsUnresolved}
+use Rattle.cedar_declarations.specs.Names.{Names, ResolvesTo}
 use Rattle.cedar_declarations.specs.Resolved.{Resolves, ResolvesMembers, resolves_record, resolves_named, resolves_no_member, resolves_member}
 use Rattle.cedar_declarations.specs.ResolvedExpr.{resolved_reference, resolved_expr, resolved_record}
 use Rattle.cedar_fragments.proofs.Pairwise.{SameKey}
@@ -40,8 +40,8 @@ module _ (names : Names) where
       → IsRefused names reference refused → IsRefusedAmong names P refused
   refused_one P reference holds (error.TypeNotDefined it) alone =
       λ other there.
-      let Q : List Reference → Type 0 = λ each. Contains each other in
-      elim (Contains-cons_cases reference [] other (subst Q alone.1 there)) [
+      let Has : List Reference → Type 0 = λ each. Contains each other in
+      elim (Contains-cons_cases reference [] other (subst Has alone.1 there)) [
         | inl same ↦ rw (← same) (holds, alone.0)
         | inr none ↦ absurd (omega (arith, none.1))
       ]
@@ -65,20 +65,20 @@ module _ (names : Names) where
       let there = flag_and_expr-parts InternalName resolved_reference other.1 in
       let before = members_from (map (λ each. (string_bytes each.0, positional_attribute each.1)) written) in
       let after = members_from (map (λ each. (string_bytes each.0, flag_and_expr InternalName resolved_reference each.1)) resolved) in
-      let P : Bool × Expr → Type 0 = λ each.
+      let MemberFrom : Bool × Expr → Type 0 = λ each.
       ResolvesMembers names (member (string_bytes entry.0) each.0 each.1 before)
       (member (string_bytes other.0) (flag_and_expr InternalName resolved_reference other.1).0
       (flag_and_expr InternalName resolved_reference other.1).1 after) in
-      let Q : Bool × Expr → Type 0 = λ each.
+      let MemberTo : Bool × Expr → Type 0 = λ each.
       ResolvesMembers names (member (string_bytes entry.0) (out-TypeOfAttribute ConditionalName entry.1).required
       (positional_expr (out-TypeOfAttribute ConditionalName entry.1).ty) before) (member (string_bytes other.0) each.0 each.1 after) in
-      let S : String Global × Bool → Type 0 = λ each.
+      let MemberNamed : String Global × Bool → Type 0 = λ each.
       ResolvesMembers names (member (string_bytes entry.0) (out-TypeOfAttribute ConditionalName entry.1).required
       (positional_expr (out-TypeOfAttribute ConditionalName entry.1).ty) before)
       (member (string_bytes each.0) each.1 (resolved_expr (out-TypeOfAttribute InternalName other.1).ty) after) in
-      subst P (sym here)
-      (subst Q (sym there)
-      (subst S (λ i. (turn.0.0 i, turn.0.1.0 i)) (resolves_member (string_bytes entry.0) (out-TypeOfAttribute ConditionalName entry.1).required turn.0.1.1 rest)))
+      subst MemberFrom (sym here)
+      (subst MemberTo (sym there)
+      (subst MemberNamed (λ i. (turn.0.0 i, turn.0.1.0 i)) (resolves_member (string_bytes entry.0) (out-TypeOfAttribute ConditionalName entry.1).required turn.0.1.1 rest)))
   resolved_members _ _ turn = absurd turn
 
   -- a record type that is made of attributes

@@ -1,5 +1,5 @@
 -- The first possibility that is defined.
-use Rattle.std.proofs.Common.{◌≡◌, ℕ, ◌+◌, ◌<◌, ◌≤◌, List, [], ◌∷◌, ◌++◌, map, ap, sym, subst, ◌∙◌, refl, inl, inr, length, get_or, take, drop, Contains, drop-cons, suc}
+use Rattle.std.proofs.Common.{◌≡◌, ℕ, ◌+◌, ◌<◌, ◌≤◌, List, [], ◌∷◌, ◌++◌, map, ap, sym, ◌∙◌, refl, inl, inr, length, get_or, take, drop, Contains, drop-cons, suc}
 use Rattle.std.proofs.lemmas.List.{get_or_default, map-append, map_more, take_all, take-append-drop}
 use Rattle.std.specs.List.{AllByRecursion}
 use Rattle.cedar_declarations.specs.Occurrences.{IsFirst}

@@ -1,5 +1,5 @@
 -- Bags that are resolved part by part.
-use Rattle.std.proofs.Common.{List, [], ◌∷◌, ◌++◌, map, sym, subst, inl, inr, ⊎_elim, Contains, arith}
+use Rattle.std.proofs.Common.{List, [], ◌∷◌, ◌++◌, map, inl, inr, Contains, arith}
 use Rattle.std.proofs.lemmas.List.Elements.{Contains-append_cases}
 use Rattle.std.specs.List.{flat_map}
 use Rattle.cedar_below.proofs.Lists.{Contains-preimage}

@@ -1,5 +1,5 @@
 -- Sets of names and of uids, by what they stand for.
-use Rattle.std.proofs.Common.{◌≡◌, ◌⊎◌, ◌↔◌, true, Option, Some, None, IfSome, is_some, List, [], ◌∷◌, ◌++◌, map, ap, sym, subst, ◌∙◌, refl, inl, inr, ⊎_elim, Contains, arith, ℕ, ◌+◌, ◌<◌, ◌≤◌, length, get_or, take, append_assoc}
+use Rattle.std.proofs.Common.{◌≡◌, ◌⊎◌, ◌↔◌, true, Option, Some, None, IfSome, is_some, List, [], ◌∷◌, ◌++◌, map, ap, sym, ◌∙◌, refl, inl, inr, Contains, arith, ℕ, ◌+◌, ◌<◌, ◌≤◌, length, get_or, take, append_assoc}
 use Rattle.std.proofs.lemmas.Bool.{false≢true}
 use Rattle.std.proofs.lemmas.List.{map_more, take_more, take_all, flat_map_more, map-append, append-nil}
 use Rattle.std.proofs.lemmas.List.Elements.{Contains-append_left, Contains-append_right, Contains-append_cases}

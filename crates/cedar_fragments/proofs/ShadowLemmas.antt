@@ -1,5 +1,5 @@
 -- Names that would shadow others.
-use Rattle.std.proofs.Common.{◌≡◌, ◌⊎◌, Bool, true, false, List, [], ◌∷◌, ◌++◌, None, Some, map, ap, sym, subst, ◌∙◌, refl, inl, inr, ⊎_elim, append_assoc, Contains, string_bytes, arith, cond}
+use Rattle.std.proofs.Common.{◌≡◌, ◌⊎◌, Bool, true, false, List, [], ◌∷◌, ◌++◌, None, Some, map, ap, sym, subst, ◌∙◌, refl, inl, inr, append_assoc, Contains, string_bytes, arith, cond}
 use Rattle.std.proofs.lemmas.Bool.{false≢true}
 use Rattle.std.proofs.lemmas.List.{append-nil, map-append}
 use Rattle.std.proofs.lemmas.List.Elements.{Contains-append_right, Contains-append_cases}
@@ -118,13 +118,13 @@ pub PlainSoFar-listed : (all left rest : List EntityUID) (entries more : Entries
     → left ≡ x ∷ rest → IsUnqualified (uid_of x).ty → uid_of copy ≡ uid_of x → string_bytes id ≡ (uid_of x).eid
     → more ≡ insert_entry string_cmp entries id copy → PlainSoFar all entries left → PlainSoFar all more rest
 PlainSoFar-listed all left rest entries more x copy id is plain same named pushed so_far =
-    let P : Entries → Type 0 = λ each. PlainSoFar all each rest in
-    let Q : PlainUid → Type 0 = IsPlainAction (map uid_of all) (string_bytes id) in
-    subst P (sym pushed) (record {
+    let IsSoFar : Entries → Type 0 = λ each. PlainSoFar all each rest in
+    let IsPlain : PlainUid → Type 0 = IsPlainAction (map uid_of all) (string_bytes id) in
+    subst IsSoFar (sym pushed) (record {
       done = so_far.done ++ x ∷ [];
       split = so_far.split ∙ (ap (λ others. so_far.done ++ others) is ∙ sym (append_assoc so_far.done (x ∷ []) rest));
       each = plain_inserted (map uid_of all) entries id copy so_far.each
-          (subst Q (sym same) (left_among all so_far.done left rest x so_far.split is, plain, sym named));
+          (subst IsPlain (sym same) (left_among all so_far.done left rest x so_far.split is, plain, sym named));
       listed = λ uid among unqualified. ids_inserted entries id copy uid.eid
           (elim (done_cases so_far.done x uid among) [
             | inl here ↦ inl (so_far.listed uid here unqualified)

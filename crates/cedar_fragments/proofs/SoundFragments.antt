@@ -31,16 +31,16 @@ module _ (N : Type 0) (refer : ReferenceType → N → Reference) (A : Type 0) (
   -- an entity type of a definition is no type of actions, and its name isn't reserved
   entity_sound : (def : EntityTypeDef N) → IsSound (entity_type_declaration N refer def)
   entity_sound def =
-      let P : PlainName → Type 0 = λ name. (¬ IsActionType name) × ¬ Contains name.path reserved_word in
-      subst P (sym (name_declared (type_name def.name) (entity_type (fragment_body N refer def.fragment))))
+      let IsSoundName : PlainName → Type 0 = λ name. (¬ IsActionType name) × ¬ Contains name.path reserved_word in
+      subst IsSoundName (sym (name_declared (type_name def.name) (entity_type (fragment_body N refer def.fragment))))
       (def.no_action, λ among. (IsName-type_name def.name).2 (inr among))
 
   -- an action of a definition has no attributes, and the name of its type isn't reserved
   action_sound : (def : ActionDef N A) → IsSound (action_fragment_declaration N refer A refer_action def)
   action_sound def =
-      let P : PlainUid → Type 0 = λ uid. ¬ Contains uid.ty.path reserved_word in (
+      let IsSoundUid : PlainUid → Type 0 = λ uid. ¬ Contains uid.ty.path reserved_word in (
         refl,
-        subst P (sym (uid_declared (uid_of def.uid) (action (action_fragment_body N refer A refer_action def.fragment)) def.is_action))
+        subst IsSoundUid (sym (uid_declared (uid_of def.uid) (action (action_fragment_body N refer A refer_action def.fragment)) def.is_action))
             (λ among. (IsName-type_name def.uid.ty).2 (inr among)),
       )
 

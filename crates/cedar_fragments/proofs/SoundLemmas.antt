@@ -1,5 +1,5 @@
 -- Declarations that give cause for a refusal whatever else is declared, and those that give none.
-use Rattle.std.proofs.Common.{◌≡◌, ◌≢◌, ◌⊎◌, List, [], ◌∷◌, ◌++◌, map, sym, subst, ◌∙◌, refl, inl, inr, ⊎_elim, Contains, Option, arith}
+use Rattle.std.proofs.Common.{◌≡◌, ◌≢◌, ◌⊎◌, List, [], ◌∷◌, ◌++◌, sym, ◌∙◌, refl, inl, inr, Contains, Option, arith}
 use Rattle.std.proofs.lemmas.Bool.{false≢true}
 use Rattle.std.specs.List.{AllByRecursion}
 use Rattle.cedar_below.proofs.Lists.{Contains-cons_cases, Contains-preimage}
@@ -15,7 +15,7 @@ use Rattle.cedar_declarations.specs.Fault.{Fault, action_attributes, action_enti
 use Rattle.cedar_declarations.specs.IllFormed.{HasAttributes}
 use Rattle.cedar_fragments.specs.DefinitionFault.{IsDefinitionFault, HasNoDefinitionFault, NamesNoAttributes, GivesNoCause, IsSound}
 use Rattle.cedar_names.specs.ActionBody.{ActionBody}
-use Rattle.cedar_names.specs.Declaration.{Declaration, Body, entity_type, action, common_declarations}
+use Rattle.cedar_names.specs.Declaration.{Declaration, entity_type, action, common_declarations}
 use Rattle.cedar_names.specs.EntityBody.{EntityBody}
 use Rattle.cedar_names.specs.RawExpr.{raw_reference}
 use Rattle.cedar_names.specs.Reference.{name_within, path_within}

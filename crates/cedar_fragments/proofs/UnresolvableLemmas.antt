@@ -1,5 +1,5 @@
 -- What can't be resolved in a part can't be in the whole.
-use Rattle.std.proofs.Common.{◌≡◌, List, [], ◌∷◌, map, ap, sym, subst, ◌∙◌, refl, inl, inr, ⊎_elim, Contains}
+use Rattle.std.proofs.Common.{◌≡◌, List, [], ◌∷◌, map, ap, ◌∙◌, refl, inl, inr, Contains}
 use Rattle.cedar_below.proofs.Lists.{Contains-preimage}
 use Rattle.cedar_below.specs.EntityUID.{uid_of}
 use Rattle.cedar_below.specs.InternalName.{name_of}
@@ -101,6 +101,6 @@ module _ (names : Names) (references : List ConditionalName) (resolved : List In
       let item = Contains-preimage (resolved_reference Entity) resolved found.0 found.1 in
       let same : name_of item.0 ≡ found.2.0 = same_name Entity reference.kind (name_of item.0) found.2.0 (item.2 ∙ found.2.2) in
       let one : name ≡ found.2.0 = IsFirst-same (IsDefined names reference.kind) reference.possibilities name found.2.0 resolves found.2.1 in
-      let P : PlainName → Type 0 = λ each. ¬ IsReserved each in
+      let IsFree : PlainName → Type 0 = λ each. ¬ IsReserved each in
       rw (one, ← same)
-      (AllByRecursion-at P (map name_of resolved) (name_of item.0) unreserved (Contains-image name_of resolved item.0 item.1))
+      (AllByRecursion-at IsFree (map name_of resolved) (name_of item.0) unreserved (Contains-image name_of resolved item.0 item.1))

@@ -19,8 +19,7 @@ borrowed_shown shows references values same = sym (map-map shows deref reference
 pub borrowed_more : {A B : Type 0} (shows : A → B) (old added new : List (Bor A)) (values : List A) → new ≡ old ++ added
     → map deref added ≡ values → map (borrowed shows) new ≡ map (borrowed shows) old ++ map shows values
 borrowed_more shows old added new values is same =
-    ap (map (borrowed shows)) is ∙ (map-append (borrowed shows) old added
-    ∙ ap (λ items. map (borrowed shows) old ++ items) (borrowed_shown shows added values same))
+    cc (is, map-append (borrowed shows) old added, borrowed_shown shows added values same)
 
 module _ {A B C : Type 0} (shows : A → B) (reads : C → B) (all : List B) (items : List (Bor A)) (left : List C)
     (so_far : map (borrowed shows) items ++ map reads left ≡ all) where

@@ -12,11 +12,7 @@ module _ {A B C : Type 0} (g : B → C) (h : A → C) where
   pub add_next : (made pushed : List B) (left rest : List A) (x : A) (y : B) (whole : List C) → left ≡ x ∷ rest → pushed ≡ made ++ y ∷ []
       → g y ≡ h x → map g made ++ map h left ≡ whole → map g pushed ++ map h rest ≡ whole
   add_next made pushed left rest x y whole is grown one so_far =
-      ap (λ items. map g items ++ map h rest) grown
-      ∙ (ap (λ front. front ++ map h rest) (map-append g made (y ∷ []))
-      ∙ (append_assoc (map g made) (g y ∷ []) (map h rest)
-      ∙ (ap (λ shown. map g made ++ shown ∷ map h rest) one
-      ∙ (ap (λ items. map g made ++ map h items) (sym is) ∙ so_far))))
+      cc (grown, map-append g made (y ∷ []), append_assoc (map g made) (g y ∷ []) (map h rest), one, is, so_far)
 
   -- where none is left, all are put
   pub add_all : (made : List B) (left : List A) (whole : List C) → left ≡ [] → map g made ++ map h left ≡ whole → map g made ≡ whole

@@ -32,9 +32,7 @@ pub record CollectsTogether (before : Declarations) (whole : Bag) (made : Declar
 next_read : {P : Type 0} (read : Declaration → List P) (made after others : List P) (bag rest : Bag) → after ≡ made ++ flat_map read bag
     → made ++ flat_map read (bag ++ rest) ≡ others → after ++ flat_map read rest ≡ others
 next_read read made after others bag rest is so_far =
-    ap (λ front. front ++ flat_map read rest) is
-    ∙ (append_assoc made (flat_map read bag) (flat_map read rest)
-    ∙ (ap (λ more. made ++ more) (sym (flat_map-append read bag rest)) ∙ so_far))
+    cc (is, append_assoc made (flat_map read bag) (flat_map read rest), flat_map-append read bag rest, so_far)
 
 module _ {X : Type 0} (f : X → Bag) (before : Declarations) where
   -- at first all are left

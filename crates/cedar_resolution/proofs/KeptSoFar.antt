@@ -27,9 +27,7 @@ module _ {A B C : Type 0} (p : C → Bool) (f : A → C) (g : C → B) where
   kept_more : (done : List A) (x : A) → map g (filter p (map f (done ++ x ∷ [])))
       ≡ map g (filter p (map f done)) ++ map g (filter p (f x ∷ []))
   kept_more done x =
-      ap (λ items. map g (filter p items)) (map-append f done (x ∷ []))
-      ∙ (ap (map g) (filter-append p (map f done) (f x ∷ []))
-      ∙ map-append g (filter p (map f done)) (filter p (f x ∷ [])))
+      cc (map-append f done (x ∷ []), filter-append p (map f done) (f x ∷ []), map-append g (filter p (map f done)) (filter p (f x ∷ [])))
 
   -- at first none is done
   pub KeptSoFar-none : (all left : List A) (made : List B) → all ≡ left → made ≡ [] → KeptSoFar p f g all made left

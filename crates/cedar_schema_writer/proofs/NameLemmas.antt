@@ -116,9 +116,7 @@ pub front_and_last : (ids : List Id) (base : Id) → 1 ≤ length ids → base �
 front_and_last ids base some is =
     let count : length ids - 1 + 1 ≡ length ids = omega arith in
     let within : length ids - 1 < length ids = omega arith in
-    ap (map id_text) (sym (ap (λ n. take n ids) count ∙ take-length ids))
-    ∙ (map_more id_text ids (length ids - 1) base within
-    ∙ ap (λ last. map id_text (take (length ids - 1) ids) ++ id_text last ∷ []) (sym is))
+    cc (count, take-length ids, map_more id_text ids (length ids - 1) base within, is)
 
 -- what is found has the path of the name that it stands for
 pub found_path : (found : Option Name) (name : PlainName) → IsSome found → IfSome found (λ kept. plain_name kept ≡ name)

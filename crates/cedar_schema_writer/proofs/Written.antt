@@ -33,8 +33,7 @@ module _ {A : Type 0} (P : A → Type 0) (all : List A) where
     -- one more is written
     pub written_more : (pushed : List A) → pushed ≡ written ++ x ∷ [] → P x → WrittenSoFar P all pushed rest
     written_more pushed grown here = record {
-      split = so_far.split ∙ (ap (λ others. written ++ others) is ∙ (sym (append_assoc written (x ∷ []) rest)
-          ∙ ap (λ items. items ++ rest) (sym grown)));
+      split = cc (so_far.split, is, append_assoc written (x ∷ []) rest, grown);
       sound = λ y among.
           elim (Contains-append_cases written (x ∷ []) y (rw grown at among)) [
             | inl before ↦ so_far.sound y before

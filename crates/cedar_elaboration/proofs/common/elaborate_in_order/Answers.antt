@@ -19,8 +19,8 @@ within : (c : After-row_known-1) → get_or c.args.order.now c.loop-item_index.i
 within c =
     let order = c.args.order.now in
     let item_index = get_or order c.loop-item_index.item_index-index 0 in
-    let P : ℕ → Type 0 = λ each. item_index < each in
-    subst P (length-map c.args.declared.now (λ it. (name_of it.0, resolved_expr it.1)))
+    let IsWithin : ℕ → Type 0 = λ each. item_index < each in
+    subst IsWithin (length-map c.args.declared.now (λ it. (name_of it.0, resolved_expr it.1)))
     ((c.requires.indices item_index).0 (Contains-get_or order c.loop-item_index.item_index-index 0 c.loop-item_index-test.true))
 
 pub bounds-declared-item_index : goal.bounds-declared-item_index

@@ -28,8 +28,8 @@ within : (c : In-Cycle) → c.in-Cycle.item_index < length c.args.declared.now
 within c =
     let chain = rw c.in-Cycle.is at c.in_ok-order.ensures in
     let step = last_step (LeadsTo c.in_ok-targets.targets.items) c.in-Cycle.item_index c.in-Cycle.item_index chain in
-    let P : ℕ → Type 0 = λ each. c.in-Cycle.item_index < each in
-    subst P (sym (as_many (collected_common c.args.declared.now) (indexed_names c.in_ok-indices.indices) c.in_ok-targets.targets.items
+    let IsWithin : ℕ → Type 0 = λ each. c.in-Cycle.item_index < each in
+    subst IsWithin (sym (as_many (collected_common c.args.declared.now) (indexed_names c.in_ok-indices.indices) c.in_ok-targets.targets.items
     c.in_ok-indices.ensures.indices c.in_ok-targets.ensures)
     ∙ length-map c.args.declared.now (λ it. (name_of it.0, resolved_expr it.1))) step.1.1
 

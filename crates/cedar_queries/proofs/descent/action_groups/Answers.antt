@@ -1,4 +1,3 @@
-use Rattle.std.proofs.Common.{ap, map, ◌∙◌}
 use Rattle.cedar_schema_elements.specs.ValidatorActionId.{action_of}
 use Rattle.cedar_below.specs.EntityUID.{uid_of}
 use Rattle.cedar_queries.proofs.SelectedLemmas.{keys_where-map}
@@ -7,5 +6,4 @@ use Rattle.cedar_queries.proofs.descent.action_groups.Goals as goal
 
 pub returns : goal.returns
 returns c =
-    ap (map uid_of) c.new.ensures
-    ∙ keys_where-map uid_of action_of (λ it. is_nonempty it.descendants) c.args.actions.now.entries
+    cc (c.new.ensures, keys_where-map uid_of action_of (λ it. is_nonempty it.descendants) c.args.actions.now.entries)

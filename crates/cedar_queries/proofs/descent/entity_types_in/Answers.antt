@@ -26,8 +26,7 @@ returns-clause-names c =
           ∙ (ap (map (borrowed type_name)) c.new-names.ensures.items
           ∙ sym (descendants_none c.args.types.now c.args.ty.now (sym w.in_default.ensures.value)))
     ] in
-    ap (map (borrowed type_name)) c.in_ok-push.ensures.items
-    ∙ (map-append (borrowed type_name) c.match-get.names.items (c.args.ty ∷ []) ∙ ap (λ names. names ++ name ∷ []) before)
+    cc (c.in_ok-push.ensures.items, map-append (borrowed type_name) c.match-get.names.items (c.args.ty ∷ []), before)
 
 pub returns-clause-once : goal.returns-clause-once
 returns-clause-once c = elim c.match-get.branch [

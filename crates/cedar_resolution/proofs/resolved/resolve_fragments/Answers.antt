@@ -35,29 +35,29 @@ returns-in_err-defs-clause-fault c =
 pub returns-in_err-fragments-clause-fault : goal.returns-in_err-fragments-clause-fault
 returns-in_err-fragments-clause-fault c =
     let found = fault_of c.in_err-fragments.field-0.0 in
-    let P : Fragments → Type 0 = Defines c.in_ok-defs.field-0.defs c.args.extensions.now in
+    let DefinesAll : Fragments → Type 0 = Defines c.in_ok-defs.field-0.defs c.args.extensions.now in
     exit_holds _ _ _ c.from_residual-in_err-fragments.ensures.1
     (resolution_fault c.args.fragments.items c.args.extensions.now (held_names c.in_ok-defs.field-0.defs)
-    (subst P c.deref.ensures.value c.in_ok-defs.ensures.names) found c.in_err-fragments.ensures.fault)
+    (subst DefinesAll c.deref.ensures.value c.in_ok-defs.ensures.names) found c.in_err-fragments.ensures.fault)
 
 pub returns-clause-resolved : goal.returns-clause-resolved
 returns-clause-resolved c =
     let bag = conditional_bag c.args.fragments.items in
-    let P : Fragments → Type 0 = Defines c.in_ok-defs.field-0.defs c.args.extensions.now in
+    let DefinesAll : Fragments → Type 0 = Defines c.in_ok-defs.field-0.defs c.args.extensions.now in
     bag_alike (held_names c.in_ok-defs.field-0.defs) (defined_names bag c.args.extensions.now)
-    (subst P c.deref.ensures.value c.in_ok-defs.ensures.names) bag
+    (subst DefinesAll c.deref.ensures.value c.in_ok-defs.ensures.names) bag
     (flat_map resolved_fragment c.in_ok-fragments.fragments.items) c.in_ok-fragments.ensures.resolved
 
 pub returns-clause-names : goal.returns-clause-names
 returns-clause-names c =
-    let P : Fragments → Type 0 = Defines c.in_ok-defs.field-0.defs c.args.extensions.now in
-    subst P c.deref.ensures.value c.in_ok-defs.ensures.names
+    let DefinesAll : Fragments → Type 0 = Defines c.in_ok-defs.field-0.defs c.args.extensions.now in
+    subst DefinesAll c.deref.ensures.value c.in_ok-defs.ensures.names
 
 pub returns-clause-built_in : goal.returns-clause-built_in
 returns-clause-built_in c =
-    let P : Fragments → Type 0 = λ fragments. collected_common c.in_ok-defs.field-0.built_in.items
+    let HoldsCommon : Fragments → Type 0 = λ fragments. collected_common c.in_ok-defs.field-0.built_in.items
     ≡ built_ins c.args.extensions.now ++ aliases (conditional_bag fragments) c.args.extensions.now in
-    subst P c.deref.ensures.value c.in_ok-defs.ensures.built_in
+    subst HoldsCommon c.deref.ensures.value c.in_ok-defs.ensures.built_in
 
 pub returns-clause-no_type_shadows : goal.returns-clause-no_type_shadows
 returns-clause-no_type_shadows c =

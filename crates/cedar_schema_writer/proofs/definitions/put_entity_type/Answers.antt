@@ -1,10 +1,9 @@
-use Rattle.std.proofs.Common.{◌≡◌, ◌++◌, None, ap, map, sym, ◌∙◌}
+use Rattle.std.proofs.Common.{◌≡◌, ◌++◌, None, map}
 use Rattle.std.proofs.lemmas.List.Elements.{Contains-append_left, Contains-append_right}
 use Rattle.std.proofs.lemmas.Map.Views.{All-values-insert_entry}
 use Rattle.std.specs.BTreeMap.{insert_entry, is_at}
 use Rattle.std.specs.Map.{lookup}
 use Rattle.std.specs.Option.{option_cmp}
-use Rattle.std.specs.Ordering.{is_eq}
 use Rattle.cedar_below.proofs.Texts.{text_cmp-Equal}
 use Rattle.cedar_below.specs.contracts.name.NameOrd.TheImpl as name_ord
 use Rattle.cedar_declarations.proofs.OccurrenceLemmas.{Contains-image}
@@ -46,8 +45,7 @@ returns-clause-put c =
     let absent : lookup (is_at ((id_ord.ghosts).cmp id)) entries ≡ None =
     absent_key (is_at ((id_ord.ghosts).cmp id)) entries (λ key value tie there.
     let text : unreserved_id_text id ≡ unreserved_id_text key =
-    (text_cmp-Equal (unreserved_id_text id) (unreserved_id_text key)).0 (tied _ (sym (ap is_eq
-    (unreserved_id_ord-text_cmp id key)) ∙ tie)) in
+    (text_cmp-Equal (unreserved_id_text id) (unreserved_id_text key)).0 (tied _ (cc (unreserved_id_ord-text_cmp id key, tie))) in
     fresh (raw_entity_body namespace value) (rw text (was_declared old taken new c.args.namespace definition changed item was (show (key, value))
     (Contains-append_left (common ++ map show entries) actions (show (key, value))
     (Contains-append_right common (map show entries) (show (key, value)) (Contains-image show entries (key, value) there)))))) in

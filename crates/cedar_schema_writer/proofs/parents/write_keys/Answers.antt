@@ -1,4 +1,4 @@
-use Rattle.std.proofs.Common.{◌++◌, [], ◌∷◌, ap, ◌∙◌, map}
+use Rattle.std.proofs.Common.{[], ◌∷◌, ap, map}
 use Rattle.std.proofs.lemmas.List.{map-append}
 use Rattle.cedar_schema_writer.proofs.Refusals.{refusal_passed}
 use Rattle.cedar_schema_writer.proofs.Written.{each_sound, written_all, written_here, written_more, written_none}
@@ -35,8 +35,7 @@ loop-key-preserved g c =
     let next = c.in_ok-write.field-0 in
     written_more (g.K.WrittenKey.IsUnambiguous (known_names c.args.known.now) (plain_namespace c.args.namespace.now))
     (map name c.args.keys.now.keys) _ _ _ (name c.in-Some.key.now) (ap (map name) c.in-Some.ensures.steps) c.loop-key.invariant _
-    (ap (map shown) c.in_ok-push.ensures.items
-    ∙ (map-append shown parents (next ∷ []) ∙ ap (λ last. map shown parents ++ last ∷ []) c.in_ok-write.ensures.name))
+    (cc (c.in_ok-push.ensures.items, map-append shown parents (next ∷ []), c.in_ok-write.ensures.name))
     c.in_ok-write.ensures.no_other
 
 -- at the end all are

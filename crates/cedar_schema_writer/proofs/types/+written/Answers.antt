@@ -23,8 +23,7 @@ pub write_record-loop-name-init : goal.write_record-loop-name-init
 write_record-loop-name-init t c =
     let namespace = plain_namespace c.args.namespace.now in
     attributes_none (known_names c.args.known.now) namespace (fields_of c.args.attrs.now) _ _
-    (ap (λ entries. fields_from (plain_attributes entries)) c.into_iter-name-iterator.ensures.into_iter_gives
-    ∙ c.iter-name-items.ensures.attributes)
+    (cc (c.into_iter-name-iterator.ensures.into_iter_gives, c.iter-name-items.ensures.attributes))
     (ap (plain_members namespace) c.new-attributes.ensures.empty)
 
 -- an attribute that is not sound makes the record unsound
@@ -86,8 +85,7 @@ to_json_type-returns-in-ExtensionType-clause-written t c =
     let namespace = plain_namespace c.args.namespace.now in
     let is : ty_of c.args.ty.now ≡ extension_of (plain_name c.in-ExtensionType.name) =
     ap ty_of c.in-ExtensionType.is ∙ ty_of-extension c.in-ExtensionType.name in
-    ok_to _ _ (λ variant written. ap (type_written namespace) is
-    ∙ written namespace) c.write_extension.result c.write_extension.ensures.written
+    ok_to _ _ (λ variant written. cc (is, written namespace)) c.write_extension.result c.write_extension.ensures.written
 
 -- what is written of it is sound
 pub to_json_type-returns-in-ExtensionType-clause-sound : goal.to_json_type-returns-in-ExtensionType-clause-sound

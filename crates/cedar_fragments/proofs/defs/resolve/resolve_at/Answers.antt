@@ -8,13 +8,13 @@ use Rattle.cedar_fragments.proofs.defs.resolve.resolve_at.Goals as goal
 
 pub returns-in-None-clause-refused : goal.returns-in-None-clause-refused
 returns-in-None-clause-refused c =
-    let P : PlainName → Type 0 = IsDefined (held_names c.args.all_defs.now) c.args.kind in
+    let Defines : PlainName → Type 0 = IsDefined (held_names c.args.all_defs.now) c.args.kind in
     let possible = names_of c.possibilities.result.now in
-    let none : (name : PlainName) → Contains possible name → ¬ P name = rw c.in-None.is at c.in_ok-found.ensures in
+    let none : (name : PlainName) → Contains possible name → ¬ Defines name = rw c.in-None.is at c.in_ok-found.ensures in
     let names : possibilities_of c.new.result ≡ possibilities_of c.args.name =
     c.new.ensures.possibilities ∙ c.into_possibilities.ensures.names in (
       λ name among.
-          let Q : List PlainName → Type 0 = λ each. Contains each name in
-          none name (subst Q (sym c.possibilities.ensures.names) among),
+          let Has : List PlainName → Type 0 = λ each. Contains each name in
+          none name (subst Has (sym c.possibilities.ensures.names) among),
       (λ i. record { possibilities = names i; kind = c.new.ensures.reference_type i } ∷ map conditional_reference (c.new-in-None.ensures.items i)),
     )

@@ -20,11 +20,11 @@ use Rattle.cedar_fragments.proofs.namespace.qualify_actions.qualify_parent.Goals
 pub returns-in-Some-clause-resolved : goal.returns-in-Some-clause-resolved
 returns-in-Some-clause-resolved c =
     let id = string_bytes c.args.parent.id in
-    let P : PlainName → Type 0 = λ ty. Contains (held_names c.args.all_defs.now).actions (record { ty = ty; eid = id }) in
+    let IsTypeOfAction : PlainName → Type 0 = λ ty. Contains (held_names c.args.all_defs.now).actions (record { ty = ty; eid = id }) in
     let names = names_of c.possibilities.result.now in
-    let first : IsFirst P names (type_name c.in-Some.ty) = rw c.in-Some.is at c.in_ok-ty.ensures in
-    let Q : List PlainName → Type 0 = λ each. IsFirst P each (type_name c.in-Some.ty) in
-    (record { ty = type_name c.in-Some.ty; eid = id }, (subst Q c.possibilities.ensures.names first, refl), refl)
+    let first : IsFirst IsTypeOfAction names (type_name c.in-Some.ty) = rw c.in-Some.is at c.in_ok-ty.ensures in
+    let HasFirst : List PlainName → Type 0 = λ each. IsFirst IsTypeOfAction each (type_name c.in-Some.ty) in
+    (record { ty = type_name c.in-Some.ty; eid = id }, (subst HasFirst c.possibilities.ensures.names first, refl), refl)
 
 -- where no possible name is that of an action, the error carries the parent
 pub returns-in-None-clause-fault : goal.returns-in-None-clause-fault
@@ -32,22 +32,22 @@ returns-in-None-clause-fault c =
     let id = string_bytes c.args.parent.id in
     let parent = fragment_parent ConditionalName positional_reference c.args.parent in
     let actions = (held_names c.args.all_defs.now).actions in
-    let P : PlainName → Type 0 = λ ty. Contains actions (record { ty = ty; eid = id }) in
+    let IsTypeOfAction : PlainName → Type 0 = λ ty. Contains actions (record { ty = ty; eid = id }) in
     let names = names_of c.possibilities.result.now in
-    let none : (name : PlainName) → Contains names name → ¬ P name = rw c.in-None.is at c.in_ok-ty.ensures in
-    let Q : List PlainName → Type 0 = λ each. (name : PlainName) → Contains each name → ¬ P name in
-    let nothing : NamesNoAction actions parent = subst Q c.possibilities.ensures.names none in
+    let none : (name : PlainName) → Contains names name → ¬ IsTypeOfAction name = rw c.in-None.is at c.in_ok-ty.ensures in
+    let HasNone : List PlainName → Type 0 = λ each. (name : PlainName) → Contains each name → ¬ IsTypeOfAction name in
+    let nothing : NamesNoAction actions parent = subst HasNone c.possibilities.ensures.names none in
     let possibilities : possibilities_of c.new-ty.result ≡ possibilities_of c.args.parent.ty =
     c.new-ty.ensures.possibilities ∙ c.into_possibilities.ensures.names in
     let same : conditional_reference c.new-ty.result ≡ positional_reference Entity c.args.parent.ty =
     (λ i. record { possibilities = possibilities i; kind = c.new-ty.ensures.reference_type i }) in
     let carries : Text × Option Reference = (id, Some (conditional_reference c.new-ty.result)) in
-    let R : List (Text × Option Reference) → Text × Option Reference → Type 0 = λ each carried. Contains each carried in (
+    let Has : List (Text × Option Reference) → Text × Option Reference → Type 0 = λ each carried. Contains each carried in (
       (λ empty. cc),
       λ carried among.
           let is : carries ≡ carried =
           elim (Contains-cons_cases carries [] carried
-          (subst (λ each. R (carries ∷ map carried_action each) carried) c.new.ensures.items among)) [
+          (subst (λ each. Has (carries ∷ map carried_action each) carried) c.new.ensures.items among)) [
             | inl here ↦ here
             | inr later ↦ absurd (omega (arith, later.1))
           ] in

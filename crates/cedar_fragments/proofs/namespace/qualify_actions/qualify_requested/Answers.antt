@@ -23,9 +23,9 @@ returns-then-is_reserved-clause-fault c =
     rw c.name-item.is (Contains-get_or listed c.loop-name.name-index c.name-item.result c.loop-name-test.true) in
     let found = resolved_by names c.args.names.items items c.in_ok-qualified.ensures.resolved c.name-item.result
     (rw c.deref-name-items.ensures.value at among) in
-    let R : PlainName → Type 0 = λ name. (reference : Reference) × Contains (map (positional_reference Entity) c.args.names.items) reference
+    let IsReservedOne : PlainName → Type 0 = λ name. (reference : Reference) × Contains (map (positional_reference Entity) c.args.names.items) reference
     × ResolvesTo names reference name × IsReserved name in
-    subst R (sym c.in_ok-clone.ensures.name) (found.0, found.1, found.2, c.is_reserved.ensures.0 c.if-is_reserved.true)
+    subst IsReservedOne (sym c.in_ok-clone.ensures.name) (found.0, found.1, found.2, c.is_reserved.ensures.0 c.if-is_reserved.true)
 
 -- one more name is not reserved
 pub loop-name-preserved : goal.loop-name-preserved

@@ -12,7 +12,7 @@ use Rattle.cedar_fragments.proofs.namespace.qualify_entities.qualify_tags.Goals 
 pub returns-in_err-ty-in-Some-clause-refused : goal.returns-in_err-ty-in-Some-clause-refused
 returns-in_err-ty-in-Some-clause-refused c =
     let names = held_names c.args.all_defs.now in
-    let P : Reference → Type 0 = λ reference. (expr : Expr) × (option_map positional_expr c.args.tags ≡ Some expr) × Refers expr reference in
+    let RefersInTags : Reference → Type 0 = λ reference. (expr : Expr) × (option_map positional_expr c.args.tags ≡ Some expr) × Refers expr reference in
     exit_holds _ _ _ c.from_residual.ensures.1
-    (refused_wider names (Refers (positional_expr c.in-Some.ty)) P
+    (refused_wider names (Refers (positional_expr c.in-Some.ty)) RefersInTags
     (λ reference refers. (positional_expr c.in-Some.ty, ap (option_map positional_expr) c.in-Some.is, refers)) _ (c.in_err-ty-in-Some).ensures.refused)

@@ -1,4 +1,4 @@
-use Rattle.std.proofs.Common.{◌≡◌, [], Some, ap, sym, ◌∙◌, Contains}
+use Rattle.std.proofs.Common.{◌≡◌, [], Some, ap, ◌∙◌, Contains}
 use Rattle.cedar_below.specs.EntityType.{type_name}
 use Rattle.cedar_below.specs.Name.{plain_name}
 use Rattle.cedar_below.specs.PlainName.{PlainName}
@@ -15,8 +15,7 @@ returns-in_ok-other-in-Some c =
     let namespace = plain_name c.in-Some.namespace in
     let key : type_name c.in_ok-other-in-Some.other ≡ name_within (Some namespace) name.base =
     c.in_ok-other-in-Some.ensures ∙ ap (λ (it : PlainName). name_within (Some namespace) it.base) c.name-in-Some.ensures.name in
-    let path : name.path ≡ [] = ap (λ (it : PlainName). it.path) (sym c.name.ensures.name)
-    ∙ c.is_unqualified.ensures.0 c.if-is_unqualified.true in
+    let path : name.path ≡ [] = cc (c.name.ensures.name, c.is_unqualified.ensures.0 c.if-is_unqualified.true) in
     rw (ap plain_namespace c.in-Some.is)
     (answered-not (Contains names.entities (name_within (Some namespace) name.base)) (NamesNoOther names (Some namespace) name)
     c.knows.result (rw key at c.knows.ensures) (no_other-within names namespace name.base name.path path))

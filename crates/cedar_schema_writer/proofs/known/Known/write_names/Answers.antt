@@ -1,4 +1,4 @@
-use Rattle.std.proofs.Common.{◌++◌, [], ◌∷◌, ap, ◌∙◌, map}
+use Rattle.std.proofs.Common.{[], ◌∷◌, ap, map}
 use Rattle.std.proofs.lemmas.List.{map-append}
 use Rattle.cedar_below.specs.EntityType.{type_name}
 use Rattle.cedar_below.specs.PlainName.{PlainName}
@@ -36,8 +36,7 @@ loop-name-preserved c =
     let written = c.loop-name.written.items in
     let next = c.in_ok-write_name.field-0 in
     written_more IsOnlyOne (map type_name c.args.names) _ _ _ name (ap (map type_name) c.in-Some.ensures.steps) c.loop-name.invariant _
-    (ap (map raw_name) c.in_ok-push.ensures.items
-    ∙ (map-append raw_name written (next ∷ []) ∙ ap (λ last. map raw_name written ++ last ∷ []) c.in_ok-write_name.ensures.name))
+    (cc (c.in_ok-push.ensures.items, map-append raw_name written (next ∷ []), c.in_ok-write_name.ensures.name))
     c.in_ok-write_name.ensures.no_other
 
 -- at the end all are

@@ -24,7 +24,7 @@ returns-in-Some-get-clause-fault c =
     let actions = (held_names c.args.self.now).actions in
     let uid = uid_of c.in-Some.uid.now in
     let other = uid_of c.in-Some-get.other.now in
-    let P : PlainUid → PlainUid → Type 0 = λ plain qualified. Contains actions plain × Contains actions qualified × ShadowsAction plain qualified in
+    let Shadows : PlainUid → PlainUid → Type 0 = λ plain qualified. Contains actions plain × Contains actions qualified × ShadowsAction plain qualified in
     let found : IsPlainAction actions c.as_str.result.now other =
     looked_up actions c.in_ok-plain.plain.entries c.as_str.result.now c.in-Some-get.other.now c.in_ok-plain.ensures.each
     (sym c.in-Some-get.ensures.value) in
@@ -32,18 +32,18 @@ returns-in-Some-get-clause-fault c =
     ∙ c.is_unqualified.ensures.1 (subst IsUnqualified (sym (c.name.ensures.name ∙ c.entity_type.ensures.name)) unqualified)) in
     let among : Contains actions uid = passed_next _ _ c.args.self.now.action_defs.keys c.loop-uid.uid-iterator c.next.new.self c.in-Some.uid.now
     c.in-Some.ensures.steps c.loop-uid.invariant in
-    let pair : P other uid = (found.0, among, (found.1, qualified, found.2 ∙ (c.as_str.ensures ∙ c.eid.ensures))) in
-    let Q : PlainUid → Type 0 = λ each. P other each in
-    let R : PlainUid → Type 0 = λ each. P each (uid_of c.in_ok-clone-in-Some-get-2.field-0) in
-    inr (subst R (sym c.in_ok-clone-in-Some-get.ensures.uid) (subst Q (sym c.in_ok-clone-in-Some-get-2.ensures.uid) pair))
+    let pair : Shadows other uid = (found.0, among, (found.1, qualified, found.2 ∙ (c.as_str.ensures ∙ c.eid.ensures))) in
+    let IsShadowed : PlainUid → Type 0 = λ each. Shadows other each in
+    let Shadowing : PlainUid → Type 0 = λ each. Shadows each (uid_of c.in_ok-clone-in-Some-get-2.field-0) in
+    inr (subst Shadowing (sym c.in_ok-clone-in-Some-get.ensures.uid) (subst IsShadowed (sym c.in_ok-clone-in-Some-get-2.ensures.uid) pair))
 
 -- an action whose id no plain action has is shadowed by none
 pub loop-uid-preserved : goal.loop-uid-preserved
 loop-uid-preserved c =
     let actions = (held_names c.args.self.now).actions in
     let uid = uid_of c.in-Some.uid.now in
-    let P : Text → Type 0 = λ text. ¬ Contains (ids_of c.in_ok-plain.plain.entries) text in
-    let absent : P uid.eid = rw (c.as_str.ensures, c.eid.ensures) at
+    let Lacks : Text → Type 0 = λ text. ¬ Contains (ids_of c.in_ok-plain.plain.entries) text in
+    let absent : Lacks uid.eid = rw (c.as_str.ensures, c.eid.ensures) at
     (not_looked_up c.in_ok-plain.plain.entries c.as_str.result.now (sym c.in-None-get.ensures.value)) in
     PassedSoFar-more _ _ _ _ c.next.new.self c.in-Some.uid.now c.in-Some.ensures.steps
     (not_shadowed actions c.in_ok-plain.plain.entries uid c.in_ok-plain.ensures.all absent) c.loop-uid.invariant

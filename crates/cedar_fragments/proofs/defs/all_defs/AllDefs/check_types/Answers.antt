@@ -8,11 +8,11 @@ use Rattle.cedar_fragments.proofs.defs.all_defs.AllDefs.check_types.Goals as goa
 pub returns-in-Some-found-clause-fault : goal.returns-in-Some-found-clause-fault
 returns-in-Some-found-clause-fault c =
     let pair = rw c.in-Some-found.is at c.in_ok-found.ensures in
-    let R : PlainName → Type 0 = ShadowsType (name_of c.in-Some-found.plain) in
+    let IsShadowed : PlainName → Type 0 = ShadowsType (name_of c.in-Some-found.plain) in
     let among = c.requires (name_of c.in-Some.name.now)
     (passed_next _ _ c.args.names.now.keys c.loop-name.name-iterator c.next.new.self c.in-Some.name.now c.in-Some.ensures.steps
     c.loop-name.invariant) in
-    inr (pair.0, rw c.in_ok-clone-in-Some-found.ensures.name among, subst R (sym c.in_ok-clone-in-Some-found.ensures.name) pair.1)
+    inr (pair.0, rw c.in_ok-clone-in-Some-found.ensures.name among, subst IsShadowed (sym c.in_ok-clone-in-Some-found.ensures.name) pair.1)
 
 pub loop-name-preserved : goal.loop-name-preserved
 loop-name-preserved c =

@@ -1,11 +1,9 @@
-use Rattle.std.proofs.Common.{◌≡◌, ◌⊎◌, sym, ap, string_bytes}
+use Rattle.std.proofs.Common.{sym, ap, string_bytes}
 use Rattle.std.specs.Option.{is_some}
-use Rattle.cedar_declarations.specs.Fault.{Fault, out_of_memory}
 use Rattle.cedar_fragments.proofs.AttributeLemmas.{empty_by, nonempty_by, attributes_fault, attributes_named, next_has_none}
 use Rattle.cedar_fragments.proofs.DeclaredAsLemmas.{declared_action-within}
 use Rattle.cedar_fragments.proofs.ListedSoFar.{ListedSoFar-none, ListedSoFar-more, listed_next}
 use Rattle.cedar_fragments.proofs.SoundLemmas.{fault_of_action}
-use Rattle.cedar_fragments.specs.DefinitionFault.{IsDefinitionFault}
 use Rattle.cedar_names.specs.ActionBody.{action_body}
 use Rattle.cedar_names.specs.Declaration.{action, action_declarations}
 use Rattle.cedar_names.specs.NamespaceName.{namespace_name}

@@ -1,6 +1,4 @@
-use Rattle.std.proofs.Common.{◌≡◌, ◌⊎◌, sym, ap}
-use Rattle.cedar_declarations.specs.Fault.{Fault, out_of_memory}
-use Rattle.cedar_fragments.specs.DefinitionFault.{IsDefinitionFault}
+use Rattle.std.proofs.Common.{sym, ap}
 use Rattle.cedar_below.specs.UnreservedId.{unreserved_id_text}
 use Rattle.cedar_fragments.proofs.DeclaredAsLemmas.{declared_as-within}
 use Rattle.cedar_fragments.proofs.ListedSoFar.{ListedSoFar-none, ListedSoFar-more, listed_next, listed_same, listed_each}

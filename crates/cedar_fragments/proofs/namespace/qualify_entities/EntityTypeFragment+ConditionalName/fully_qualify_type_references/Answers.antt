@@ -44,10 +44,10 @@ returns-in_err-tags-in-Standard-clause-refused c =
     let names = held_names c.args.all_defs.now in
     let it = c.in-Standard in
     let body = standard (map (positional_reference Entity) it.parents.items) (positional_expr it.attributes.0) (option_map positional_expr it.tags) in
-    let Q : Reference → Type 0 = λ reference. (expr : Expr) × (option_map positional_expr it.tags ≡ Some expr) × Refers expr reference in
+    let RefersInTags : Reference → Type 0 = λ reference. (expr : Expr) × (option_map positional_expr it.tags ≡ Some expr) × Refers expr reference in
     exit_holds _ _ _ (c.from_residual-in_err-tags-in-Standard).ensures.1
     (rw (ap (fragment_body ConditionalName positional_reference) it.is)
-    (refused_wider names Q (HasToResolveIn (entity_type body))
+    (refused_wider names RefersInTags (HasToResolveIn (entity_type body))
     (λ reference found. inl (found.0, inr found.1, found.2)) _ (c.in_err-tags-in-Standard).ensures.refused))
 
 -- the parents of an external entity type too
