@@ -14,7 +14,8 @@ abbrev pub schema_piece_names : List Text
 schema_piece_names =
     codes "build-whole" ∷ codes "build-split" ∷ codes "build-common-chain" ∷ codes "close-chain"
     ∷ codes "close-ring" ∷ codes "close-star" ∷ codes "close-trees" ∷ codes "schema-look-up"
-    ∷ codes "look-up-lacking" ∷ codes "look-up-hashed" ∷ codes "look-up-flood" ∷ codes "look-up-apart"
+    ∷ codes "look-up-lacking" ∷ codes "look-up-hashed" ∷ codes "look-up-flood"
+    ∷ codes "look-up-apart"
     ∷ codes "environments" ∷ codes "known-attributes" ∷ codes "validate" ∷ codes "write-back"
     ∷ codes "build-environments" ∷ codes "build-flood" ∷ codes "build-table-flood"
     ∷ codes "build-apart" ∷ codes "copy-schema" ∷ codes "compare-same"
