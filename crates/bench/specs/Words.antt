@@ -14,22 +14,24 @@ abbrev pub schema_piece_names : List Text
 schema_piece_names =
     codes "build-whole" ∷ codes "build-split" ∷ codes "build-common-chain" ∷ codes "close-chain"
     ∷ codes "close-ring" ∷ codes "close-star" ∷ codes "close-trees" ∷ codes "schema-look-up"
-    ∷ codes "look-up-lacking" ∷ codes "look-up-hashed" ∷ codes "look-up-flood"
-    ∷ codes "look-up-apart"
+    ∷ codes "look-up-lacking" ∷ codes "look-up-flood" ∷ codes "look-up-apart"
     ∷ codes "environments" ∷ codes "known-attributes" ∷ codes "validate" ∷ codes "write-back"
     ∷ codes "build-environments" ∷ codes "build-flood" ∷ codes "build-table-flood"
-    ∷ codes "build-apart" ∷ codes "copy-schema" ∷ codes "compare-same"
-    ∷ codes "compare-changed" ∷ codes "scale" ∷ []
+    ∷ codes "build-apart" ∷ codes "copy-schema"
+    ∷ codes "scale" ∷ []
 
--- the names of the pieces of work on JSON
-abbrev pub json_piece_names : List Text
-json_piece_names = codes "parse-json" ∷ codes "read-json" ∷ codes "write-json" ∷ []
+-- the names of the other pieces of work: on hash maps of std, on two versions of a schema, and on
+-- JSON
+abbrev pub other_piece_names : List Text
+other_piece_names =
+    codes "look-up-hashed" ∷ codes "compare-same" ∷ codes "compare-changed" ∷ codes "parse-json"
+    ∷ codes "read-json" ∷ codes "write-json" ∷ []
 
 -- the text is the name of a piece of work
 abbrev pub IsPieceName : Text → Type 0
 IsPieceName text =
     Contains type_piece_names text
-    ⊎ (Contains schema_piece_names text ⊎ Contains json_piece_names text)
+    ⊎ (Contains schema_piece_names text ⊎ Contains other_piece_names text)
 
 -- the words ask for a piece of work to be timed
 pub record IsTimeOfPiece (words : List Text) : Type 0 where

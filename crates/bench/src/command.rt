@@ -1,7 +1,7 @@
 //! What the words of the program ask for.
 
 ghost use Rattle.std.specs.Prelude.{◌≡◌, ◌↔◌, ◌⊎◌, codes, Contains, IsSome, map, string_bytes};
-ghost use Rattle.bench.specs.Words.{IsCommand, IsPieceName, json_piece_names, schema_piece_names, type_piece_names};
+ghost use Rattle.bench.specs.Words.{IsCommand, IsPieceName, other_piece_names, schema_piece_names, type_piece_names};
 
 use crate::piece::Piece;
 
@@ -45,7 +45,6 @@ fn schema_piece_named(name: &str) -> Option<Piece>
         "close-trees" => Some(Piece::CloseTrees),
         "schema-look-up" => Some(Piece::SchemaLookUp),
         "look-up-lacking" => Some(Piece::LookUpLacking),
-        "look-up-hashed" => Some(Piece::LookUpHashed),
         "look-up-flood" => Some(Piece::LookUpFlood),
         "look-up-apart" => Some(Piece::LookUpApart),
         "environments" => Some(Piece::Environments),
@@ -57,19 +56,21 @@ fn schema_piece_named(name: &str) -> Option<Piece>
         "build-table-flood" => Some(Piece::BuildTableFlood),
         "build-apart" => Some(Piece::BuildApart),
         "copy-schema" => Some(Piece::CopySchema),
-        "compare-same" => Some(Piece::CompareSame),
-        "compare-changed" => Some(Piece::CompareChanged),
         "scale" => Some(Piece::Scale),
         _ => None,
     }
 }
 
-/// The piece of work on JSON of a name, if it is one of them.
-#[tactic(auto, using(crate::proofs::PieceNames::json_piece_from_names))]
-fn json_piece_named(name: &str) -> Option<Piece>
-    ensures { IsSome result ↔ Contains json_piece_names name.now }
+/// The piece of work on hash maps, on two versions of a schema or on JSON of a name, if it is one
+/// of them.
+#[tactic(auto, using(crate::proofs::PieceNames::other_piece_from_names))]
+fn other_piece_named(name: &str) -> Option<Piece>
+    ensures { IsSome result ↔ Contains other_piece_names name.now }
 {
     match name {
+        "look-up-hashed" => Some(Piece::LookUpHashed),
+        "compare-same" => Some(Piece::CompareSame),
+        "compare-changed" => Some(Piece::CompareChanged),
         "parse-json" => Some(Piece::ParseJson),
         "read-json" => Some(Piece::ReadJson),
         "write-json" => Some(Piece::WriteJson),
@@ -77,14 +78,14 @@ fn json_piece_named(name: &str) -> Option<Piece>
     }
 }
 
-/// The piece of work on schemas or on JSON of a name, if it is one of them.
+/// The piece of work of a name that isn't on types, if it is one of them.
 fn further_piece_named(name: &str) -> Option<Piece>
     ensures { IsSome result ↔ (Contains schema_piece_names name.now
-        ⊎ Contains json_piece_names name.now) }
+        ⊎ Contains other_piece_names name.now) }
 {
     match schema_piece_named(name) {
         Some(piece) => Some(piece),
-        None => json_piece_named(name),
+        None => other_piece_named(name),
     }
 }
 

@@ -117,32 +117,7 @@ fn not_compared(alloc: Global, manner: Manner, fault: &CompareFault) -> M<Outcom
     refused(alloc, manner, &[], Finding::general(kind, message))
 }
 
-/// Compares two schemas, over the extensions of Cedar.
-fn compare_schemas(
-    alloc: Global,
-    old: &ValidatorSchema,
-    new: &ValidatorSchema,
-    telling: Telling,
-) -> M<Outcome> {
-    let extensions = cedar_extensions(alloc)?;
-    let samples = samples(alloc)?;
-    match compare(alloc, old, new, &extensions, &samples) {
-        Ok(comparison) => compared(alloc, telling, old, new, &comparison),
-        Err(fault) => not_compared(alloc, telling.manner, &fault),
-    }
-}
-
-/// What is told where the files of both versions are at fault: that of the old one, and behind it
-/// that of the new one.
-fn told_of_both(old: Stop, new: Stop) -> Result<Outcome, Stop> {
-    match (old, new) {
-        (Stop::Told(old), Stop::Told(new)) => Ok(old.with(&new)?),
-        _ => Err(Stop::Memory),
-    }
-}
-
-/// Compares the schema that old files declare with the one that new files declare. Where files of
-/// both are at fault, each of these is told.
+/// Compares the schema that old files declare with the one that new files declare.
 pub(crate) fn compare_files<F: FileAccess>(
     alloc: Global,
     files: &mut F,
@@ -150,11 +125,12 @@ pub(crate) fn compare_files<F: FileAccess>(
     new: &[&str],
     telling: Telling,
 ) -> Result<Outcome, Stop> {
-    let old = built(alloc, files, old, telling.manner);
-    let new = built(alloc, files, new, telling.manner);
-    match (old, new) {
-        (Ok(old), Ok(new)) => Ok(compare_schemas(alloc, &old.schema, &new.schema, telling)?),
-        (Err(old), Err(new)) => told_of_both(old, new),
-        (Err(stop), Ok(_)) | (Ok(_), Err(stop)) => Err(stop),
+    let old = built(alloc, files, old, telling.manner)?;
+    let new = built(alloc, files, new, telling.manner)?;
+    let extensions = cedar_extensions(alloc)?;
+    let samples = samples(alloc)?;
+    match compare(alloc, &old.schema, &new.schema, &extensions, &samples) {
+        Ok(comparison) => { Ok(compared(alloc, telling, &old.schema, &new.schema, &comparison)?) }
+        Err(fault) => Ok(not_compared(alloc, telling.manner, &fault)?),
     }
 }

@@ -42,17 +42,6 @@ impl Outcome {
             status,
         }
     }
-
-    /// What is told of two things that are at fault, the one behind the other. Where a file of the
-    /// second couldn't be read, that is the status.
-    pub(crate) fn with(mut self, second: &Outcome) -> M<Outcome> {
-        self.text.push_str(second.text.as_str())?;
-        self.notes.push_str(second.notes.as_str())?;
-        if let Status::Unread = second.status {
-            self.status = Status::Unread;
-        }
-        Ok(self)
-    }
 }
 
 /// Why a command goes no further.
