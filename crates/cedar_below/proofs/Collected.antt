@@ -1,5 +1,5 @@
 -- Entities that stand at their own uids: look-ups, and what an insertion changes.
-use Rattle.std.proofs.Common.{◌≡◌, ◌≢◌, Bool, true, false, cond, Some, Result, Ok, Err, List, [], ◌∷◌, OnOk, OnErr, map, All, refl, sym, ap, subst, ◌∙◌}
+use Rattle.std.proofs.Common.{◌≡◌, ◌≢◌, Bool, true, false, cond, Some, Result, Ok, Err, List, [], ◌∷◌, OnOk, OnErr, map, All, refl, sym, ap, ◌∙◌}
 use Rattle.std.proofs.lemmas.Bool.Decides.{Decides-like}
 use Rattle.std.proofs.lemmas.List.Elements.{All-nil, All-cons, All-head, All-tail}
 use Rattle.std.specs.Bool.{Decides}
@@ -66,8 +66,7 @@ uids-keys (e ∷ es) keyed = λ i. All-head IsAtItself e es keyed i ∷ uids-key
 pub uids_ordered : (entities : BTreeMap EntityUID Entity) → IsKeyed entities → IsOrdered by_uid entities
     → IsStrictlySortedBy uid_cmp (map entity_uid (values entities))
 uids_ordered entities keyed ordered =
-    subst (IsStrictlySortedBy uid_cmp) (uids-keys entities.entries keyed)
-    (IsStrictlySortedBy-map by_uid uid_cmp uid_of entity_uid_ord-uid_cmp (keys_of entities.entries) ordered)
+    rw (uids-keys entities.entries keyed) at (IsStrictlySortedBy-map by_uid uid_cmp uid_of entity_uid_ord-uid_cmp (keys_of entities.entries) ordered)
 
 -- two tests in turn that pass alike
 cond_twice : {X : Type 0} (b c : Bool) (x y z : X) → b ≡ c → cond b x z ≡ cond b x (cond c y z)
@@ -141,8 +140,8 @@ module _ (key : EntityUID) (entity : Entity) (own : uid_of key ≡ entity_uid en
     -- after an insertion that may be refused each entry stands at its own uid
     pub keyed_after : {A E : Type 0} (r : Result A E) → OnOk r (new ≡ insert_entry by_uid old key entity)
         → OnErr r (new ≡ old) → All IsAtItself new
-    keyed_after (Ok x) inserted refused = subst (All IsAtItself) (sym inserted) (keyed-insert_entry old keyed)
-    keyed_after (Err e) inserted refused = subst (All IsAtItself) (sym refused) keyed
+    keyed_after (Ok x) inserted refused = rw inserted (keyed-insert_entry old keyed)
+    keyed_after (Err e) inserted refused = rw refused keyed
 
     found_after : new ≡ insert_entry by_uid old key entity → (uid : PlainUid)
         → find (has_uid uid) (values_of new) ≡ cond (has_uid uid entity) (Some entity) (find (has_uid uid) (values_of old))

@@ -1,5 +1,5 @@
 -- Entries of a map that are copied in order, so that each copy is put behind the others.
-use Rattle.std.proofs.Common.{◌≡◌, ◌++◌, List, [], ◌∷◌, Ok, Result, ap, append_assoc, subst, sym, ◌∙◌}
+use Rattle.std.proofs.Common.{◌≡◌, ◌++◌, List, [], ◌∷◌, Ok, Result, ap, append_assoc, sym, ◌∙◌}
 use Rattle.std.proofs.lemmas.List.{append-nil, map-append}
 use Rattle.std.specs.BTreeMap.{insert_entry}
 use Rattle.std.specs.Cmp.{IsTotalOrder}
@@ -58,8 +58,8 @@ module _ {K V : Type 0} (R : K → K → Ordering) (total : IsTotalOrder R) (IsK
     done = [];
     split = sym same;
     ordered = ordered;
-    tied = subst (HoldsPairwise (Ties R) []) (sym empty) tt;
-    copied = subst (HoldsPairwise (IsCopied IsKey IsValue) []) (sym empty) tt;
+    tied = rw empty tt;
+    copied = rw empty tt;
   }
 
   -- one more was
@@ -69,7 +69,7 @@ module _ {K V : Type 0} (R : K → K → Ordering) (total : IsTotalOrder R) (IsK
   copied_more copies after left rest key copy value other is ties of_key of_value inserted so_far =
       let split : all ≡ so_far.done ++ (key, value) ∷ rest = so_far.split ∙ ap (λ others. so_far.done ++ others) is in
       let sorted : IsStrictlySortedBy R (keys_of so_far.done ++ key ∷ keys_of rest) =
-      subst (IsStrictlySortedBy R) (ap keys_of split ∙ map-append (λ entry. entry.0) so_far.done ((key, value) ∷ rest)) so_far.ordered in
+      rw (ap keys_of split ∙ map-append (λ entry. entry.0) so_far.done ((key, value) ∷ rest)) at so_far.ordered in
       let above = above_copies R total so_far.done copies key copy ties so_far.tied
       (above_front total (keys_of so_far.done) key (keys_of rest) sorted) in
       let behind : copies ++ (copy, other) ∷ [] ≡ after = sym (inserted ∙ insert_entry-end R copies copy other above) in
@@ -77,10 +77,8 @@ module _ {K V : Type 0} (R : K → K → Ordering) (total : IsTotalOrder R) (IsK
         done = so_far.done ++ (key, value) ∷ [];
         split = split ∙ sym (append_assoc so_far.done ((key, value) ∷ []) rest);
         ordered = so_far.ordered;
-        tied = subst (HoldsPairwise (Ties R) (so_far.done ++ (key, value) ∷ [])) behind
-            (turn_more (Ties R) so_far.done copies (key, value) (copy, other) so_far.tied ties);
-        copied = subst (HoldsPairwise (IsCopied IsKey IsValue) (so_far.done ++ (key, value) ∷ [])) behind
-            (turn_more (IsCopied IsKey IsValue) so_far.done copies (key, value) (copy, other) so_far.copied (of_key, of_value));
+        tied = rw behind at (turn_more (Ties R) so_far.done copies (key, value) (copy, other) so_far.tied ties);
+        copied = rw behind at (turn_more (IsCopied IsKey IsValue) so_far.done copies (key, value) (copy, other) so_far.copied (of_key, of_value));
       }
 
   -- where none is left, all were

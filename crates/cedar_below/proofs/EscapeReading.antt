@@ -59,7 +59,7 @@ pub every-at : (n : ℕ) (test : ℕ → Bool) → every n test ≡ true → (c 
 every-at zero test all c below = absurd (omega (arith, below))
 every-at (suc n) test all c below = elim (less_or_last c n below) [
   | inl less ↦ every-at n test (both_true (every n test) (test n) all).0 c less
-  | inr last ↦ subst (λ k. test k ≡ true) (sym last) (both_true (every n test) (test n) all).1
+  | inr last ↦ rw last (both_true (every n test) (test n) all).1
 ]
 
 -- texts of characters are the same, as a test
@@ -312,8 +312,7 @@ step-backslash es chars c next is e =
                                         let e = rest.1 in
                                         elim (chosen (c == 117) _ _ next e) [
                                           | inl got ↦
-                                              subst (Then es chars c) (same_escape Unicode next got.1)
-                                              (more-step es chars (92 ∷ []) (92 ∷ 117 ∷ []) c is (ap (λ k. 92 ∷ k ∷ []) (eqb-true c 117 got.0)))
+                                              rw (← (same_escape Unicode next got.1)) (more-step es chars (92 ∷ []) (92 ∷ 117 ∷ []) c is (ap (λ k. 92 ∷ k ∷ []) (eqb-true c 117 got.0)))
                                           | inr none ↦ absurd cc
                                         ]
                                   ]
@@ -325,20 +324,19 @@ step-backslash es chars c next is e =
   where
     letter : (sign d : ℕ) → ((c == sign) ≡ true) × (Some (Whole (Some d)) ≡ Some next) → 92 ∷ sign ∷ [] ≡ spelled d → Then es chars c next
     letter sign d got spells =
-        subst (Then es chars c) (same_escape (Whole (Some d)) next got.1)
-        (whole-step es chars (92 ∷ []) c d is (ap (λ k. 92 ∷ k ∷ []) (eqb-true c sign got.0) ∙ spells))
+        rw (← (same_escape (Whole (Some d)) next got.1)) (whole-step es chars (92 ∷ []) c d is (ap (λ k. 92 ∷ k ∷ []) (eqb-true c sign got.0) ∙ spells))
 
 -- a first digit after `{`
 step-first : (es chars : List ℕ) (c : ℕ) (next : Escape) → chars ≡ all_spelled es ++ 92 ∷ 117 ∷ 123 ∷ []
     → option_and_then first_digit (code_digit c) ≡ Some next → Then es chars c next
 step-first es chars c next is e = option_and_then_some first_digit (code_digit c) next e (λ digit found goes.
     let test : first_digit_fits c digit ≡ true =
-    subst (λ it. digit_fits (first_digit_fits c) it ≡ true) found (every-at 128 first_fits table_first c (digit-ascii c digit found)) in
+    rw found at (every-at 128 first_fits table_first c (digit-ascii c digit found)) in
     elim (chosen (begins_code digit) _ _ next goes) [
       | inl got ↦
           let fits = both_true _ _ (implied (begins_code digit) _ test got.0) in
           let range = both_true _ _ fits.0 in
-          subst (Then es chars c) (same_escape (Code digit) next got.1) (
+          rw (← (same_escape (Code digit) next got.1)) (
             range.0,
             ltb-true digit 160 range.1,
             more-step es chars (92 ∷ 117 ∷ 123 ∷ []) (92 ∷ 117 ∷ 123 ∷ digits 16 false digit) c is
@@ -356,11 +354,10 @@ step-second es chars c code next valid is e = option_and_then_some (second_digit
       | inl got ↦
           let halves = both_true (nat_lt code 16) (is_control (code * 16 + digit)) got.0 in
           let test : second_digit_fits c code digit ≡ true =
-          subst (λ it. digit_fits (second_digit_fits c code) it ≡ true) found
-          (every-at 16 (second_fits c) (every-at 128 (λ c. every 16 (second_fits c)) table_second c (digit-ascii c digit found)) code (ltb-true code 16 halves.0)) in
+          rw found at (every-at 16 (second_fits c) (every-at 128 (λ c. every 16 (second_fits c)) table_second c (digit-ascii c digit found)) code (ltb-true code 16 halves.0)) in
           let fits = both_true _ _ (implied _ _ test (ap (λ it. it && is_control (code * 16 + digit)) valid ∙ halves.1)) in
           let range = both_true _ _ fits.0 in
-          subst (Then es chars c) (same_escape (Code (code * 16 + digit)) next got.1) (
+          rw (← (same_escape (Code (code * 16 + digit)) next got.1)) (
             ap (λ it. it || (code * 16 + digit == 9)) range.0,
             ltb-true (code * 16 + digit) 160 range.1,
             more-step es chars (92 ∷ 117 ∷ 123 ∷ digits 16 false code) (92 ∷ 117 ∷ 123 ∷ digits 16 false (code * 16 + digit)) c is
@@ -376,19 +373,16 @@ pub step : (escape : Escape) (es chars : List ℕ) (c : ℕ) (next : Escape) →
 step (Whole last) es chars c next is e =
     elim (chosen (c == 92) _ _ next e) [
       | inl got ↦
-          subst (Then es chars c) (same_escape Backslash next got.1)
-          (more-step es chars [] (92 ∷ []) c flat (ap (λ k. k ∷ []) (eqb-true c 92 got.0)))
+          rw (← (same_escape Backslash next got.1)) (more-step es chars [] (92 ∷ []) c flat (ap (λ k. k ∷ []) (eqb-true c 92 got.0)))
       | inr rest ↦
           elim (chosen (c == 34) _ _ next rest.1) [
             | inl got ↦
-                subst (Then es chars c) (same_escape Closed next got.1)
-                (more-step es chars [] (34 ∷ []) c flat (ap (λ k. k ∷ []) (eqb-true c 34 got.0)))
+                rw (← (same_escape Closed next got.1)) (more-step es chars [] (34 ∷ []) c flat (ap (λ k. k ∷ []) (eqb-true c 34 got.0)))
             | inr last ↦
                 elim (chosen (is_control c) _ _ next last.1) [
                   | inl none ↦ absurd cc
                   | inr got ↦
-                      subst (Then es chars c) (same_escape (Whole (Some c)) next got.1)
-                      (whole-step es chars [] c c flat (sym (spelled-plain c (plain rest.0 last.0 got.0))))
+                      rw (← (same_escape (Whole (Some c)) next got.1)) (whole-step es chars [] c c flat (sym (spelled-plain c (plain rest.0 last.0 got.0))))
                 ]
           ]
     ]
@@ -402,8 +396,7 @@ step Backslash es chars c next is e = step-backslash es chars c next is e
 step Unicode es chars c next is e =
     elim (chosen (c == 123) _ _ next e) [
       | inl got ↦
-          subst (Then es chars c) (same_escape Open next got.1)
-          (more-step es chars (92 ∷ 117 ∷ []) (92 ∷ 117 ∷ 123 ∷ []) c is (ap (λ k. 92 ∷ 117 ∷ k ∷ []) (eqb-true c 123 got.0)))
+          rw (← (same_escape Open next got.1)) (more-step es chars (92 ∷ 117 ∷ []) (92 ∷ 117 ∷ 123 ∷ []) c is (ap (λ k. 92 ∷ 117 ∷ k ∷ []) (eqb-true c 123 got.0)))
       | inr none ↦ absurd cc
     ]
 step Open es chars c next is e = step-first es chars c next is e
@@ -412,8 +405,7 @@ step (Code code) es chars c next (valid, small, is) e =
       | inl ends ↦
           elim (chosen (is_coded code) _ _ next ends.1) [
             | inl got ↦
-                subst (Then es chars c) (same_escape (Whole (Some code)) next got.1)
-                (whole-step es chars (92 ∷ 117 ∷ 123 ∷ digits 16 false code) c code is
+                rw (← (same_escape (Whole (Some code)) next got.1)) (whole-step es chars (92 ∷ 117 ∷ 123 ∷ digits 16 false code) c code is
                 (ap (λ k. 92 ∷ 117 ∷ 123 ∷ (digits 16 false code ++ k ∷ [])) (eqb-true c 125 ends.0)
                 ∙ (text_eq-Decides (92 ∷ 117 ∷ 123 ∷ (digits 16 false code ++ 125 ∷ [])) (spelled code)).0
                 (implied (is_coded code) _ (every-at 160 is_code_spelled table_coded code small) got.0)))
@@ -542,7 +534,7 @@ HasReadId-whole escape id at ys c next d before goes last = record {
   runs = runs_more escape ys c next before.runs goes;
   es = before.es ++ d ∷ [];
   bytes = encodes-append before.es (d ∷ []) ∙ ap (λ front. front ++ (encode d ++ [])) before.bytes ∙ ap (λ rest. id ++ rest) (append-nil (encode d));
-  read = subst (λ it. HasEscape next (before.es ++ cons_option it []) (ys ++ c ∷ [])) last (step escape before.es ys c next before.read goes);
+  read = rw last at (step escape before.es ys c next before.read goes);
   count = longer_count ys c at before.count;
 }
 
@@ -553,8 +545,7 @@ HasReadId-more escape id at ys c next before goes last = record {
   runs = runs_more escape ys c next before.runs goes;
   es = before.es;
   bytes = before.bytes;
-  read = subst (λ es. HasEscape next es (ys ++ c ∷ [])) (append-nil before.es)
-      (subst (λ it. HasEscape next (before.es ++ cons_option it []) (ys ++ c ∷ [])) last (step escape before.es ys c next before.read goes));
+  read = rw (last, append-nil before.es) at (step escape before.es ys c next before.read goes);
   count = longer_count ys c at before.count;
 }
 
@@ -607,13 +598,13 @@ scalars-rest (y ∷ ys) more all = scalars-rest ys more (both_true (scalar y) (s
 pub utf8_rest : (front rest : Text) → IsUtf8 front → IsUtf8 (front ++ rest) → IsUtf8 rest
 utf8_rest front rest (ys, (_, front-bytes)) (zs, (all, bytes)) =
     let later = begins_with ys zs rest (bytes ∙ ap (λ first. first ++ rest) (sym front-bytes)) in
-    (later.0, (scalars-rest ys later.0 (subst (λ it. scalars it ≡ true) later.1 all), later.2))
+    (later.0, (scalars-rest ys later.0 (rw later.1 at all), later.2))
 
 -- what is read begins a quoted id
 begins_id : (escape : Escape) (id : Text) (at : ℕ) (ys : List ℕ) → IsUtf8 id → HasReadId escape id at ys → Begins IsQuoted (encodes ys)
 begins_id escape id at ys utf8 has =
     let all : scalars has.es ≡ true =
-    subst (λ es. scalars es ≡ true) (sym (chars_from_encodes has.es id utf8 has.bytes)) (scalars-chars id utf8) in
+    rw (chars_from_encodes has.es id utf8 has.bytes) (scalars-chars id utf8) in
     let on = goes_on escape has.es ys all has.read in (
       encodes on.0,
       (
@@ -646,13 +637,12 @@ stops_at_char text escape id at ys zs c utf8 id-utf8 is has none =
     let front : take at text ≡ encodes ys =
     ap (λ n. take n text) has.count ∙ ap (take (length (encodes ys))) whole ∙ take-append_seam (encodes ys) (encodes (c ∷ zs)) in
     record {
-      other = λ named. dead (ys ++ c ∷ []) (encodes zs) none_read (subst IsQuoted
-          (whole ∙ sym (ap (λ first. first ++ encodes zs) (encodes-append ys (c ∷ []) ∙ ap (λ one. encodes ys ++ one) (append-nil (encode c)))
-          ∙ append_assoc (encodes ys) (encode c) (encodes zs))) named);
+      other = λ named. dead (ys ++ c ∷ []) (encodes zs) none_read (rw (whole ∙ sym (ap (λ first. first ++ encodes zs) (encodes-append ys (c ∷ []) ∙ ap (λ one. encodes ys ++ one) (append-nil (encode c)))
+          ∙ append_assoc (encodes ys) (encode c) (encodes zs))) at named);
       beginning = record {
         within = (let all = counted_within text ys zs c at utf8 is has.count in omega (arith, all));
-        whole = subst IsUtf8 (sym front) (ys, (scalars-front ys (c ∷ zs) (subst (λ it. scalars it ≡ true) is (scalars-chars text utf8)), refl));
-        begins = subst (Begins IsQuoted) (sym front) (begins_id escape id at ys id-utf8 has);
+        whole = rw front (ys, (scalars-front ys (c ∷ zs) (rw is at (scalars-chars text utf8)), refl));
+        begins = rw front (begins_id escape id at ys id-utf8 has);
         longest = λ longer more inside (ds, (ds-scalar, ds-bytes)) (rest, begun).
             let split : encodes (ys ++ c ∷ zs) ≡ encodes ds ++ drop longer text =
             encodes-append ys (c ∷ zs) ∙ sym whole ∙ sym (take-append-drop longer text)
@@ -665,7 +655,7 @@ stops_at_char text escape id at ys zs c utf8 id-utf8 is has none =
             let parts : take longer text ++ rest ≡ encodes (ys ++ c ∷ []) ++ (encodes on.0 ++ rest) =
             ap (λ first. first ++ rest) (sym ds-bytes ∙ ap encodes (on.1 ∙ sym (append_assoc ys (c ∷ []) on.0))
             ∙ encodes-append (ys ++ c ∷ []) on.0) ∙ append_assoc (encodes (ys ++ c ∷ [])) (encodes on.0) rest in
-            dead (ys ++ c ∷ []) (encodes on.0 ++ rest) none_read (subst IsQuoted parts begun);
+            dead (ys ++ c ∷ []) (encodes on.0 ++ rest) none_read (rw parts at begun);
       };
     }
 
@@ -681,8 +671,8 @@ stops_at_id_end text escape id at utf8 id-utf8 has unfinished =
           unfinished (same_escape escape Closed (sym has.runs ∙ ap (run (Some (Whole None))) (sym same) ∙ run-all_spelled None known.0));
       beginning = record {
         within = omega arith;
-        whole = subst IsUtf8 (sym all) utf8;
-        begins = subst (Begins IsQuoted) (encodes-chars text utf8 ∙ sym all) (begins_id escape id at (chars text) id-utf8 has);
+        whole = rw all utf8;
+        begins = rw (encodes-chars text utf8 ∙ sym all) at (begins_id escape id at (chars text) id-utf8 has);
         longest = λ longer more inside _. absurd (omega (arith, more, inside));
       };
     }
@@ -692,5 +682,5 @@ pub closed_id : (text : Text) (id : Text) (at : ℕ) → IsUtf8 text → IsUtf8 
     → escaped_text id ++ codes "\"" ≡ text
 closed_id text id at utf8 id-utf8 has =
     let all : scalars has.es ≡ true =
-    subst (λ es. scalars es ≡ true) (sym (chars_from_encodes has.es id id-utf8 has.bytes)) (scalars-chars id id-utf8) in
+    rw (chars_from_encodes has.es id id-utf8 has.bytes) (scalars-chars id id-utf8) in
     ap (λ bytes. escaped_text bytes ++ codes "\"") (sym has.bytes) ∙ quoted has.es all ∙ ap encodes (sym has.read) ∙ encodes-chars text utf8

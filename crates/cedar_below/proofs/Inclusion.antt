@@ -1,5 +1,5 @@
 -- Lists whose members are members of others.
-use Rattle.std.proofs.Common.{◌↔◌, ◌⊎◌, inl, inr, Bool, true, false, refl, subst, List, [], ◌∷◌, Option, Some, if◌then◌else◌, Contains, arith}
+use Rattle.std.proofs.Common.{◌↔◌, ◌⊎◌, inl, inr, Bool, true, false, refl, List, [], ◌∷◌, Option, Some, if◌then◌else◌, Contains, arith}
 use Rattle.std.specs.Bool.{Decides}
 use Rattle.std.specs.Option.{is_some}
 use Rattle.cedar_below.proofs.Lists.{Contains-cons, Contains-cons_cases}
@@ -13,7 +13,7 @@ Included-none upper x among = absurd (omega (arith, among.1))
 pub Included-cons : {A : Type 0} (x : A) (lower upper : List A) → Contains upper x → Included lower upper → Included (x ∷ lower) upper
 Included-cons x lower upper first rest y among =
     let P = Contains upper in
-    elim (Contains-cons_cases x lower y among) [ inl same ↦ subst P same first | inr there ↦ rest y there ]
+    elim (Contains-cons_cases x lower y among) [ inl same ↦ rw same at first | inr there ↦ rest y there ]
 
 -- the first member of an included list is a member
 pub Included-head : {A : Type 0} (x : A) (lower upper : List A) → Included (x ∷ lower) upper → Contains upper x

@@ -1,5 +1,5 @@
 -- Tests over a list, against what its elements give.
-use Rattle.std.proofs.Common.{◌≡◌, ◌≢◌, ◌<◌, ℕ, suc, zero, ◌+◌, Bool, List, [], ◌∷◌, ◌++◌, ◌⊎◌, inl, inr, map, length, take, get_or, All, AllPairs, Contains, arith, sym, subst, ◌∙◌, ap}
+use Rattle.std.proofs.Common.{◌≡◌, ◌≢◌, ◌<◌, ℕ, suc, zero, ◌+◌, Bool, List, [], ◌∷◌, ◌++◌, ◌⊎◌, inl, inr, map, length, take, get_or, All, AllPairs, Contains, arith, sym, ◌∙◌, ap}
 use Rattle.std.proofs.lemmas.Bool.Decides.{Decides-like, Decides-or}
 use Rattle.std.proofs.lemmas.List.{get_or-map, get_or_default, get_or-take, map_more, take-map}
 use Rattle.std.proofs.lemmas.List.Quantifiers.{all_pairs_push}
@@ -44,7 +44,7 @@ list_any-Contains f x test same (y ∷ ys) =
 
 -- what holds of all that the elements give holds of each of those
 pub All-from_map : {X B : Type 0} (P : B → Type 0) (f : X → B) (ys : List X) → All P (map f ys) → All (λ y. P (f y)) ys
-All-from_map P f ys all k d lt = subst P (get_or-map f ys k d (f d) lt) (all k (f d) (rw length-map lt))
+All-from_map P f ys all k d lt = rw (get_or-map f ys k d (f d) lt) at (all k (f d) (rw length-map lt))
 
 -- what an element gives repeats what one before it gives
 pub repeated : {X B : Type 0} (f : X → B) (ys : List X) (i : ℕ) (y : X) → i < length ys → y ≡ get_or ys i y
@@ -88,7 +88,7 @@ pub distinct_more : {X B : Type 0} (f : X → B) (ys : List X) (i : ℕ) (y : X)
 distinct_more f ys i y lt is new distinct =
     let more : map f (take (i + 1) ys) ≡ map f (take i ys) ++ f y ∷ [] = map_more f ys i y lt
     ∙ ap (λ z. map f (take i ys) ++ f z ∷ []) (sym is) in
-    subst (AllPairs (λ a b. a ≢ b)) (sym more) (distinct_push (map f (take i ys)) (f y) distinct new)
+    rw more (distinct_push (map f (take i ys)) (f y) distinct new)
 
 -- what stands in a mapped list is the image of what stands in the list
 pub Contains-preimage : {X Y : Type 0} (f : X → Y) (xs : List X) (y : Y) → Contains (map f xs) y → (x : X) × Contains xs x × (f x ≡ y)

@@ -127,19 +127,19 @@ chosen false first other a e = inr e
 -- a byte leads just there
 pub leads : (reading : Reading) (byte : ℕ) (next : Reading) → reading_then reading byte ≡ Some next → Leads reading byte next
 leads Start byte next e =
-    elim (chosen (is_identifier_start byte) Inside None next e) [ inl is ↦ subst (Leads Start byte) is.1 is.0 | inr none ↦ absurd cc ]
+    elim (chosen (is_identifier_start byte) Inside None next e) [ inl is ↦ rw (← is.1) is.0 | inr none ↦ absurd cc ]
 leads Inside byte next e =
     elim (chosen (is_identifier_byte byte) Inside (cond (byte == 58) (Some Colon) None) next e) [
-      | inl is ↦ subst (Leads Inside byte) is.1 is.0
+      | inl is ↦ rw (← is.1) is.0
       | inr other ↦
           elim (chosen (byte == 58) Colon None next other) [
-            | inl is ↦ subst (Leads Inside byte) is.1 (eqb-true byte 58 is.0)
+            | inl is ↦ rw (← is.1) (eqb-true byte 58 is.0)
             | inr none ↦ absurd cc
           ]
     ]
 leads Colon byte next e =
     elim (chosen (byte == 58) Start None next e) [
-      | inl is ↦ subst (Leads Colon byte) is.1 (eqb-true byte 58 is.0)
+      | inl is ↦ rw (← is.1) (eqb-true byte 58 is.0)
       | inr none ↦ absurd cc
     ]
 
@@ -152,7 +152,7 @@ single_identifier byte start =
 pub HasRead-byte : (reading : Reading) (byte : ℕ) (path : List Text) (part text : Text) → Leads reading byte Inside
     → HasRead reading path part text → HasRead Inside path (part ++ byte ∷ []) (text ++ byte ∷ [])
 HasRead-byte Start byte path part text start (none, is) = (
-  subst (λ begun. IsIdentifier (begun ++ byte ∷ [])) (sym none) (single_identifier byte start),
+  rw none (single_identifier byte start),
   ap (λ all. all ++ byte ∷ []) is ∙ ap (λ begun. path_text path ++ (begun ++ byte ∷ [])) (sym none),
 )
 HasRead-byte Inside byte path part text more (identifier, is) = (
@@ -325,7 +325,7 @@ pub stops_at_byte : (text : Text) (at : ℕ) (reading : Reading) (path : List Te
 stops_at_byte text at reading path part all read within none = record {
   other = λ named. dead-begins (take (length text) text)
       (run-dead text at (length text) reading path part all read none within (omega arith))
-      ([], subst IsNameText (sym (append-nil (take (length text) text) ∙ take_all (length text) text (omega arith))) named);
+      ([], rw (append-nil (take (length text) text) ∙ take_all (length text) text (omega arith)) named);
   beginning = record {
     within = omega (arith, within);
     whole = begins_text (take at text) (HasRead-begins reading path part (take at text) all read);
@@ -347,8 +347,8 @@ stops_at_end text reading path part all read unfinished = record {
       (same_reading reading Inside (sym (run-HasRead reading path part text all read) ∙ ap (run (Some Start)) (sym is) ∙ run-name_text name ids));
   beginning = record {
     within = omega arith;
-    whole = subst IsUtf8 (sym (take_all (length text) text (omega arith))) (begins_text text (HasRead-begins reading path part text all read));
-    begins = subst (Begins IsNameText) (sym (take_all (length text) text (omega arith))) (HasRead-begins reading path part text all read);
+    whole = rw (take_all (length text) text (omega arith)) (begins_text text (HasRead-begins reading path part text all read));
+    begins = rw (take_all (length text) text (omega arith)) (HasRead-begins reading path part text all read);
     longest = λ longer more inside _. absurd (omega (arith, more, inside));
   };
 }

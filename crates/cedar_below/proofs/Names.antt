@@ -1,5 +1,5 @@
 -- Comparisons of names and of entity types, by the plain names that they stand for.
-use Rattle.std.proofs.Common.{◌≡◌, ◌↔◌, IsTrue, ◌&&◌, List, ap, sym, subst}
+use Rattle.std.proofs.Common.{◌≡◌, ◌↔◌, IsTrue, ◌&&◌, List, ap, sym}
 use Rattle.std.proofs.lemmas.Bool.Decides.{Decides-and, Decides-at, Decides-like}
 use Rattle.std.proofs.lemmas.Map.Steps.{list_any_congr}
 use Rattle.std.specs.Bool.{Decides}
@@ -65,8 +65,7 @@ internal_name_ord-name_cmp a b = name_parts_ord-name_cmp a.parts.value b.parts.v
 
 -- names tie exactly where they stand for the same name
 pub internal_name_ord-Equal : (a b : InternalName) → ((internal_name_ord.ghosts).cmp a b ≡ Equal) ↔ (name_of a ≡ name_of b)
-internal_name_ord-Equal a b =
-    subst (λ r. (r ≡ Equal) ↔ (name_of a ≡ name_of b)) (sym (internal_name_ord-name_cmp a b)) (name_cmp-Equal (name_of a) (name_of b))
+internal_name_ord-Equal a b = rw (internal_name_ord-name_cmp a b) (name_cmp-Equal (name_of a) (name_of b))
 
 -- the hash reads no more than what the name stands for
 pub internal_name_hash-same : (a b : InternalName) → name_of a ≡ name_of b

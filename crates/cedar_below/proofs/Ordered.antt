@@ -1,5 +1,5 @@
 -- Strict orders, and lists in one, seen through a function.
-use Rattle.std.proofs.Common.{◌≡◌, List, [], ◌∷◌, ◌++◌, map, ap, sym, subst, ◌∙◌, refl}
+use Rattle.std.proofs.Common.{◌≡◌, List, [], ◌∷◌, ◌++◌, map, ap, sym, ◌∙◌, refl}
 use Rattle.std.specs.BTreeMap.{insert_entry}
 use Rattle.std.specs.Cmp.{IsTotalOrder}
 use Rattle.std.specs.List.{AllByRecursion}
@@ -18,7 +18,7 @@ apart R total x y less also =
 -- no value is below itself
 pub not_itself : {B : Type 0} (R : B → B → Ordering) → IsTotalOrder R → (x y : B) → x ≡ y → ¬ (R x y ≡ Less)
 not_itself R total x y same less =
-    let again : R x x ≡ Less = subst (λ z. R x z ≡ Less) (sym same) less in
+    let again : R x x ≡ Less = rw (← same) at less in
     apart R total x x again again
 
 module _ {K L : Type 0} (R : K → K → Ordering) (S : L → L → Ordering) (f : K → L) (same : (a b : K) → R a b ≡ S (f a) (f b)) where

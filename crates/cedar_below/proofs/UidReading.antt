@@ -87,7 +87,7 @@ begins_name : (front : Text) → HasNoQuote front → Begins IsUidText front →
 begins_name front free (rest, (uid, ids, utf8, is)) =
     let within = within_front (name_text uid.ty ++ codes "::") front (escaped_text uid.eid ++ codes "\"") rest free (sym (uid_text-split uid) ∙ is) in (
       within.0 ++ 97 ∷ [],
-      subst IsNameText (ap (λ all. all ++ 97 ∷ []) within.1 ∙ append_assoc front within.0 (97 ∷ [])) (longer_name uid.ty ids),
+      rw (ap (λ all. all ++ 97 ∷ []) within.1 ∙ append_assoc front within.0 (97 ∷ [])) at (longer_name uid.ty ids),
     )
 
 -- what begins a name begins a uid
@@ -154,14 +154,14 @@ stops_before_quote before after at free none most =
       other = λ is. let uid = uid_front before after free is in none uid.0 uid.1 uid.2;
       beginning = record {
         within = (let inside = most.within in let long = length-append before (34 ∷ after) in omega (arith, inside, long));
-        whole = subst IsUtf8 (sym front) most.whole;
-        begins = subst (Begins IsUidText) (sym front) (begins_uid (take at before) most.begins);
+        whole = rw front most.whole;
+        begins = rw front (begins_uid (take at before) most.begins);
         longest = λ longer more inside utf8 begun. elim (below_or_not (length before) longer) [
           | inl beyond ↦ behind_quote longer beyond begun
           | inr short ↦
               let same : take longer (before ++ 34 ∷ after) ≡ take longer before = take-append-le longer before (34 ∷ after) short in
-              most.longest longer more short (subst IsUtf8 same utf8)
-              (begins_name (take longer before) (front-no_quote longer before free) (subst (Begins IsUidText) same begun))
+              most.longest longer more short (rw same at utf8)
+              (begins_name (take longer before) (front-no_quote longer before free) (rw same at begun))
         ];
       };
     }
@@ -170,9 +170,8 @@ stops_before_quote before after at free none most =
     behind_quote longer beyond (rest, is) =
         let k = longer - (length before + 1) in
         let many : longer ≡ length before + 1 + k = omega (arith, beyond) in
-        let uid = uid_front before (take k after ++ rest) free (subst IsUidText
-        (ap (λ n. take n (before ++ 34 ∷ after) ++ rest) many ∙ ap (λ front. front ++ rest) (take_behind before after k)
-        ∙ append_assoc before (34 ∷ take k after) rest) is) in
+        let uid = uid_front before (take k after ++ rest) free (rw (ap (λ n. take n (before ++ 34 ∷ after) ++ rest) many ∙ ap (λ front. front ++ rest) (take_behind before after k)
+        ∙ append_assoc before (34 ∷ take k after) rest) at is) in
         none uid.0 uid.1 uid.2
 
 -- a quote is a text
@@ -191,15 +190,14 @@ joined_uid name before quoted ids is (eid, utf8, same) =
 pub stops_in_id : (name : PlainName) (before after : Text) (at : ℕ) → IsOfIdentifiers name → before ≡ name_text name ++ codes "::"
     → StopsAt IsQuoted after at → StopsAt IsUidText (before ++ 34 ∷ after) (length before + 1 + at)
 stops_in_id name before after at ids is stop =
-    let free : HasNoQuote before = subst HasNoQuote (sym is) (name_front-no_quote name ids) in
+    let free : HasNoQuote before = rw is (name_front-no_quote name ids) in
     let text : IsUtf8 (before ++ 34 ∷ []) =
-    IsUtf8-append before (34 ∷ []) (subst IsUtf8 (sym is) (begins_text (name_text name ++ codes "::") (97 ∷ [], longer_name name ids))) quote_text in
+    IsUtf8-append before (34 ∷ []) (rw is (begins_text (name_text name ++ codes "::") (97 ∷ [], longer_name name ids))) quote_text in
     record {
       other = λ whole. stop.other (uid_front before after free whole).3;
       beginning = record {
         within = (let inside = stop.beginning.within in let long = length-append before (34 ∷ after) in omega (arith, inside, long));
-        whole = subst IsUtf8 (append_assoc before (34 ∷ []) (take at after) ∙ sym (take_behind before after at))
-            (IsUtf8-append (before ++ 34 ∷ []) (take at after) text stop.beginning.whole);
+        whole = rw (append_assoc before (34 ∷ []) (take at after) ∙ sym (take_behind before after at)) at (IsUtf8-append (before ++ 34 ∷ []) (take at after) text stop.beginning.whole);
         begins = (
           stop.beginning.begins.0,
           subst IsUidText (sym (append_assoc before (34 ∷ take at after) stop.beginning.begins.0) ∙ ap (λ front. front ++ stop.beginning.begins.0) (sym (take_behind before after at)))
@@ -211,10 +209,9 @@ stops_in_id name before after at ids is stop =
             let long = length-append before (34 ∷ after) in
             let front : take longer (before ++ 34 ∷ after) ≡ before ++ 34 ∷ take k after =
             ap (λ n. take n (before ++ 34 ∷ after)) many ∙ take_behind before after k in
-            let uid = uid_front before (take k after ++ rest) free (subst IsUidText
-            (ap (λ first. first ++ rest) front ∙ append_assoc before (34 ∷ take k after) rest) begun) in
+            let uid = uid_front before (take k after ++ rest) free (rw (ap (λ first. first ++ rest) front ∙ append_assoc before (34 ∷ take k after) rest) at begun) in
             stop.beginning.longest k (omega (arith, more, many)) (omega (arith, many, inside, long))
-            (utf8_rest (before ++ 34 ∷ []) (take k after) text (subst IsUtf8 (front ∙ sym (append_assoc before (34 ∷ []) (take k after))) utf8))
+            (utf8_rest (before ++ 34 ∷ []) (take k after) text (rw (front ∙ sym (append_assoc before (34 ∷ []) (take k after))) at utf8))
             (rest, uid.3);
       };
     }
@@ -225,8 +222,8 @@ beginning_of_name text utf8 is =
     let all : take (length text) text ≡ text = take_all (length text) text (omega arith) in
     record {
       within = omega arith;
-      whole = subst IsUtf8 (sym all) utf8;
-      begins = subst (Begins IsNameText) (sym all) ([], subst IsNameText (sym (append-nil text)) is);
+      whole = rw all utf8;
+      begins = rw all ([], rw (append-nil text) is);
       longest = λ longer more inside _ _. absurd (omega (arith, more, inside));
     }
 

@@ -1,5 +1,5 @@
 -- Comparisons of uids, by the plain uids that they stand for.
-use Rattle.std.proofs.Common.{◌≡◌, ◌↔◌, IsTrue, List, ap, sym, subst}
+use Rattle.std.proofs.Common.{◌≡◌, ◌↔◌, IsTrue, List, ap}
 use Rattle.std.proofs.lemmas.Bool.Decides.{Decides-and, Decides-like}
 use Rattle.std.proofs.lemmas.Map.Steps.{list_any_congr}
 use Rattle.std.specs.List.{list_any}
@@ -38,8 +38,7 @@ entity_uid_ord-uid_cmp a b =
 
 -- uids tie exactly where they stand for the same uid
 pub entity_uid_ord-Equal : (a b : EntityUID) → ((entity_uid_ord.ghosts).cmp a b ≡ Equal) ↔ (uid_of a ≡ uid_of b)
-entity_uid_ord-Equal a b =
-    subst (λ r. (r ≡ Equal) ↔ (uid_of a ≡ uid_of b)) (sym (entity_uid_ord-uid_cmp a b)) (uid_cmp-Equal (uid_of a) (uid_of b))
+entity_uid_ord-Equal a b = rw (entity_uid_ord-uid_cmp a b) (uid_cmp-Equal (uid_of a) (uid_of b))
 
 -- the hash reads no more than what the uid stands for
 pub entity_uid_hash-same : (a b : EntityUID) → uid_of a ≡ uid_of b

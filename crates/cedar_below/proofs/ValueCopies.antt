@@ -1,5 +1,5 @@
 -- Copies of values.
-use Rattle.std.proofs.Common.{◌≡◌, Bool, refl, ap, sym, subst, ◌∙◌, List, [], ◌∷◌, ◌++◌, map, Contains, arith, string_bytes, string_cmp, append_assoc, Global, inl, inr}
+use Rattle.std.proofs.Common.{◌≡◌, Bool, refl, ap, sym, ◌∙◌, List, [], ◌∷◌, ◌++◌, map, Contains, arith, string_bytes, string_cmp, append_assoc, Global, inl, inr}
 use Rattle.std.proofs.lemmas.List.{map-append, append-nil}
 use Rattle.std.proofs.lemmas.Str.{IsUtf8-string_bytes}
 use Rattle.std.specs.BTreeMap.{BTreeMap, insert_entry}
@@ -55,7 +55,7 @@ no_entries values nothing = ap (λ (pairs : Pairs). entries_from (plain_pairs pa
 -- an expression for a copy of a value is a copy of an expression for the value
 pub copied_at : (value copy : Tree) (of made : RestrictedExpr) → tree_of of ≡ value → tree_of made ≡ copy → IsCopy value copy
     → IsCopy (tree_of of) (tree_of made)
-copied_at value copy of made is also one = (also ∙ (one.0 ∙ sym is), subst IsValue (sym also) one.1)
+copied_at value copy of made is also one = (also ∙ (one.0 ∙ sym is), rw also one.1)
 
 -- a uid is a real value
 pub uid_real : (uid : EntityUID) → IsValue (uid_value (uid_of uid))
@@ -130,8 +130,7 @@ real_entries (pair ∷ rest) real = (real.1, real_entries rest real.2)
 -- where the keys are sorted without duplicates, so are the names
 pub texts_sorted : (pairs : Pairs) → IsStrictlySortedBy string_cmp (keys_of pairs) → IsStrictlySortedBy text_cmp (texts pairs)
 texts_sorted pairs sorted_by_name =
-    subst (IsStrictlySortedBy text_cmp) (keys-texts pairs)
-    (IsStrictlySortedBy-map string_cmp text_cmp (λ key. string_bytes key) (λ a b. refl) (keys_of pairs) sorted_by_name)
+    rw (keys-texts pairs) at (IsStrictlySortedBy-map string_cmp text_cmp (λ key. string_bytes key) (λ a b. refl) (keys_of pairs) sorted_by_name)
   where
     keys-texts : (pairs : Pairs) → map (λ key. string_bytes key) (keys_of pairs) ≡ texts pairs
     keys-texts [] = refl
@@ -150,8 +149,7 @@ keys_below : (key : String Global) (name : Text) (pairs : Pairs) → string_byte
     → AllByRecursion (λ other. text_cmp name other ≡ Greater) (texts pairs)
     → AllByRecursion (λ other. string_cmp key other ≡ Greater) (keys_of pairs)
 keys_below key name [] is above = tt
-keys_below key name (pair ∷ rest) is above =
-    (subst (λ text. text_cmp text (string_bytes pair.0) ≡ Greater) (sym is) above.0, keys_below key name rest is above.1)
+keys_below key name (pair ∷ rest) is above = (rw is above.0, keys_below key name rest is above.1)
 
 -- values with one more at the end are real
 real_more : (pairs : Pairs) (pair : String Global × RestrictedExpr) → AreReal pairs → IsValue (tree_of pair.1) → AreReal (pairs ++ pair ∷ [])
@@ -190,4 +188,4 @@ entries_all all made left nothing sorted_by_name so_far =
     so_far.same ∙ ap plain_pairs (sym (so_far.split ∙ (ap (λ others. so_far.done ++ others) nothing ∙ append-nil so_far.done))) in
     let names : texts all ≡ texts made =
     texts-plain all ∙ (ap (map (λ (pair : Text × Tree). pair.0)) (sym same) ∙ sym (texts-plain made)) in
-    (ap entries_from same, entries_real made (subst (IsStrictlySortedBy text_cmp) names sorted_by_name) so_far.real)
+    (ap entries_from same, entries_real made (rw names at sorted_by_name) so_far.real)

@@ -29,7 +29,7 @@ use Rattle.cedar_type_rules.specs.Below.{HasField}
 use Rattle.cedar_type_rules.specs.Fields.{IsSortedByName, field_names}
 use Rattle.cedar_type_rules.specs.Has.{Has, HasUid}
 use Rattle.cedar_type_rules.specs.OpenTag.{is_open}
-use Rattle.cedar_type_rules.specs.Ty.{Fields, Ty, end, field, record_of}
+use Rattle.cedar_type_rules.specs.Ty.{Fields, Ty, field, record_of}
 use Rattle.cedar_type_rules.specs.declared.open_tag.OpenTag.{OpenTag}
 use Rattle.cedar_type_rules.specs.declared.open_tag.OpenTag.TheVariants.{ClosedAttributes, OpenAttributes}
 use Rattle.cedar_counterexample.specs.Filling.{IsFilled, IsPut}

@@ -1,5 +1,5 @@
 -- Texts that are longer than all of some.
-use Rattle.std.proofs.Common.{◌≡◌, ◌≤◌, ◌⊎◌, ◌+◌, inl, inr, refl, ap, subst, ℕ, zero, suc, List, [], ◌∷◌, length, Contains, arith, add-one}
+use Rattle.std.proofs.Common.{◌≡◌, ◌≤◌, ◌⊎◌, ◌+◌, inl, inr, refl, ap, subst, ℕ, zero, suc, List, ◌∷◌, length, Contains, arith, add-one}
 use Rattle.std.proofs.Math.ListN.{replicate}
 use Rattle.cedar_below.proofs.Lists.{Contains-cons_cases}
 use Rattle.cedar_below.proofs.ValueLemmas.{stretch}

@@ -1,6 +1,6 @@
 -- Lists whose members are looked for in others, one after another.
-use Rattle.std.proofs.Common.{◌≡◌, List, [], ◌∷◌, Contains, sym, subst}
-use Rattle.cedar_below.proofs.Inclusion.{Included-cons, Included-head, Included-none, Included-tail}
+use Rattle.std.proofs.Common.{List, ◌∷◌, Contains}
+use Rattle.cedar_below.proofs.Inclusion.{Included-cons, Included-head, Included-tail}
 use Rattle.cedar_below.specs.Lists.{Included}
 
 -- what is left of a list decides whether all of it is included in another, and is part of it

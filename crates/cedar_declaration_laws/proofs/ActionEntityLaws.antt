@@ -1,13 +1,12 @@
 -- The entities of actions of a declared schema are those of the actions that are defined.
 use Rattle.std.proofs.Common.{List, [], ◌∷◌, map, sym, subst, Contains, inl, inr}
-use Rattle.cedar_below.proofs.Lists.{Contains-preimage}
 use Rattle.cedar_below.specs.PlainName.{PlainName}
 use Rattle.cedar_below.specs.PlainUid.{PlainUid}
 use Rattle.cedar_below.specs.declared.extension.Extensions.{Extensions}
 use Rattle.cedar_names.specs.ActionBody.{Requests, requests, elsewhere}
 use Rattle.cedar_names.specs.Reference.{ActionReference}
 use Rattle.cedar_below.proofs.Chains.{last_step}
-use Rattle.cedar_declarations.proofs.OccurrenceLemmas.{Contains-image}
+use Rattle.cedar_declarations.proofs.OccurrenceLemmas.{Contains-image, Contains-entry}
 use Rattle.cedar_declarations.proofs.TogetherLemmas.{defined_action_is_declared}
 use Rattle.cedar_declaration_laws.proofs.ValidLaws.{listed_action}
 use Rattle.cedar_declarations.specs.ActionEntities.{DefinesAction, IsDefinedKind}
@@ -17,32 +16,30 @@ use Rattle.cedar_declarations.specs.Descent.{HasParentAction, IsDescendantAction
 use Rattle.cedar_declaration_laws.specs.EndToEnd.{ActionEntitiesAreDeclared}
 use Rattle.cedar_declarations.specs.Names.{NamesAction}
 use Rattle.cedar_declarations.specs.Occurrences.{IsFirst}
-use Rattle.cedar_declarations.specs.PlainSchema.{ActionKind, defined_action, external_action, SchemaAction, PlainSchema}
+use Rattle.cedar_declarations.specs.PlainSchema.{ActionKind, defined_action, external_action, PlainSchema}
 use Rattle.cedar_declarations.specs.Together.{defined_actions, ActionSays}
 use Rattle.cedar_declarations.specs.ValidSchema.{ListsDescendantAction}
 
 -- of the first item of which a fact holds it holds
 first_holds : {A : Type 0} (P : A → Type 0) (xs : List A) (x : A) → IsFirst P xs x → P x
 first_holds P [] x first = absurd first
-first_holds P (y ∷ rest) x first = elim first [ inl here ↦ subst P here.0 here.1 | inr later ↦ first_holds P rest x later.1 ]
+first_holds P (y ∷ rest) x first = elim first [ inl here ↦ rw here.0 at here.1 | inr later ↦ first_holds P rest x later.1 ]
 
 -- an action that a reference names is one of those that it may name
 named_action : (actions : List PlainUid) (reference : ActionReference) (uid : PlainUid) → NamesAction actions reference uid
     → Contains actions uid
 named_action actions reference uid names =
-    let P : PlainName → Type 0 = λ ty. Contains actions (record { ty = ty; eid = reference.id }) in
-    subst (Contains actions) (λ i. record { ty = uid.ty; eid = sym names.1 i }) (first_holds P reference.ty.possibilities uid.ty names.0)
+    let Stands : PlainName → Type 0 = λ ty. Contains actions (record { ty = ty; eid = reference.id }) in
+    subst (Contains actions) (λ i. record { ty = uid.ty; eid = sym names.1 i }) (first_holds Stands reference.ty.possibilities uid.ty names.0)
 
 module _ (bag : Bag) (extensions : Extensions) (schema : PlainSchema) (declared : IsDeclaredSchema bag extensions schema) where
   -- a descendant of an action is listed
   descendant_listed : (lower upper : PlainUid) → IsDescendantAction bag lower upper → ListsDescendantAction schema lower upper
   descendant_listed lower upper below =
-      let key = λ (each : PlainUid × SchemaAction). each.0 in
       let step = (last_step (HasParentAction bag) lower upper below).1 in
-      let it = Contains-preimage key schema.actions upper (declared.each_action upper
+      let it = Contains-entry schema.actions upper (declared.each_action upper
       (named_action (action_uids bag) step.0 upper step.2)) in
-      let there = subst (λ uid. Contains schema.actions (uid, it.0.1)) it.2 it.1 in
-      (it.0.1, there, ((declared.actions (upper, it.0.1) there).descendants lower).1 below)
+      (it.0, it.1, ((declared.actions (upper, it.0) it.1).descendants lower).1 below)
 
   -- an action that the schema defines the bag defines
   defined_here : (uid : PlainUid) → DefinesAction schema uid → Contains (map (λ it. it.0) (defined_actions bag)) uid
@@ -58,11 +55,9 @@ module _ (bag : Bag) (extensions : Extensions) (schema : PlainSchema) (declared 
   -- an action that the bag defines the schema defines
   defined_there : (uid : PlainUid) → Contains (map (λ it. it.0) (defined_actions bag)) uid → DefinesAction schema uid
   defined_there uid defined =
-      let key = λ (each : PlainUid × SchemaAction). each.0 in
-      let it = Contains-preimage key schema.actions uid (declared.each_action uid (defined_action_is_declared bag uid defined)) in
-      let there = subst (λ uid. Contains schema.actions (uid, it.0.1)) it.2 it.1 in
-      let found = declared.actions (uid, it.0.1) there in
-      (it.0.1, there, by found.applies_to it.0.1.kind found.says found.kind)
+      let it = Contains-entry schema.actions uid (declared.each_action uid (defined_action_is_declared bag uid defined)) in
+      let found = declared.actions (uid, it.0) it.1 in
+      (it.0, it.1, by found.applies_to it.0.kind found.says found.kind)
     where
       by : (it : Requests) (kind : ActionKind) → ActionSays bag uid it → IsDeclaredActionKind (definitions bag extensions) it kind
           → IsDefinedKind kind

@@ -1,5 +1,5 @@
 -- Whether a chain leads from one item to another is decided, where its steps are, and start from listed items.
-use Rattle.std.proofs.Common.{◌⊎◌, List, [], ◌∷◌, inl, inr, sym, subst, arith, Contains}
+use Rattle.std.proofs.Common.{◌⊎◌, List, [], ◌∷◌, inl, inr, arith, Contains}
 use Rattle.cedar_below.proofs.Chains.{first_step, joined}
 use Rattle.cedar_below.proofs.Lists.{Contains-cons_cases}
 use Rattle.cedar_below.specs.Chain.{Chain, one, more}
@@ -25,7 +25,7 @@ module _ {A : Type 0} (Step : A → A → Type 0) where
       elim (Contains-cons_cases x rest b among) [
         | inl here ↦
             inr (
-              reaches_one rest a x (subst (Step a) (sym here) step),
+              reaches_one rest a x (rw here step),
               elim onwards [ inl straight ↦ rw here straight | inr both ↦ both.1 ],
             )
         | inr later ↦

@@ -1,5 +1,5 @@
 -- Where no chain of steps leads back, and the steps end at listed items, what an item has by what it steps to each has.
-use Rattle.std.proofs.Common.{◌≡◌, ◌≢◌, ℕ, zero, suc, List, [], ◌∷◌, length, inl, inr, sym, subst, ◌∙◌, refl, arith, Contains}
+use Rattle.std.proofs.Common.{◌≡◌, ◌≢◌, ℕ, zero, suc, List, [], ◌∷◌, length, inl, inr, sym, ◌∙◌, refl, arith, Contains}
 use Rattle.cedar_below.proofs.Chains.{last_step}
 use Rattle.cedar_below.proofs.Lists.{Contains-cons, Contains-cons_cases}
 use Rattle.cedar_below.specs.Chain.{Chain, one, more}
@@ -38,7 +38,7 @@ module _ {A : Type 0} (Step : A → A → Type 0) (acyclic : (a : A) → ¬ Chai
       along a (λ b step.
       let less = taken_out left b (within b (one step)) in
       from_left count less.0 (omega (arith, counted, less.1)) b
-      (λ c onwards. less.2 c (within c (more step onwards)) (λ same. acyclic b (subst (Chain Step b) (sym same) onwards))))
+      (λ c onwards. less.2 c (within c (more step onwards)) (λ same. acyclic b (rw (← same) at onwards))))
 
   -- each item has it
   pub by_steps : (xs : List A) → ((a b : A) → Step a b → Contains xs b) → (a : A) → P a

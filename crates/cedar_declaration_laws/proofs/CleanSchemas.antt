@@ -1,5 +1,5 @@
 -- The types of declared schemas are clean: what an expression is elaborated as has no any-set.
-use Rattle.std.proofs.Common.{◌≡◌, Option, None, Some, inl, inr, sym, subst}
+use Rattle.std.proofs.Common.{◌≡◌, Option, None, Some, inl, inr, subst}
 use Rattle.cedar_declarations.specs.DeclaredSchema.{AreDeclaredTags, IsDeclaredActionKind, IsDeclaredKind}
 use Rattle.cedar_declarations.specs.Defined.{Defined}
 use Rattle.cedar_declarations.specs.EntityTypeKind.{EntityTypeKind, standard_kind}
@@ -46,7 +46,7 @@ tags_clean defined _ None ty declared is = absurd (first_of (assumption, cc))
 kind_clean : (defined : Defined) (body : EntityBody) (kind : EntityTypeKind) (ty : Ty) → IsDeclaredKind defined body kind
     → IsTypeOfKind kind ty → IsClean ty
 kind_clean defined (standard parents shape tags) (standard_kind fields openness given) ty declared (inl is) =
-    subst IsClean (sym is) (elaborated_clean defined shape _ declared.0)
+    rw is (elaborated_clean defined shape _ declared.0)
 kind_clean defined (standard parents shape tags) (standard_kind fields openness given) ty declared (inr is) =
     tags_clean defined tags given ty declared.2 is
 kind_clean defined (enumerated ids) (standard_kind fields openness given) ty declared is = absurd declared
@@ -57,7 +57,7 @@ kind_clean _ _ _ _ declared is = absurd assumption
 context_clean : (defined : Defined) (applies_to : Requests) (kind : ActionKind) (ty : Ty) → IsDeclaredActionKind defined applies_to kind
     → IsContextOf kind ty → IsClean ty
 context_clean defined (requests principals resources context) (defined_action principal_types resource_types own) ty declared is =
-    subst IsClean is (elaborated_clean defined context own declared.2)
+    rw is at (elaborated_clean defined context own declared.2)
 context_clean defined elsewhere (defined_action principal_types resource_types own) ty declared is = absurd declared
 context_clean _ _ _ _ declared is = absurd assumption
 

@@ -1,5 +1,5 @@
 -- The schema that a bag declares meets what a schema has to that is converted back, so that it comes back.
-use Rattle.std.proofs.Common.{subst, inl, inr}
+use Rattle.std.proofs.Common.{inl, inr}
 use Rattle.cedar_below.specs.Extensions.{extension_types}
 use Rattle.cedar_below.specs.PlainUid.{PlainUid}
 use Rattle.cedar_below.specs.TypeNames.{TypeNamesFit}
@@ -40,7 +40,7 @@ module _ (bag : Bag) (extensions : Extensions) (schema : PlainSchema) (declared 
       → IsContextOf kind ty → IsRecordType ty
   context_is_record well uid (requests principals resources context) (defined_action ps rs other) says is ty same =
       elim (decide_record other) [
-        | inl is_record ↦ subst IsRecordType same is_record
+        | inl is_record ↦ rw same at is_record
         | inr none ↦ absurd (well (context_not_record uid, (principals, resources, context, says, (other, is.2, none))))
       ]
   context_is_record well uid elsewhere (defined_action ps rs other) says is ty same = absurd is

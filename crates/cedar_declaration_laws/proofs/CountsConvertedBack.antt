@@ -86,8 +86,7 @@ module _ (schema : PlainSchema) where
   types_declare_their_names [] [] after turn none = ap (map (λ (it : PlainName × EntityBody). it.0)) none
   types_declare_their_names (it ∷ others) (d ∷ rest) after turn none =
       ap (λ body. map (λ (each : PlainName × EntityBody). each.0) (entity_in (declared_name d) body ++ declared_entities (rest ++ after)))
-      turn.0.declares
-      ∙ (λ i. turn.0.name i ∷ types_declare_their_names others rest after turn.1 none i)
+      turn.0.declares ∙ (λ i. turn.0.name i ∷ types_declare_their_names others rest after turn.1 none i)
   types_declare_their_names _ _ after turn none = absurd turn
 
   -- the declarations of entity types declare no actions
@@ -105,8 +104,7 @@ module _ (schema : PlainSchema) where
   actions_declare_their_uids [] [] turn = refl
   actions_declare_their_uids (it ∷ others) (d ∷ rest) turn =
       ap (λ body. map (λ (each : PlainUid × ActionBody). each.0) (action_in (declared_uid d) body ++ declared_actions rest))
-      turn.0.declares
-      ∙ (λ i. turn.0.uid i ∷ actions_declare_their_uids others rest turn.1 i)
+      turn.0.declares ∙ (λ i. turn.0.uid i ∷ actions_declare_their_uids others rest turn.1 i)
   actions_declare_their_uids _ _ turn = absurd turn
 
 module _ (schema : PlainSchema) (bag : Bag) (order : IsInOrder schema) (written : IsConvertedBack schema bag) where

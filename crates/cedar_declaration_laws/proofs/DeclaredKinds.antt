@@ -1,12 +1,12 @@
 -- What is declared in a bag that isn't ill-formed has a kind, entity types and actions alike.
-use Rattle.std.proofs.Common.{◌≡◌, [], Option, Some, None, map, inl, inr, refl, subst, Contains}
-use Rattle.cedar_below.proofs.Lists.{Contains-preimage}
+use Rattle.std.proofs.Common.{◌≡◌, [], Option, Some, None, map, inl, inr, refl, Contains}
 use Rattle.cedar_below.specs.PlainName.{PlainName}
 use Rattle.cedar_below.specs.PlainUid.{PlainUid}
 use Rattle.cedar_below.specs.declared.extension.Extensions.{Extensions}
 use Rattle.cedar_names.specs.ActionBody.{Requests, requests, elsewhere}
 use Rattle.cedar_names.specs.EntityBody.{EntityBody, standard, enumerated, external}
 use Rattle.cedar_names.specs.Expr.{Expr}
+use Rattle.cedar_declarations.proofs.OccurrenceLemmas.{Contains-entry}
 use Rattle.cedar_declarations.proofs.DeclarationLemmas.{entity_declaration, action_declaration}
 use Rattle.cedar_declarations.proofs.TogetherLemmas.{action_definition_declared, action_definition_says, definition_declared, definition_says}
 use Rattle.cedar_declarations.specs.Bag.{Bag, action_uids, declared_entities, definitions}
@@ -44,8 +44,8 @@ pub entity_says : (bag : Bag) (name : PlainName) → Contains (map (λ it. it.0)
 entity_says bag name among =
     elim (decide_among decide_names (map (λ it. it.0) (defined_entities bag)) name) [
       | inl is ↦
-          let it = Contains-preimage (λ (it : PlainName × EntityBody). it.0) (defined_entities bag) name is in
-          (it.0.1, definition_says bag name it.0.1 (subst (λ each. Contains (defined_entities bag) (each, it.0.1)) it.2 it.1))
+          let it = Contains-entry (defined_entities bag) name is in
+          (it.0, definition_says bag name it.0 it.1)
       | inr none ↦ (external [], (among, none))
     ]
 
@@ -54,8 +54,8 @@ pub action_says : (bag : Bag) (uid : PlainUid) → Contains (action_uids bag) ui
 action_says bag uid among =
     elim (decide_among decide_uids (map (λ it. it.0) (defined_actions bag)) uid) [
       | inl is ↦
-          let it = Contains-preimage (λ (it : PlainUid × Requests). it.0) (defined_actions bag) uid is in
-          (it.0.1, action_definition_says bag uid it.0.1 (subst (λ each. Contains (defined_actions bag) (each, it.0.1)) it.2 it.1))
+          let it = Contains-entry (defined_actions bag) uid is in
+          (it.0, action_definition_says bag uid it.0 it.1)
       | inr none ↦ (elsewhere, (among, none))
     ]
 
@@ -85,8 +85,7 @@ module _ (bag : Bag) (extensions : Extensions) (well : ¬ IsIllFormed bag extens
   record_written expr counts some =
       let it = counted_written bag extensions well expr counts in
       elim (decide_record it.0) [
-        | inl is ↦
-            let closed = elaborated_closed ours it.1 is in (closed.0, subst (ElaboratesTo ours expr) closed.1 it.1)
+        | inl is ↦ let closed = elaborated_closed ours it.1 is in (closed.0, rw closed.1 at it.1)
         | inr none ↦ absurd (some (it.0, it.1, none))
       ]
 

@@ -1,13 +1,12 @@
 -- Expressions that count in a bag which isn't ill-formed are elaborated.
-use Rattle.std.proofs.Common.{[], ◌∷◌, map, inl, inr, refl, subst, Contains}
-use Rattle.cedar_below.proofs.Lists.{Contains-preimage}
+use Rattle.std.proofs.Common.{[], ◌∷◌, map, inl, inr, refl, Contains}
 use Rattle.cedar_below.specs.PlainName.{PlainName}
 use Rattle.cedar_below.specs.declared.extension.Extensions.{Extensions}
 use Rattle.cedar_names.specs.Expr.{Expr, text_expr, long_expr, truth_expr, set_expr, record_expr, named, extension_expr, Members, no_member, member}
 use Rattle.cedar_names.specs.Reference.{Reference}
 use Rattle.cedar_declarations.proofs.BuiltInLemmas.{refers_declared}
 use Rattle.cedar_declarations.proofs.DeclarationLemmas.{common_declaration}
-use Rattle.cedar_declarations.proofs.OccurrenceLemmas.{Contains-image, Contains-single}
+use Rattle.cedar_declarations.proofs.OccurrenceLemmas.{Contains-image, Contains-single, Contains-entry}
 use Rattle.cedar_declarations.proofs.ResolutionLemmas.{first_defined}
 use Rattle.cedar_declarations.specs.Bag.{Bag, definitions, defined_names}
 use Rattle.cedar_declarations.specs.Counted.{HasToResolve, IsCounted}
@@ -60,11 +59,10 @@ module _ (defined : Defined) where
   of_common reference name resolves each =
       elim (decide_both (decide_may_common reference.kind) (decide_among decide_names (names_of defined).common name)) [
         | inl is ↦
-            let it = Contains-preimage (λ (it : PlainName × Expr). it.0) defined.common name is.1 in
-            let P : PlainName → Type 0 = λ each. Contains defined.common (each, it.0.1) in
-            let body : IsCommon defined reference.kind name it.0.1 = (is.0, subst P it.2 it.1) in
-            let written = each it.0.1 body in
-            (written.0, as_common reference name it.0.1 resolves body written.1)
+            let it = Contains-entry defined.common name is.1 in
+            let body : IsCommon defined reference.kind name it.0 = (is.0, it.1) in
+            let written = each it.0 body in
+            (written.0, as_common reference name it.0 resolves body written.1)
         | inr none ↦ (
           union_of (name ∷ []),
           as_entity reference name resolves
@@ -106,8 +104,7 @@ module _ (bag : Bag) (extensions : Extensions) (well : ¬ IsIllFormed bag extens
   common_written =
       by_steps (RefersToCommon ours) (λ name cycle. well (common_type_cycle name, cycle))
       (λ name. (body : Expr) → Contains ours.common (name, body) → IsWritten ours body)
-      (λ name later body among. of_references ours body
-      (λ reference refers.
+      (λ name later body among. of_references ours body (λ reference refers.
       let to = resolves reference (inl (body, common_counts name body reference among refers, refers)) in
       of_common ours reference to.0 to.1 (λ found is. later to.0 (body, reference, found, among, refers, to.1, is) found is.1)))
       (map (λ it. it.0) ours.common)
@@ -116,7 +113,6 @@ module _ (bag : Bag) (extensions : Extensions) (well : ¬ IsIllFormed bag extens
   -- each expression that counts is elaborated
   pub counted_written : (expr : Expr) → IsCounted bag expr → IsWritten ours expr
   counted_written expr counts =
-      of_references ours expr
-      (λ reference refers.
+      of_references ours expr (λ reference refers.
       let to = resolves reference (inl (expr, counts, refers)) in
       of_common ours reference to.0 to.1 (λ found is. common_written to.0 found is.1))

@@ -80,8 +80,8 @@ module _ (schema : PlainSchema) (bag : Bag) (written : IsConvertedBack schema ba
             let same : entity_type from.2.body ≡ entity_type body = sym from.2.declares ∙ d.2 in
             let same_body : from.2.body ≡ body = cc in
             let key : from.0.0 ≡ name = sym from.2.name ∙ d.3 in
-            let P : PlainName → Type 0 = λ each. Contains schema.entity_types (each, from.0.1) × IsTypeWritten schema (each, from.0.1) body in
-            let both = subst P key (from.1, rw same_body at (type_written_by schema from.0 d.0 from.2)) in
+            let Written : PlainName → Type 0 = λ each. Contains schema.entity_types (each, from.0.1) × IsTypeWritten schema (each, from.0.1) body in
+            let both = subst Written key (from.1, rw same_body at (type_written_by schema from.0 d.0 from.2)) in
             (from.0.1, both.0, both.1)
         | inr from ↦ absurd (types_are_no_actions schema body _ (sym d.2 ∙ from.2.declares))
       ]
@@ -98,8 +98,8 @@ module _ (schema : PlainSchema) (bag : Bag) (written : IsConvertedBack schema ba
             let same : action made ≡ action body = sym from.2.declares ∙ d.2 in
             let same_body : made ≡ body = cc in
             let key : from.0.0 ≡ uid = sym from.2.uid ∙ d.3 in
-            let P : PlainUid → Type 0 = λ each. Contains schema.actions (each, from.0.1) × IsActionWritten schema (each, from.0.1) body in
-            let both = subst P key (from.1, rw same_body at (action_written_by schema from.0 d.0 from.2)) in
+            let Written : PlainUid → Type 0 = λ each. Contains schema.actions (each, from.0.1) × IsActionWritten schema (each, from.0.1) body in
+            let both = subst Written key (from.1, rw same_body at (action_written_by schema from.0 d.0 from.2)) in
             (from.0.1, both.0, both.1)
       ]
 
@@ -118,8 +118,7 @@ module _ (schema : PlainSchema) (bag : Bag) (written : IsConvertedBack schema ba
     λ among.
         let it = Contains-preimage (λ (each : PlainName × EntityBody). each.0) (declared_entities bag) name among in
         let from = declared_type_from it.0.0 it.0.1 it.1 in
-        subst (HasEntityType schema) it.2
-        (Contains-image (λ (each : PlainName × SchemaEntityType). each.0) schema.entity_types (it.0.0, from.0) from.1),
+        rw it.2 at (Contains-image (λ (each : PlainName × SchemaEntityType). each.0) schema.entity_types (it.0.0, from.0) from.1),
     λ has.
         let it = Contains-preimage (λ (each : PlainName × SchemaEntityType). each.0) schema.entity_types name has in
         let found = type_declared it.0 it.1 in
@@ -132,8 +131,7 @@ module _ (schema : PlainSchema) (bag : Bag) (written : IsConvertedBack schema ba
     λ among.
         let it = Contains-preimage (λ (each : PlainUid × ActionBody). each.0) (declared_actions bag) uid among in
         let from = declared_action_from it.0.0 it.0.1 it.1 in
-        subst (HasAction schema) it.2
-        (Contains-image (λ (each : PlainUid × SchemaAction). each.0) schema.actions (it.0.0, from.0) from.1),
+        rw it.2 at (Contains-image (λ (each : PlainUid × SchemaAction). each.0) schema.actions (it.0.0, from.0) from.1),
     λ has.
         let it = Contains-preimage (λ (each : PlainUid × SchemaAction). each.0) schema.actions uid has in
         let found = action_declared it.0 it.1 in

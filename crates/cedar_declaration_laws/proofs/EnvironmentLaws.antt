@@ -1,12 +1,11 @@
 -- The environments of a declared schema are the declared ones.
-use Rattle.std.proofs.Common.{subst, Contains}
-use Rattle.cedar_below.proofs.Lists.{Contains-preimage}
+use Rattle.std.proofs.Common.{Contains}
 use Rattle.cedar_below.specs.Extensions.{extension_types}
 use Rattle.cedar_below.specs.PlainUid.{PlainUid}
 use Rattle.cedar_below.specs.TypeNames.{TypeNamesFit}
 use Rattle.cedar_below.specs.declared.extension.Extensions.{Extensions}
 use Rattle.cedar_declarations.proofs.BuiltInLemmas.{one_definition}
-use Rattle.cedar_declarations.proofs.OccurrenceLemmas.{Contains-image}
+use Rattle.cedar_declarations.proofs.OccurrenceLemmas.{Contains-image, Contains-entry}
 use Rattle.cedar_declarations.proofs.TogetherLemmas.{defined_action_is_declared, action_definition_says, action_says_once}
 use Rattle.cedar_declarations.proofs.ResolutionLemmas.{HasOneDefinition, elaborated_once}
 use Rattle.cedar_declarations.specs.Bag.{Bag, definitions}
@@ -15,16 +14,15 @@ use Rattle.cedar_declarations.specs.Defined.{Defined}
 use Rattle.cedar_declarations.specs.Environments.{Environment, IsRequestOf, IsEnvironmentOf, IsDeclaredRequest, IsDeclaredEnvironment}
 use Rattle.cedar_declarations.specs.Fault.{duplicate_common_type, duplicate_action}
 use Rattle.cedar_declarations.specs.IllFormed.{IsIllFormed}
-use Rattle.cedar_declarations.specs.PlainSchema.{ActionKind, defined_action, SchemaAction, PlainSchema}
+use Rattle.cedar_declarations.specs.PlainSchema.{ActionKind, defined_action, PlainSchema}
 use Rattle.cedar_declarations.specs.Together.{defined_actions, ActionSays}
-use Rattle.cedar_declarations.specs.ElaboratesTo.{ElaboratesTo}
 use Rattle.cedar_names.specs.ActionBody.{Requests, requests, elsewhere}
 
 -- requests of a declared kind of action are declared
 declared_request : (defined : Defined) (declared : Requests) (kind : ActionKind) (it : Environment)
     → IsDeclaredActionKind defined declared kind → IsRequestOf kind it → IsDeclaredRequest defined declared it
 declared_request defined (requests principals resources context) (defined_action ps rs ty) it fits request =
-    ((fits.0 it.principal).0 request.0, (fits.1 it.resource).0 request.1, subst (ElaboratesTo defined context) request.2 fits.2)
+    ((fits.0 it.principal).0 request.0, (fits.1 it.resource).0 request.1, rw request.2 at fits.2)
 declared_request defined elsewhere (defined_action ps rs ty) it fits request = absurd fits
 declared_request _ _ _ _ fits request = absurd assumption
 
@@ -59,10 +57,9 @@ module _ (bag : Bag) (extensions : Extensions) (fit : TypeNamesFit (extension_ty
       let defined = definitions bag extensions in
       let named = declared.each_action it.action (defined_action_is_declared bag it.action
       (Contains-image (λ (each : PlainUid × Requests). each.0) (defined_actions bag) (it.action, found.0) found.1)) in
-      let there = Contains-preimage (λ (each : PlainUid × SchemaAction). each.0) schema.actions it.action named in
-      let among = subst (λ uid. Contains schema.actions (uid, there.0.1)) there.2 there.1 in
-      let action = declared.actions (it.action, there.0.1) among in
+      let there = Contains-entry schema.actions it.action named in
+      let action = declared.actions (it.action, there.0) there.1 in
       let same = action_says_once bag (λ uid twice. well (duplicate_action uid, twice)) it.action action.applies_to found.0
       action.says (action_definition_says bag it.action found.0 found.1) in
       let one = one_definition bag extensions fit (λ name twice. well (duplicate_common_type name, twice)) in
-      (there.0.1, among, request_of defined one found.0 there.0.1.kind it (rw same at action.kind) found.2)
+      (there.0, there.1, request_of defined one found.0 there.0.kind it (rw same at action.kind) found.2)

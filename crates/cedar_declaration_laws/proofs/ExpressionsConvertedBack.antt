@@ -1,6 +1,6 @@
 -- What stands in the expressions of types that are written, and which expressions count in the bag of a schema that is
 -- converted back.
-use Rattle.std.proofs.Common.{◌≡◌, false, List, [], ◌∷◌, Option, Some, None, ap, subst, ◌∙◌, refl, inl, inr, arith}
+use Rattle.std.proofs.Common.{◌≡◌, false, List, [], ◌∷◌, Option, Some, None, ap, ◌∙◌, refl, inl, inr, arith}
 use Rattle.std.proofs.lemmas.Bool.{false≢true}
 use Rattle.std.specs.Option.{option_zip}
 use Rattle.cedar_below.specs.PlainName.{PlainName}
@@ -49,7 +49,7 @@ module _ (namespace : Option PlainName) where
       → SaysOf (extension_of (record { base = base; path = path })) expr
   extension_says base [] expr is =
       let same : extension_expr base ≡ expr = cc in
-      subst (SaysOf (extension_of (record { base = base; path = [] }))) same (record {
+      rw (← same) (record {
         closed = λ none. none;
         refers = λ reference none. absurd none;
         mentions = λ word same i. record { base = same i; path = [] };
@@ -62,23 +62,20 @@ module _ (namespace : Option PlainName) where
     type_says never expr is = cc
     type_says (truth AnyBool) expr is =
         let same : truth_expr ≡ expr = cc in
-        subst (SaysOf (truth AnyBool)) same
-        (record { closed = λ none. none; refers = λ reference none. absurd none; mentions = λ word none. absurd none })
+        rw (← same) (record { closed = λ none. none; refers = λ reference none. absurd none; mentions = λ word none. absurd none })
     type_says (truth True) expr is = cc
     type_says (truth False) expr is = cc
     type_says long expr is =
         let same : long_expr ≡ expr = cc in
-        subst (SaysOf long) same
-        (record { closed = λ none. none; refers = λ reference none. absurd none; mentions = λ word none. absurd none })
+        rw (← same) (record { closed = λ none. none; refers = λ reference none. absurd none; mentions = λ word none. absurd none })
     type_says text expr is =
         let same : text_expr ≡ expr = cc in
-        subst (SaysOf text) same
-        (record { closed = λ none. none; refers = λ reference none. absurd none; mentions = λ word none. absurd none })
+        rw (← same) (record { closed = λ none. none; refers = λ reference none. absurd none; mentions = λ word none. absurd none })
     type_says any_entity expr is = cc
     type_says (union_of []) expr is = cc
     type_says (union_of (name ∷ [])) expr is =
         let same : named (full_name namespace name) ≡ expr = cc in
-        subst (SaysOf (union_of (name ∷ []))) same (record {
+        rw (← same) (record {
           closed = λ none. none;
           refers = λ reference full. (name, (0, omega arith, refl), full);
           mentions = λ word none. absurd none;
@@ -88,11 +85,11 @@ module _ (namespace : Option PlainName) where
     type_says (set_of ty) expr is =
         let of = map_some set_expr (type_written namespace ty) expr is in
         let says = type_says ty of.0 of.1 in
-        subst (SaysOf (set_of ty)) of.2 (record { closed = says.closed; refers = says.refers; mentions = says.mentions })
+        rw (← of.2) (record { closed = says.closed; refers = says.refers; mentions = says.mentions })
     type_says (record_of fields ClosedAttributes) expr is =
         let of = map_some (λ members. record_expr members false) (fields_written namespace fields) expr is in
         let says = fields_say fields of.0 of.1 in
-        subst (SaysOf (record_of fields ClosedAttributes)) of.2 (record {
+        rw (← of.2) (record {
           closed = λ opened. elim opened [ inl additional ↦ false≢true additional | inr right ↦ says.closed right ];
           refers = says.refers;
           mentions = says.mentions;
@@ -104,15 +101,14 @@ module _ (namespace : Option PlainName) where
     fields_say : (fields : Fields) (members : Members) → fields_written namespace fields ≡ Some members → MembersSayOf fields members
     fields_say end members is =
         let same : no_member ≡ members = cc in
-        subst (MembersSayOf end) same
-        (record { closed = λ none. none; refers = λ reference none. absurd none; mentions = λ word none. absurd none })
+        rw (← same) (record { closed = λ none. none; refers = λ reference none. absurd none; mentions = λ word none. absurd none })
     fields_say (field name required ty rest) members is =
         let make : Expr × Members → Members = λ both. member name required both.0 both.1 in
         let of = map_some make (option_zip (type_written namespace ty) (fields_written namespace rest)) members is in
         let both = zip_some (type_written namespace ty) (fields_written namespace rest) of.0 of.1 in
         let first = type_says ty of.0.0 both.0 in
         let later = fields_say rest of.0.1 both.1 in
-        subst (MembersSayOf (field name required ty rest)) of.2 (record {
+        rw (← of.2) (record {
           closed = λ opened. elim opened [ inl left ↦ first.closed left | inr right ↦ later.closed right ];
           refers = λ reference refers. elim refers [
             | inl here ↦ let found = first.refers reference here in (found.0, inl found.1, found.2)

@@ -1,5 +1,5 @@
 -- The bag of a valid schema that is converted back isn't ill-formed.
-use Rattle.std.proofs.Common.{◌≡◌, ◌⊎◌, List, [], Option, map, sym, subst, ◌∙◌, refl, inl, inr, Contains}
+use Rattle.std.proofs.Common.{◌≡◌, ◌⊎◌, List, [], Option, map, sym, ◌∙◌, refl, inl, inr, Contains}
 use Rattle.std.proofs.lemmas.Bool.{false≢true}
 use Rattle.std.proofs.lemmas.List.Elements.{Contains-append_cases}
 use Rattle.cedar_below.proofs.Chains.{first_step}
@@ -14,7 +14,7 @@ use Rattle.cedar_below.specs.TypeNames.{TypeNamesFit}
 use Rattle.cedar_below.specs.declared.extension.Extensions.{Extensions}
 use Rattle.cedar_declarations.proofs.BuiltInLemmas.{one_definition, refers_declared}
 use Rattle.cedar_declarations.proofs.DeclarationLemmas.{declares_action}
-use Rattle.cedar_declarations.proofs.OccurrenceLemmas.{Contains-image}
+use Rattle.cedar_declarations.proofs.OccurrenceLemmas.{Contains-image, Contains-entry}
 use Rattle.cedar_declarations.proofs.ResolutionLemmas.{HasOneDefinition, IsFirst-same, first_defined, elaborated_once}
 use Rattle.cedar_declarations.proofs.TogetherLemmas.{action_definition_declared, declared_definition, definition_or_external}
 use Rattle.cedar_declarations.specs.Bag.{Bag, action_uids, declared_common, declared_entities, declared_types, defined_names, definitions}
@@ -72,7 +72,7 @@ module _ (defined : Defined) where
   record_alone : HasOneDefinition defined → (expr : Expr) (ty : Ty) → ElaboratesTo defined expr ty → IsRecordType ty
       → ¬ IsNoRecord defined expr
   record_alone once expr ty written is_record (other, also, none) =
-      none (subst IsRecordType (elaborated_once defined once written also) is_record)
+      none (rw (elaborated_once defined once written also) at is_record)
 
 module _ (schema : PlainSchema) (bag : Bag) (extensions : Extensions) (written : IsConvertedBack schema bag) where
   -- no action is declared with attributes
@@ -116,15 +116,13 @@ module _ (schema : PlainSchema) (bag : Bag) (extensions : Extensions) (written :
   -- an entity type that is external in the bag is so in the schema
   external_there : (name : PlainName) → IsExternalType bag name → IsOfKind schema name IsExternal
   external_there name (declared, undefined) =
-      let it = Contains-preimage (λ (each : PlainName × EntityBody). each.0) (declared_entities bag) name declared in
-      let among = subst (λ each. Contains (declared_entities bag) (each, it.0.1)) it.2 it.1 in
-      let from = declared_type_from schema bag written name it.0.1 among in
+      let it = Contains-entry (declared_entities bag) name declared in
+      let from = declared_type_from schema bag written name it.0 it.1 in
       let entry = from.2 in
-      elim (definition_or_external it.0.1) [
+      elim (definition_or_external it.0) [
         | inl definition ↦
-            absurd (undefined
-            (Contains-image (λ (each : PlainName × EntityBody). each.0) _ (name, it.0.1)
-            (declared_definition bag name it.0.1 definition among)))
+            absurd (undefined (Contains-image (λ (each : PlainName × EntityBody). each.0) _ (name, it.0)
+            (declared_definition bag name it.0 definition it.1)))
         | inr is_external ↦ (
           from.0,
           from.1,
@@ -157,7 +155,7 @@ module _ (schema : PlainSchema) (bag : Bag) (extensions : Extensions) (written :
         let names = defined_names bag extensions in
         let same = IsFirst-same (IsDefined names Entity) (full_name of.namespace of.name).possibilities of.name name again.resolves
         (rw (← of.is) at resolves) in
-        valid (action_entity_type name) (subst (HasEntityType schema) same of.there, is_action)
+        valid (action_entity_type name) (rw same at of.there, is_action)
 
     -- what has to name something does
     none_unresolved : (reference : Reference) → HasToResolve bag reference → ¬ IsUnresolved (defined_names bag extensions) reference

@@ -1,5 +1,5 @@
 -- What stands in lists is decided, and what a fact holds of is listed, in order too.
-use Rattle.std.proofs.Common.{◌≡◌, ◌⊎◌, ◌↔◌, List, [], ◌∷◌, inl, inr, refl, sym, subst, arith, Contains}
+use Rattle.std.proofs.Common.{◌≡◌, ◌⊎◌, ◌↔◌, List, [], ◌∷◌, inl, inr, refl, arith, Contains}
 use Rattle.std.specs.Cmp.{IsTotalOrder}
 use Rattle.std.specs.List.Sorted.{IsStrictlySortedBy}
 use Rattle.std.specs.declared.cmp.Ordering.{Ordering}
@@ -26,7 +26,7 @@ decide_some P decide (y ∷ ys) =
             | inl later ↦ inl (later.0, Contains-cons y ys later.0 (inr later.1), later.2)
             | inr not_later ↦
                 inr (λ found. elim (Contains-cons_cases y ys found.0 found.1) [
-                  | inl same ↦ not_here (subst P (sym same) found.2)
+                  | inl same ↦ not_here (rw same found.2)
                   | inr among ↦ not_later (found.0, among, found.2)
                 ])
           ]
@@ -36,8 +36,7 @@ decide_some P decide (y ∷ ys) =
 pub decide_stands : {K V : Type 0} → ((a b : K) → IsDecided (a ≡ b)) → (entries : List (K × V)) (Fits : V → Type 0)
     → ((value : V) → IsDecided (Fits value)) → (key : K) → IsDecided ((value : V) × Contains entries (key, value) × Fits value)
 decide_stands {K = K} {V = V} same entries Fits decide key =
-    decide_like
-    (λ found. (found.0.1, rw found.2.0 at found.1, found.2.1))
+    decide_like (λ found. (found.0.1, rw found.2.0 at found.1, found.2.1))
     (λ stands. ((key, stands.0), stands.1, (refl, stands.2)))
     (decide_some (λ (it : K × V). (it.0 ≡ key) × Fits it.1) (λ it. decide_both (same it.0 key) (decide it.1)) entries)
 
@@ -53,7 +52,7 @@ find_first P decide (y ∷ ys) =
             | inl later ↦ inl (later.0, inr (not_here, later.1))
             | inr not_later ↦
                 inr (λ x among holds. elim (Contains-cons_cases y ys x among) [
-                  | inl same ↦ not_here (subst P (sym same) holds)
+                  | inl same ↦ not_here (rw same holds)
                   | inr there ↦ not_later x there holds
                 ])
           ]
@@ -86,7 +85,7 @@ list_kept P decide (y ∷ ys) =
         y ∷ rest.0,
         λ x. (
           λ among. elim (Contains-cons_cases y rest.0 x among) [
-            | inl same ↦ (Contains-cons y ys x (inl same), subst P same here)
+            | inl same ↦ (Contains-cons y ys x (inl same), rw same at here)
             | inr later ↦ let kept = (rest.1 x).0 later in (Contains-cons y ys x (inr kept.0), kept.1)
           ],
           λ kept. Contains-cons y rest.0 x (elim (Contains-cons_cases y ys x kept.0) [
@@ -100,7 +99,7 @@ list_kept P decide (y ∷ ys) =
         λ x. (
           λ among. let kept = (rest.1 x).0 among in (Contains-cons y ys x (inr kept.0), kept.1),
           λ kept. elim (Contains-cons_cases y ys x kept.0) [
-            | inl same ↦ absurd (not_here (subst P (sym same) kept.1))
+            | inl same ↦ absurd (not_here (rw same kept.1))
             | inr later ↦ (rest.1 x).1 (later, kept.1)
           ],
         ),

@@ -1,12 +1,11 @@
 -- The entities of the actions of a schema are listed.
-use Rattle.std.proofs.Common.{◌≡◌, List, [], ◌∷◌, map, inl, inr, refl, sym, subst, Contains}
-use Rattle.std.specs.List.Sorted.{IsStrictlySortedBy}
+use Rattle.std.proofs.Common.{◌≡◌, List, [], ◌∷◌, map, inl, inr, refl, Contains}
 use Rattle.cedar_below.proofs.Lists.{Contains-preimage}
 use Rattle.cedar_below.proofs.PlainNames.{uid_cmp-Equal, uid_cmp-total}
 use Rattle.cedar_below.specs.PlainUid.{PlainUid, uid_cmp}
 use Rattle.cedar_below.specs.Tree.{no_entry}
 use Rattle.cedar_declarations.proofs.OccurrenceLemmas.{Contains-image}
-use Rattle.cedar_declarations.specs.ActionEntities.{AreActionEntities, DefinesAction, IsDefinedKind, IsEntityOfAction}
+use Rattle.cedar_declarations.specs.ActionEntities.{AreActionEntities, DefinesAction, IsDefinedKind}
 use Rattle.cedar_declarations.specs.PlainSchema.{ActionEntity, ActionKind, defined_action, external_action, PlainSchema, SchemaAction}
 use Rattle.cedar_declarations.specs.ValidSchema.{ListsDescendantAction}
 use Rattle.cedar_declaration_laws.proofs.ListDecisions.{Listed, decide_stands, in_order, list_all}
@@ -61,14 +60,13 @@ module _ (schema : PlainSchema) where
         record {
           entities = λ it among.
               let found = Contains-preimage entity_of uids.0 it among in
-              subst (IsEntityOfAction (record schema { action_entities = entities })) found.2 (record {
+              rw (← found.2) (record {
                 defined = (list_defined.1 found.0).0 ((uids.1 found.0).0 found.1);
                 attributes = refl;
                 tags = refl;
                 ancestors = (list_ancestors found.0).1;
               });
-          each = λ uid defines.
-              subst (λ all. Contains all uid) (sym same) ((uids.1 uid).1 ((list_defined.1 uid).1 defines));
-          in_order = subst (IsStrictlySortedBy uid_cmp) (sym same) uids.2;
+          each = λ uid defines. rw same ((uids.1 uid).1 ((list_defined.1 uid).1 defines));
+          in_order = rw same uids.2;
         },
       )

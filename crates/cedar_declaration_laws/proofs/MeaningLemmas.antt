@@ -1,5 +1,5 @@
 -- References that mean the same, and expressions that are alike but for such references.
-use Rattle.std.proofs.Common.{◌≡◌, ◌↔◌, Bool, ap, sym, subst, refl, inl, inr, Contains}
+use Rattle.std.proofs.Common.{◌≡◌, ◌↔◌, Bool, ap, sym, refl, inl, inr, Contains}
 use Rattle.cedar_below.specs.PlainName.{PlainName}
 use Rattle.cedar_below.specs.Text.{Text}
 use Rattle.cedar_names.specs.Expr.{Expr, text_expr, long_expr, truth_expr, set_expr, record_expr, named, extension_expr, Members, no_member, member}
@@ -7,7 +7,7 @@ use Rattle.cedar_names.specs.Reference.{Reference}
 use Rattle.cedar_declarations.proofs.ResolutionLemmas.{IsFirst-same, first_defined}
 use Rattle.cedar_declarations.specs.Defined.{Defined, names_of}
 use Rattle.cedar_declarations.specs.Mentions.{HasOpenRecord, MembersHaveOpenRecord, Refers, MembersRefer, MentionsExtension, MembersMentionExtension}
-use Rattle.cedar_declarations.specs.Names.{Names, MayNameCommon, MayNameEntity, IsDefined, ResolvesTo}
+use Rattle.cedar_declarations.specs.Names.{Names, IsDefined, ResolvesTo}
 use Rattle.cedar_declarations.specs.Resolved.{ResolvesReference, Resolves, ResolvesMembers, resolves_text, resolves_long, resolves_truth, resolves_set, resolves_record, resolves_named, resolves_extension, resolves_no_member, resolves_member}
 use Rattle.cedar_declarations.specs.ElaboratesTo.{ElaboratesTo, MembersElaborateTo, IsNoRecord, as_text, as_long, as_truth, as_set, as_record, as_entity, as_common, as_extension, as_no_member, as_member}
 use Rattle.cedar_type_rules.specs.Ty.{Ty, Fields}
@@ -28,8 +28,7 @@ MeansTheSame-sym names others reference other (kind, both, some) =
 pub resolved_means : (names others : Names) → names ≡ others → (reference resolved : Reference)
     → ResolvesReference names reference resolved → MeansTheSame names others reference resolved
 resolved_means names others same reference resolved (name, resolves, is) = (
-  ap
-      (λ (each : Reference). each.kind) (sym is),
+  ap (λ (each : Reference). each.kind) (sym is),
   both,
   (name, resolves),
 ) where
@@ -39,8 +38,7 @@ resolved_means names others same reference resolved (name, resolves, is) = (
   both : (each : PlainName) → ResolvesTo names reference each ↔ ResolvesTo others resolved each
   both each = (
     λ to. rw is (inl (
-      IsFirst-same
-          (IsDefined names reference.kind) reference.possibilities name each resolves to,
+      IsFirst-same (IsDefined names reference.kind) reference.possibilities name each resolves to,
       defined_there,
     )),
     λ to. elim (rw is at to) [ inl here ↦ rw here.0 at resolves | inr none ↦ absurd none.1 ],
@@ -167,20 +165,19 @@ module _ (defined other : Defined) (moves : MovesTo defined other) where
   mutual
     -- what is alike is elaborated as the same
     pub elaborated_alike : {expr found : Expr} {ty : Ty} → ElaboratesTo defined expr ty
-        → AreAlike (names_of defined) (names_of other) expr found
-        → ElaboratesTo other found ty
+        → AreAlike (names_of defined) (names_of other) expr found → ElaboratesTo other found ty
     elaborated_alike as_text alike_text = as_text
     elaborated_alike as_long alike_long = as_long
     elaborated_alike as_truth alike_truth = as_truth
     elaborated_alike (as_set element) (alike_set like) = as_set (elaborated_alike element like)
     elaborated_alike (as_record members) (alike_record additional like) = as_record (members_elaborated_alike members like)
     elaborated_alike (as_entity reference name resolves is_entity none) (alike_named {other = r'} same) =
-        as_entity r' name ((same.1 name).0 resolves) (subst MayNameEntity same.0 is_entity.0, moves.entities name is_entity.1)
+        as_entity r' name ((same.1 name).0 resolves) (rw same.0 at is_entity.0, moves.entities name is_entity.1)
         (λ found common. let body = moves.common_back name found common.1 in
-        none body.0 (subst MayNameCommon (sym same.0) common.0, body.1))
+        none body.0 (rw same.0 common.0, body.1))
     elaborated_alike (as_common reference name body resolves is_common written) (alike_named {other = r'} same) =
         let found = moves.common name body is_common.1 in
-        as_common r' name found.0 ((same.1 name).0 resolves) (subst MayNameCommon same.0 is_common.0, found.1)
+        as_common r' name found.0 ((same.1 name).0 resolves) (rw same.0 at is_common.0, found.1)
         (elaborated_alike written found.2)
     elaborated_alike (as_extension name) (alike_extension name') = as_extension name
 

@@ -82,8 +82,7 @@ mutual
   members_known_written defined extensions each (as_member first rest) known name mentions =
       elim mentions [
         | inl here ↦ known_written defined extensions each first (λ word stands. known word (inl stands)) name here
-        | inr later ↦
-            members_known_written defined extensions each rest (λ word stands. known word (inr stands)) name later
+        | inr later ↦ members_known_written defined extensions each rest (λ word stands. known word (inr stands)) name later
       ]
 
 -- whether a name is that of an extension type
@@ -112,9 +111,7 @@ pub known_counted : (bag : Bag) (extensions : Extensions) → ¬ IsIllFormed bag
 known_counted bag extensions well expr counted word mentions =
     elim (known_or_not extensions (alias_name word)) [
       | inl known ↦ known
-      | inr unknown ↦
-          absurd
-          (well (unknown_extension_type (alias_name word), (expr, counted, mentions, refl, unknown)))
+      | inr unknown ↦ absurd (well (unknown_extension_type (alias_name word), (expr, counted, mentions, refl, unknown)))
     ]
 
 -- what a built-in base name stands for mentions known extension types alone

@@ -46,16 +46,14 @@ known_entities schema mere = record {
 -- environments are the same or not
 decide_environments : (a b : Environment) → IsDecided (a ≡ b)
 decide_environments a b =
-    decide_like
-    (λ all i. record { principal = all.0 i; action = all.1.0 i; resource = all.1.1.0 i; context = all.1.1.1 i })
+    decide_like (λ all i. record { principal = all.0 i; action = all.1.0 i; resource = all.1.1.0 i; context = all.1.1.1 i })
     (λ same. (
       ap (λ (it : Environment). it.principal) same,
       (
         ap (λ (it : Environment). it.action) same,
         (ap (λ (it : Environment). it.resource) same, ap (λ (it : Environment). it.context) same),
       ),
-    ))
-    (decide_both (decide_names a.principal b.principal) (decide_both (decide_uids a.action b.action)
+    )) (decide_both (decide_names a.principal b.principal) (decide_both (decide_uids a.action b.action)
     (decide_both (decide_names a.resource b.resource) (decide_types a.context b.context))))
 
 -- an environment is of the requests that a kind of action is for, or isn't
@@ -72,8 +70,7 @@ pub known_environments : (schema : PlainSchema) (environments : List Environment
 known_environments schema environments mere = record {
   each = λ it. (
     λ among. known (decide_stands decide_uids schema.actions (λ action. IsRequestOf action.kind it)
-        (λ action. decide_request action.kind it) it.action)
-        (∥∥₁_map mere (λ all. (all.each it).0 among)),
+        (λ action. decide_request action.kind it) it.action) (∥∥₁_map mere (λ all. (all.each it).0 among)),
     λ of_schema. known (decide_among decide_environments environments it) (∥∥₁_map mere (λ all. (all.each it).1 of_schema)),
   );
   once = ∥∥₁_elim mere (Prim.hlevel props) (λ all. all.once);

@@ -37,8 +37,7 @@ entity_definition_keys names others name name' same _ _ like = absurd like
 
 -- requests that are alike are defined under the same key
 action_definition_keys : (names others : Names) (uid uid' : PlainUid) → uid ≡ uid' → (it it' : Requests)
-    → RequestsAlike names others it it'
-    → map (λ (each : PlainUid × Requests). each.0) (action_definition_in uid it)
+    → RequestsAlike names others it it' → map (λ (each : PlainUid × Requests). each.0) (action_definition_in uid it)
     ≡ map (λ (each : PlainUid × Requests). each.0) (action_definition_in uid' it')
 action_definition_keys names others uid uid' same (requests ps rs context) (requests ps' rs' context') like = ap (λ each. each ∷ []) same
 action_definition_keys names others uid uid' same elsewhere elsewhere like = refl
@@ -95,8 +94,7 @@ module _ (names others : Names) where
     by (action body) (action body') alike =
         ap (map (λ (each : PlainUid × Requests). each.0)) (nothing_after (action_definition_in (declared_uid it) body.applies_to))
         ∙ (action_definition_keys names others (declared_uid it) (declared_uid other)
-        (alike_uid names others it other like) body.applies_to body'.applies_to alike.2
-        ∙ sym (ap (map (λ (each : PlainUid
+        (alike_uid names others it other like) body.applies_to body'.applies_to alike.2 ∙ sym (ap (map (λ (each : PlainUid
         × Requests). each.0)) (nothing_after (action_definition_in (declared_uid other) body'.applies_to))))
     by _ _ alike = absurd alike
 
@@ -105,19 +103,16 @@ module _ (names others : Names) (bag other : Bag) (turn : HoldsPairwise (Declara
   pub common_same : map (λ (each : PlainName × Expr). each.0) (declared_common bag) ≡ map (λ (each : PlainName
       × Expr). each.0) (declared_common other)
   common_same = keys_pairwise (DeclarationsAlike names others) (λ it. common_in (declared_name it) it.body) (λ (each : PlainName
-      × Expr). each.0)
-      (common_keys names others) bag other turn
+      × Expr). each.0) (common_keys names others) bag other turn
 
   pub entity_same : map (λ (each : PlainName × EntityBody). each.0) (declared_entities bag) ≡ map (λ (each : PlainName
       × EntityBody). each.0) (declared_entities other)
   entity_same = keys_pairwise (DeclarationsAlike names others) (λ it. entity_in (declared_name it) it.body) (λ (each : PlainName
-      × EntityBody). each.0)
-      (entity_keys names others) bag other turn
+      × EntityBody). each.0) (entity_keys names others) bag other turn
 
   pub action_same : action_uids bag ≡ action_uids other
   action_same = keys_pairwise (DeclarationsAlike names others) (λ it. action_in (declared_uid it) it.body) (λ (each : PlainUid
-      × ActionBody). each.0)
-      (action_keys names others) bag other turn
+      × ActionBody). each.0) (action_keys names others) bag other turn
 
   pub defined_entity_same : map (λ (each : PlainName × EntityBody). each.0) (defined_entities bag)
       ≡ map (λ (each : PlainName × EntityBody). each.0) (defined_entities other)
@@ -145,8 +140,7 @@ module _ (names others : Names) (bag other : Bag) (turn : HoldsPairwise (Declara
   -- and the same aliases
   pub aliases_same : (extensions : Extensions) → aliases bag extensions ≡ aliases other extensions
   aliases_same extensions i =
-      map (λ (it : Text × Expr). (alias_name it.0, it.1))
-      (filter (λ (it : Text × Expr). not (list_any
+      map (λ (it : Text × Expr). (alias_name it.0, it.1)) (filter (λ (it : Text × Expr). not (list_any
       (λ name. is_eq (name_cmp (alias_name it.0) name)) (types_same i))) (built_in_types extensions))
 
   -- the names of the three parts of common names
@@ -182,7 +176,7 @@ module _ (names others : Names) (bag other : Bag) (turn : HoldsPairwise (Declara
   moved of ItAlike same_key turned key it among =
       let by = declaration of bag key it among in
       let found = turn_forth (DeclarationsAlike names others) bag other turn by.0 by.1 in
-      let like = turned it found.0.body (subst (λ each. BodiesAlike names others each found.0.body) by.2 found.2.2) in (
+      let like = turned it found.0.body (rw by.2 at found.2.2) in (
         like.0,
         subst (λ each. Contains (declared of other) (each, like.0)) (sym (same_key by.0 found.0 found.2) ∙ by.3)
             (declares of other found.0 like.0 found.1 like.1),

@@ -190,7 +190,7 @@ module _ (names : Names) where
     there = first_holds parent.ty.possibilities named.0 where
       first_holds : (xs : List PlainName) → IsFirst Stands xs uid.ty → Stands uid.ty
       first_holds [] first = absurd first
-      first_holds (x ∷ xs) first = elim first [ inl here ↦ subst Stands here.0 here.1 | inr later ↦ first_holds xs later.1 ]
+      first_holds (x ∷ xs) first = elim first [ inl here ↦ rw here.0 at here.1 | inr later ↦ first_holds xs later.1 ]
 
     own : NamesAction names.actions resolved uid
     own = rw is (inl (refl, there), named.1)

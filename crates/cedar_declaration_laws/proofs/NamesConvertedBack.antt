@@ -84,7 +84,7 @@ module _ (schema : PlainSchema) (bag : Bag) (written : IsConvertedBack schema ba
         let of_actions = map (λ (it : PlainUid × SchemaAction). it.0.ty) schema.actions in
         let declared = map (λ (it : PlainName × EntityBody). it.0) (declared_entities bag) in
         let declared_types = map (λ (uid : PlainUid). uid.ty) (action_uids bag) in
-        let Q : PlainName → Type 0 = Contains (types ++ of_actions) in (
+        let IsNamed : PlainName → Type 0 = Contains (types ++ of_actions) in (
           λ among. elim (Contains-append_cases types of_actions name among) [
             | inl here ↦
                 let it = Contains-preimage (λ (each : PlainName × SchemaEntityType). each.0) schema.entity_types name here in
@@ -106,7 +106,7 @@ module _ (schema : PlainSchema) (bag : Bag) (written : IsConvertedBack schema ba
                 let d = entity_declaration bag entry.0.0 entry.0.1 entry.1 in
                 elim (from_schema d.0 d.1) [
                   | inl it ↦
-                      subst Q (sym it.2.name ∙ (d.3 ∙ entry.2)) (Contains-append_left types of_actions it.0.0
+                      subst IsNamed (sym it.2.name ∙ (d.3 ∙ entry.2)) (Contains-append_left types of_actions it.0.0
                       (Contains-image (λ (each : PlainName × SchemaEntityType). each.0) schema.entity_types it.0 it.1))
                   | inr it ↦ let clash = sym d.2 ∙ it.2.declares in absurd cc
                 ]
@@ -117,8 +117,7 @@ module _ (schema : PlainSchema) (bag : Bag) (written : IsConvertedBack schema ba
                 elim (from_schema d.0 d.1) [
                   | inl it ↦ let clash = sym d.2 ∙ it.2.declares in absurd cc
                   | inr it ↦
-                      subst Q (ap (λ (each : PlainUid). each.ty) (sym it.2.uid ∙ (d.3 ∙ entry.2)) ∙ uid.2)
-                      (Contains-append_right types of_actions it.0.0.ty
+                      rw (ap (λ (each : PlainUid). each.ty) (sym it.2.uid ∙ (d.3 ∙ entry.2)) ∙ uid.2) at (Contains-append_right types of_actions it.0.0.ty
                       (Contains-image (λ (each : PlainUid × SchemaAction). each.0.ty) schema.actions it.0 it.1))
                 ]
           ],

@@ -1,13 +1,12 @@
 -- In the bag of a schema that is converted back each is below those that list it among their descendants.
-use Rattle.std.proofs.Common.{◌≡◌, ◌↔◌, Option, map, ap, sym, subst, refl, inl, inr, arith, Contains}
+use Rattle.std.proofs.Common.{◌≡◌, ◌↔◌, Option, map, ap, sym, refl, inl, inr, arith, Contains}
 use Rattle.std.proofs.lemmas.List.Elements.{Contains-append_left}
 use Rattle.cedar_below.proofs.Chains.{refined}
-use Rattle.cedar_below.proofs.Lists.{Contains-preimage}
 use Rattle.cedar_below.specs.Chain.{Chain, one}
 use Rattle.cedar_below.specs.PlainName.{PlainName}
 use Rattle.cedar_below.specs.PlainUid.{PlainUid}
 use Rattle.cedar_below.specs.declared.extension.Extensions.{Extensions}
-use Rattle.cedar_declarations.proofs.OccurrenceLemmas.{Contains-image}
+use Rattle.cedar_declarations.proofs.OccurrenceLemmas.{Contains-image, Contains-entry}
 use Rattle.cedar_declarations.proofs.ResolutionLemmas.{IsFirst-like, IsFirst-same}
 use Rattle.cedar_declarations.specs.Bag.{Bag, action_uids, defined_names, definitions}
 use Rattle.cedar_declarations.specs.Counted.{entity_parents}
@@ -78,18 +77,16 @@ module _ (schema : PlainSchema) (bag : Bag) (extensions : Extensions) (writable 
       let names = defined_names bag extensions in
       let same = IsFirst-same (IsDefined names Entity) (full_name entry.namespace above.0).possibilities above.0 upper
       again.resolves (rw (← above.2) at resolves) in
-      subst (ListsDescendant schema lower) same above.1
+      rw same at above.1
 
   -- what lists another among its descendants is a parent of it in the bag
   lists_parent : (lower upper : PlainName) → ListsDescendant schema lower upper → HasParent bag extensions lower upper
   lists_parent lower upper lists =
-      let key = λ (each : PlainName × SchemaEntityType). each.0 in
-      let it = Contains-preimage key schema.entity_types lower (writable.entity_types_below lower upper lists) in
-      let here = subst (λ each. Contains schema.entity_types (each, it.0.1)) it.2 it.1 in
-      let found = type_declared schema bag written (lower, it.0.1) here in
+      let it = Contains-entry schema.entity_types lower (writable.entity_types_below lower upper lists) in
+      let found = type_declared schema bag written (lower, it.0) it.1 in
       let entry = found.2 in
-      let parent = above_parent entry.namespace (λ other. ListsDescendant schema lower other) it.0.1.kind found.0 entry.kind
-      (λ is. writable.none_enumerated lower upper lists (it.0.1, here, is)) upper lists in
+      let parent = above_parent entry.namespace (λ other. ListsDescendant schema lower other) it.0.kind found.0 entry.kind
+      (λ is. writable.none_enumerated lower upper lists (it.0, it.1, is)) upper lists in
       let again = type_again entry.namespace upper (inr (inl (lower, entry.path, lists))) (upper_there schema lower upper lists) in
       (full_name entry.namespace upper, (found.0, found.1, parent), again.resolves)
 
@@ -110,8 +107,7 @@ module _ (schema : PlainSchema) (bag : Bag) (extensions : Extensions) (writable 
               refl,
             ) in
             (rw (ap (λ (each : PlainUid). each.ty) same) at first.1, refl)
-        | inr none ↦
-            absurd (none uid.ty (stands_for_itself namespace uid.ty) ((same_uids schema bag written uid).1 has))
+        | inr none ↦ absurd (none uid.ty (stands_for_itself namespace uid.ty) ((same_uids schema bag written uid).1 has))
       ]
 
   -- a parent of an action in the bag lists the one among its descendants
@@ -124,14 +120,13 @@ module _ (schema : PlainSchema) (bag : Bag) (extensions : Extensions) (writable 
       let same_type = IsFirst-same (λ ty. Contains (action_uids bag) (record { ty = ty; eid = above.0.eid }))
       (full_name entry.namespace above.0.ty).possibilities above.0.ty upper.ty again.0 other.0 in
       let same : above.0 ≡ upper = λ i. record { ty = same_type i; eid = sym other.1 i } in
-      subst (ListsDescendantAction schema lower) same above.1
+      rw same at above.1
 
   -- what lists another among its descendants is a parent action of it in the bag
   lists_parent_action : (lower upper : PlainUid) → ListsDescendantAction schema lower upper → HasParentAction bag lower upper
   lists_parent_action lower upper lists =
-      let key = λ (each : PlainUid × SchemaAction). each.0 in
-      let it = Contains-preimage key schema.actions lower (writable.actions_below lower upper lists) in
-      let found = action_declared schema bag written (lower, it.0.1) (subst (λ each. Contains schema.actions (each, it.0.1)) it.2 it.1) in
+      let it = Contains-entry schema.actions lower (writable.actions_below lower upper lists) in
+      let found = action_declared schema bag written (lower, it.0) it.1 in
       let entry = found.2 in
       let reference = full_uid entry.namespace upper in
       let parent = (entry.parents reference).1 (upper, lists, refl) in (

@@ -37,8 +37,7 @@ module _ (names : Names) where
   -- a reference of the kind may name what is defined under the name, or not
   decide_defined : (kind : ReferenceType) (name : PlainName) → IsDecided (IsDefined names kind name)
   decide_defined kind name =
-      decide_either
-      (decide_both (decide_may_common kind) (decide_among decide_names names.common name))
+      decide_either (decide_both (decide_may_common kind) (decide_among decide_names names.common name))
       (decide_both (decide_may_entity kind) (decide_among decide_names names.entities name))
 
   -- a reference resolves to some name, or is unresolved
@@ -65,8 +64,7 @@ module _ (names : Names) where
 -- a reference to an action names that of the uid or doesn't
 decide_action : (actions : List PlainUid) (uid : PlainUid) (reference : ActionReference) → IsDecided (NamesAction actions reference uid)
 decide_action actions uid reference =
-    decide_both
-    (decide_first (λ ty. Contains actions (record { ty = ty; eid = reference.id }))
+    decide_both (decide_first (λ ty. Contains actions (record { ty = ty; eid = reference.id }))
     (λ ty. decide_among decide_uids actions (record { ty = ty; eid = reference.id })) decide_names reference.ty.possibilities uid.ty)
     (decide_texts uid.eid reference.id)
 
@@ -76,10 +74,8 @@ module _ (bag : Bag) where
   decide_parent_action lower upper =
       let NamesUpper : ActionReference → Type 0 = λ reference. NamesAction (action_uids bag) reference upper in
       let HasUpper : ActionBody → Type 0 = λ body. (reference : ActionReference) × Contains body.parents reference × NamesUpper reference in
-      decide_like
-      (λ found. (found.2.0, (found.0, found.1, found.2.1), found.2.2))
-      (λ has. (has.1.0, has.1.1, (has.0, has.1.2, has.2)))
-      (decide_stands decide_uids (declared_actions bag) HasUpper
+      decide_like (λ found. (found.2.0, (found.0, found.1, found.2.1), found.2.2))
+      (λ has. (has.1.0, has.1.1, (has.0, has.1.2, has.2))) (decide_stands decide_uids (declared_actions bag) HasUpper
       (λ body. decide_some NamesUpper (decide_action (action_uids bag) upper) body.parents) lower)
 
   -- the descendants of an action are listed
@@ -95,10 +91,8 @@ module _ (bag : Bag) (extensions : Extensions) where
   decide_parent lower upper =
       let Resolves : Reference → Type 0 = λ reference. ResolvesTo (defined_names bag extensions) reference upper in
       let HasUpper : EntityBody → Type 0 = λ body. (reference : Reference) × Contains (entity_parents body) reference × Resolves reference in
-      decide_like
-      (λ found. (found.2.0, (found.0, found.1, found.2.1), found.2.2))
-      (λ has. (has.1.0, has.1.1, (has.0, has.1.2, has.2)))
-      (decide_stands decide_names (declared_entities bag) HasUpper
+      decide_like (λ found. (found.2.0, (found.0, found.1, found.2.1), found.2.2))
+      (λ has. (has.1.0, has.1.1, (has.0, has.1.2, has.2))) (decide_stands decide_names (declared_entities bag) HasUpper
       (λ body. decide_some Resolves (decide_resolves (defined_names bag extensions) upper) (entity_parents body)) lower)
 
   -- the descendants of an entity type are listed

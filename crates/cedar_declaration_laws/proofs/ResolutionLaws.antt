@@ -29,7 +29,7 @@ use Rattle.cedar_declaration_laws.specs.EndToEnd.{ResolutionChangesNothing}
 use Rattle.cedar_declarations.specs.EntityTypeKind.{EntityTypeKind, standard_kind, enumerated_kind, external_kind}
 use Rattle.cedar_declarations.specs.Fault.{Fault, action_attributes, open_record, undeclared_entity_types, type_not_defined, action_not_defined, type_shadowing, action_shadowing, duplicate_entity_type, duplicate_common_type, duplicate_action, action_cycle, common_type_cycle, action_entity_type, shape_not_record, context_not_record, unknown_extension_type, reserved_name, external_below_enumerated, enumerated_below}
 use Rattle.cedar_declarations.specs.IllFormed.{HasAttributes, RefersToCommon, IsFault}
-use Rattle.cedar_declarations.specs.Names.{Names, MayNameCommon, ResolvesTo, IsUnresolved, NamesAction, NamesNoAction}
+use Rattle.cedar_declarations.specs.Names.{Names, ResolvesTo, IsUnresolved, NamesAction, NamesNoAction}
 use Rattle.cedar_declarations.specs.Occurrences.{IsFirst}
 use Rattle.cedar_declarations.specs.PlainSchema.{SchemaEntityType, ActionKind, defined_action, external_action, SchemaAction, PlainSchema}
 use Rattle.cedar_declarations.specs.Resolved.{ResolvesBag, ResolvesDeclaration}
@@ -93,8 +93,7 @@ module _ (bag other : Bag) (extensions : Extensions)
   parents_moved _ _ like reference among = absurd like
 
   parent_moved : (name : PlainName) (reference : Reference) → IsParent bag name reference
-      → (moved : Reference) × IsParent other name moved
-      × MeansTheSame ours theirs reference moved
+      → (moved : Reference) × IsParent other name moved × MeansTheSame ours theirs reference moved
   parent_moved name reference (body, among, parent) =
       let there = entity_moved ours theirs bag other turn name body among in
       let found = parents_moved body there.0 there.2 reference parent in (found.0, (there.0, there.1, found.1), found.2)
@@ -156,8 +155,7 @@ module _ (bag other : Bag) (extensions : Extensions)
     where
       of_requests : (it found : Requests) → RequestsAlike ours theirs it found → CountsInRequests it expr → (moved : Expr)
           × CountsInRequests found moved × AreAlike ours theirs expr moved
-      of_requests (requests ps rs context) (requests ps' rs' context') like counts =
-          (context', refl, rw counts at like.2)
+      of_requests (requests ps rs context) (requests ps' rs' context') like counts = (context', refl, rw counts at like.2)
       of_requests _ _ like counts = absurd assumption
 
       by : (body found : Body) → BodiesAlike ours theirs body found → CountsIn body expr → (moved : Expr)
@@ -198,7 +196,7 @@ module _ (bag other : Bag) (extensions : Extensions)
         there.1,
         found.1,
         (found.2.1 to).0 resolves,
-        (subst MayNameCommon found.2.0 is_common.0, target.1),
+        (rw found.2.0 at is_common.0, target.1),
       )
 
   -- an enumerated entity type moves
@@ -305,13 +303,9 @@ module _ (bag other : Bag) (extensions : Extensions)
       let unknown = at_fault.1 found.0 found.1 in
       absurd (named ours.actions unknown.1 (action_parent_moved unknown.0 unknown.1 unknown.2).2.2 unknown.4)
   fault_moved (type_shadowing name qualified) at_fault =
-      let P : PlainName → List PlainName → Type 0 = λ each list. Contains list each in
-      let same = types_same ours theirs bag other turn in
-      (subst (P name) same at_fault.0, subst (P qualified) same at_fault.1, at_fault.2)
+      let same = types_same ours theirs bag other turn in (rw same at at_fault.0, rw same at at_fault.1, at_fault.2)
   fault_moved (action_shadowing uid qualified) at_fault =
-      let P : PlainUid → List PlainUid → Type 0 = λ each list. Contains list each in
-      let same = action_same ours theirs bag other turn in
-      (subst (P uid) same at_fault.0, subst (P qualified) same at_fault.1, at_fault.2)
+      let same = action_same ours theirs bag other turn in (rw same at at_fault.0, rw same at at_fault.1, at_fault.2)
   fault_moved (duplicate_entity_type name) at_fault = rw (defined_entity_same ours theirs bag other turn) at at_fault
   fault_moved (duplicate_common_type name) at_fault =
       let key = λ (each : PlainName × Expr). each.0 in
@@ -331,11 +325,10 @@ module _ (bag other : Bag) (extensions : Extensions)
       let counted = counted_moved at_fault.0 at_fault.1 in
       (counted.0, counted.1, extension_alike ours theirs counted.2 name.base at_fault.2, at_fault.3, at_fault.4)
   fault_moved (reserved_name name) at_fault =
-      let P : List PlainName → Type 0 = λ list. Contains list name in (
+      let HasName : List PlainName → Type 0 = λ list. Contains list name in (
         elim at_fault.0 [
-          | inl is_entity ↦ inl (subst P (entity_same ours theirs bag other turn) is_entity)
-          | inr of_action ↦
-              inr (subst P (λ i. map (λ uid. uid.ty) (action_same ours theirs bag other turn i)) of_action)
+          | inl is_entity ↦ inl (rw (entity_same ours theirs bag other turn) at is_entity)
+          | inr of_action ↦ inr (subst HasName (λ i. map (λ uid. uid.ty) (action_same ours theirs bag other turn i)) of_action)
         ],
         at_fault.1,
       )
@@ -379,8 +372,7 @@ module _ (bag other : Bag) (extensions : Extensions)
 
   -- tags that are alike are declared alike
   tags_moved : (tags found : Option Expr) (ty : Option Ty) → TagsAlike ours theirs tags found
-      → AreDeclaredTags (definitions bag extensions) tags ty
-      → AreDeclaredTags (definitions other extensions) found ty
+      → AreDeclaredTags (definitions bag extensions) tags ty → AreDeclaredTags (definitions other extensions) found ty
   tags_moved None None None like fits = tt
   tags_moved (Some expr) (Some found) (Some ty) like fits =
       elaborated_alike (definitions bag extensions) (definitions other extensions) moves fits like
@@ -444,13 +436,11 @@ module _ (bag other : Bag) (extensions : Extensions)
           (
             λ name. (
               λ among. named_moved ps ps' like.0 name ((fits.0 name).0 among),
-              λ named. (fits.0 name).1
-                  (named_back ps ps' like.0 name named),
+              λ named. (fits.0 name).1 (named_back ps ps' like.0 name named),
             ),
             λ name. (
               λ among. named_moved rs rs' like.1 name ((fits.1 name).0 among),
-              λ named. (fits.1 name).1
-                  (named_back rs rs' like.1 name named),
+              λ named. (fits.1 name).1 (named_back rs rs' like.1 name named),
             ),
             elaborated_alike (definitions bag extensions) (definitions other extensions) moves fits.2 like.2,
           ),
@@ -505,15 +495,12 @@ module _ (bag other : Bag) (extensions : Extensions)
   schema_moved schema declared =
       let ours = defined_names bag extensions in
       let theirs = defined_names other extensions in
-      let P : PlainName → List PlainName → Type 0 = λ name list. Contains list name in
-      let Q : PlainUid → List PlainUid → Type 0 = λ uid list. Contains list uid in
       record {
         entity_types = λ it among. type_moved it (declared.entity_types it among);
-        each_entity_type = λ name among. declared.each_entity_type name (subst (P name) (sym
-            (entity_same ours theirs bag other turn)) among);
+        each_entity_type = λ name among. declared.each_entity_type name (rw (entity_same ours theirs bag other turn) among);
         entity_types_in_order = declared.entity_types_in_order;
         actions = λ it among. declared_action_moved it (declared.actions it among);
-        each_action = λ uid among. declared.each_action uid (subst (Q uid) (sym (action_same ours theirs bag other turn)) among);
+        each_action = λ uid among. declared.each_action uid (rw (action_same ours theirs bag other turn) among);
         actions_in_order = declared.actions_in_order;
         action_entities = declared.action_entities;
       }

@@ -1,5 +1,5 @@
 -- Where each of two bags says all that the other does, they are ill-formed both or neither.
-use Rattle.std.proofs.Common.{◌≡◌, List, ◌++◌, Option, map, ap, sym, subst, ◌∙◌, refl, inl, inr, Contains}
+use Rattle.std.proofs.Common.{◌≡◌, List, ◌++◌, Option, map, ap, sym, ◌∙◌, refl, inl, inr, Contains}
 use Rattle.std.proofs.lemmas.List.{map-append}
 use Rattle.cedar_below.proofs.Lists.{Contains-preimage}
 use Rattle.cedar_below.specs.Chain.{one}
@@ -15,7 +15,7 @@ use Rattle.cedar_names.specs.Reference.{Reference, ActionReference}
 use Rattle.cedar_below.proofs.Chains.{refined}
 use Rattle.cedar_declarations.proofs.DeclarationLemmas.{entity_declaration, action_declaration, common_declaration, declares_entity, declares_action, declares_common}
 use Rattle.cedar_declarations.proofs.DefinedLemmas.{resolves_there, unresolved_there, no_record_there}
-use Rattle.cedar_declarations.proofs.OccurrenceLemmas.{Contains-image, Twice-append, Twice-left, Twice-right, Twice-both}
+use Rattle.cedar_declarations.proofs.OccurrenceLemmas.{Contains-image, Twice-append, Twice-left, Twice-right, Twice-both, Contains-entry}
 use Rattle.cedar_declarations.proofs.ResolutionLemmas.{IsFirst-like}
 use Rattle.cedar_declaration_laws.proofs.EnumeratedLemmas.{enumerated_parent}
 use Rattle.cedar_declaration_laws.proofs.SaidLemmas.{common_name_said, type_said, action_type_said, same_defined}
@@ -279,9 +279,8 @@ module _ (bag other : Bag) (extensions : Extensions) (said : SaysAll bag other) 
   fault_said (action_entity_type name) at_fault =
       let key = λ (each : PlainName × EntityBody). each.0 in
       let there = said.entities name (Contains-image key (declared_entities bag) (name, at_fault.0) at_fault.1) in
-      let found = Contains-preimage key (declared_entities other) name there in
-      let P : PlainName → Type 0 = λ each. Contains (declared_entities other) (each, found.0.1) in
-      (action_entity_type name, (found.0.1, subst P found.2 found.1, at_fault.2))
+      let found = Contains-entry (declared_entities other) name there in
+      (action_entity_type name, (found.0, found.1, at_fault.2))
   fault_said (shape_not_record name) at_fault =
       let found = shape_said name at_fault.0 at_fault.1 at_fault.2 at_fault.3 in (
         shape_not_record name,

@@ -63,8 +63,7 @@ module _ (bag other : Bag) (extensions : Extensions) (said : SaysAll bag other) 
       ap (map (λ (it : Text × Expr). (alias_name it.0, it.1)))
       (filter_agree (λ (it : Text × Expr). not (is_declared_here bag it.0)) (λ (it : Text × Expr). not (is_declared_here other it.0))
       (λ it. ap not (same_answers (is_declared_here bag it.0) (is_declared_here other it.0)
-      (here_said bag other said it.0) (here_said other bag back it.0)))
-      (built_in_types extensions))
+      (here_said bag other said it.0) (here_said other bag back it.0))) (built_in_types extensions))
 
   -- a common type of the one is one of the other
   common_said : (it : PlainName × Expr) → Contains (definitions bag extensions).common it

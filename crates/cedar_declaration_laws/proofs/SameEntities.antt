@@ -41,15 +41,15 @@ module _ (schema other : PlainSchema) (same : HoldsPairwise SameAction schema.ac
   defines_there : (uid : PlainUid) → DefinesAction schema uid → DefinesAction other uid
   defines_there uid defines =
       let found = turn_forth SameAction schema.actions other.actions same (uid, defines.0) defines.1 in
-      let P : PlainUid → Type 0 = λ key. Contains other.actions (key, found.0.1) in
-      (found.0.1, subst P (sym found.2.key) found.1, defined_like defines.0.kind found.0.1.kind found.2.kind defines.2)
+      let Listed : PlainUid → Type 0 = λ key. Contains other.actions (key, found.0.1) in
+      (found.0.1, subst Listed (sym found.2.key) found.1, defined_like defines.0.kind found.0.1.kind found.2.kind defines.2)
 
   -- what the one lists the other lists
   lists_there : (lower upper : PlainUid) → ListsDescendantAction schema lower upper → ListsDescendantAction other lower upper
   lists_there lower upper lists =
       let found = turn_forth SameAction schema.actions other.actions same (upper, lists.0) lists.1 in
-      let P : PlainUid → Type 0 = λ key. Contains other.actions (key, found.0.1) in
-      (found.0.1, subst P (sym found.2.key) found.1, (found.2.descendants lower).0 lists.2)
+      let Listed : PlainUid → Type 0 = λ key. Contains other.actions (key, found.0.1) in
+      (found.0.1, subst Listed (sym found.2.key) found.1, (found.2.descendants lower).0 lists.2)
 
 -- the entity of an action of the one schema is one of the other
 entity_there : (schema other : PlainSchema) → HoldsPairwise SameAction schema.actions other.actions → (it : ActionEntity)
@@ -85,11 +85,9 @@ same_entities schema other ours theirs same =
     let back = turn_back SameAction SameAction action_back schema.actions other.actions same in
     let key = λ (it : ActionEntity). it.uid in
     let keys = Included-same uid_cmp uid_cmp-total (map key schema.action_entities) (map key other.action_entities)
-    ours.in_order theirs.in_order
-    (keys_included key (DefinesAction schema) schema.action_entities other.action_entities
+    ours.in_order theirs.in_order (keys_included key (DefinesAction schema) schema.action_entities other.action_entities
     (λ it among. (ours.entities it among).defined) (λ uid defines. theirs.each uid (defines_there schema other same uid defines)))
     (keys_included key (DefinesAction other) other.action_entities schema.action_entities
     (λ it among. (theirs.entities it among).defined) (λ uid defines. ours.each uid (defines_there other schema back uid defines))) in
     same_pairwise key (IsEntityOfAction schema) SameActionEntity (one_entity schema) schema.action_entities
-    other.action_entities keys ours.entities
-    (λ it among. entity_there other schema back it (theirs.entities it among))
+    other.action_entities keys ours.entities (λ it among. entity_there other schema back it (theirs.entities it among))

@@ -1,5 +1,5 @@
 -- A bag that isn't ill-formed declares a schema.
-use Rattle.std.proofs.Common.{◌≡◌, ◌↔◌, List, [], ◌∷◌, map, ap, inl, inr, refl, sym, subst, arith, Contains}
+use Rattle.std.proofs.Common.{◌≡◌, ◌↔◌, List, [], ◌∷◌, map, ap, inl, inr, refl, arith, Contains}
 use Rattle.std.specs.Cmp.{IsTotalOrder}
 use Rattle.std.specs.List.Sorted.{IsStrictlySortedBy}
 use Rattle.std.specs.declared.cmp.Ordering.{Ordering}
@@ -29,7 +29,7 @@ entries_of Fits (key ∷ rest) each =
     let later = entries_of Fits rest (λ other among. each other (Contains-cons key rest other (inr among))) in (
       (key, first.0) ∷ later.0,
       λ it among. elim (Contains-cons_cases (key, first.0) later.0 it among) [
-        | inl here ↦ subst Fits here first.1
+        | inl here ↦ rw here at first.1
         | inr there ↦ later.1 it there
       ],
       ap (λ others. key ∷ others) later.2,
@@ -52,8 +52,8 @@ table_of R total ties Fits keys each =
     record {
       entries = all.0;
       fit = all.1;
-      each = λ key among. subst (λ others. Contains others key) (sym all.2) ((ordered.1 key).1 among);
-      sorted_by_name = subst (IsStrictlySortedBy R) (sym all.2) ordered.2;
+      each = λ key among. rw all.2 ((ordered.1 key).1 among);
+      sorted_by_name = rw all.2 ordered.2;
     }
 
 module _ (bag : Bag) (extensions : Extensions) (well : ¬ IsIllFormed bag extensions) where

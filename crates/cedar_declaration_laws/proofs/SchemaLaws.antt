@@ -1,5 +1,5 @@
 -- A bag that isn't ill-formed declares one schema, and the types of it have just the declared values.
-use Rattle.std.proofs.Common.{◌≡◌, ◌↔◌, List, [], ◌∷◌, Option, Some, None, map, ap, sym, subst, ◌∙◌, refl, inl, inr, Contains}
+use Rattle.std.proofs.Common.{◌≡◌, ◌↔◌, List, [], ◌∷◌, Option, Some, None, map, ap, sym, ◌∙◌, refl, inl, inr, Contains}
 use Rattle.cedar_below.proofs.Lists.{Contains-cons, Contains-preimage}
 use Rattle.cedar_below.proofs.PlainNames.{name_cmp-total, uid_cmp-total}
 use Rattle.cedar_below.specs.Extensions.{extension_types}
@@ -76,8 +76,7 @@ action_kind_once : (defined : Defined) → HasOneDefinition defined → (body : 
     → IsDeclaredActionKind defined body kind → IsDeclaredActionKind defined body kind' → SameActionKind kind kind'
 action_kind_once defined one (requests principals resources context) (defined_action ps rs ty) (defined_action ps' rs' ty') fits fits' = (
   same_items (IsNamedBy (names_of defined) principals) ps ps' fits.0 fits'.0,
-  same_items
-      (IsNamedBy (names_of defined) resources) rs rs' fits.1 fits'.1,
+  same_items (IsNamedBy (names_of defined) resources) rs rs' fits.1 fits'.1,
   elaborated_once defined one fits.2 fits'.2,
 )
 action_kind_once defined one elsewhere external_action external_action fits fits' = tt
@@ -158,7 +157,7 @@ pub keys_included : {A K : Type 0} (key : A → K) (Q : K → Type 0) (items oth
     → Contains (map key items) k → Contains (map key others) k
 keys_included key Q items others each there k among =
     let found = Contains-preimage key items k among in
-    there k (subst Q found.2 (each found.0 found.1))
+    there k (rw found.2 at (each found.0 found.1))
 
 -- a bag that isn't ill-formed declares one schema
 pub one_schema : (bag : Bag) (extensions : Extensions) → TypeNamesFit (extension_types extensions)

@@ -1,13 +1,11 @@
 -- The bag of a valid schema that is converted back declares the schema with its descendants closed.
-use Rattle.std.proofs.Common.{◌≡◌, List, [], ◌∷◌, Option, map, sym, subst, ◌∙◌, refl, Contains, inl, inr}
-use Rattle.std.specs.List.Sorted.{IsStrictlySortedBy}
-use Rattle.cedar_below.proofs.Lists.{Contains-preimage}
+use Rattle.std.proofs.Common.{◌≡◌, List, [], ◌∷◌, Option, map, sym, ◌∙◌, refl, Contains, inl, inr}
 use Rattle.cedar_below.proofs.PlainNames.{name_cmp-total, uid_cmp-total}
 use Rattle.cedar_below.specs.Lists.{HoldsPairwise}
 use Rattle.cedar_below.specs.PlainName.{PlainName, name_cmp}
 use Rattle.cedar_below.specs.PlainUid.{PlainUid, uid_cmp}
 use Rattle.cedar_below.specs.declared.extension.Extensions.{Extensions}
-use Rattle.cedar_declarations.proofs.OccurrenceLemmas.{Contains-image, Twice-sorted_by_name, value_once}
+use Rattle.cedar_declarations.proofs.OccurrenceLemmas.{Contains-image, Twice-sorted_by_name, value_once, Contains-entry}
 use Rattle.cedar_declarations.proofs.TogetherLemmas.{AreRequests, IsDefinition, action_definition_declared, action_definition_says, declared_action_definition, declared_definition, definition_declared, definition_or_external, definition_says, requests_or_elsewhere}
 use Rattle.cedar_declarations.proofs.TurnLemmas.{turn_back, turn_forth}
 use Rattle.cedar_declarations.specs.Bag.{Bag, declared_actions, declared_entities}
@@ -68,11 +66,11 @@ module _ (schema : PlainSchema) (bag : Bag) (extensions : Extensions) (order : I
   pub external_undefined : (name : PlainName) (it : SchemaEntityType) → Contains schema.entity_types (name, it) → IsExternal it.kind
       → ¬ Contains (map (λ each. each.0) (defined_entities bag)) name
   external_undefined name it there is_external among =
-      let found = Contains-preimage (λ (each : PlainName × EntityBody). each.0) (defined_entities bag) name among in
-      let definition = definition_declared bag name found.0.1 (subst (λ each. Contains (defined_entities bag) (each, found.0.1)) found.2 found.1) in
-      let from = declared_type_from schema bag written name found.0.1 definition.0 in
+      let found = Contains-entry (defined_entities bag) name among in
+      let definition = definition_declared bag name found.0 found.1 in
+      let from = declared_type_from schema bag written name found.0 definition.0 in
       let entry = from.2 in
-      defined_written entry.namespace (λ upper. ListsDescendant schema name upper) from.0.kind found.0.1 entry.kind definition.1
+      defined_written entry.namespace (λ upper. ListsDescendant schema name upper) from.0.kind found.0 entry.kind definition.1
       (rw (one_type name it from.0 there from.1) at is_external)
 
   -- what is declared of an entity type of the schema is what is said of it
@@ -94,11 +92,11 @@ module _ (schema : PlainSchema) (bag : Bag) (extensions : Extensions) (order : I
   elsewhere_undefined : (uid : PlainUid) (it : SchemaAction) → Contains schema.actions (uid, it) → (namespace : Option PlainName)
       → AreRequestsWritten namespace it.kind elsewhere → ¬ Contains (map (λ each. each.0) (defined_actions bag)) uid
   elsewhere_undefined uid it there namespace is among =
-      let found = Contains-preimage (λ (each : PlainUid × Requests). each.0) (defined_actions bag) uid among in
-      let definition = action_definition_declared bag uid found.0.1 (subst (λ each. Contains (defined_actions bag) (each, found.0.1)) found.2 found.1) in
+      let found = Contains-entry (defined_actions bag) uid among in
+      let definition = action_definition_declared bag uid found.0 found.1 in
       let from = declared_action_from schema bag written uid definition.0 definition.1 in
       let entry = from.2 in
-      requests_written_once entry.namespace from.0.kind found.0.1 definition.3 (rw definition.2 at entry.applies_to) namespace
+      requests_written_once entry.namespace from.0.kind found.0 definition.3 (rw definition.2 at entry.applies_to) namespace
       (rw (one_action uid it from.0 there from.1) at is)
 
   -- what is declared of an action of the schema is what is said of it
@@ -167,8 +165,8 @@ converted_schemas_are_declared schema closed bag extensions order named writable
           (λ x y is. is) schema.entity_types closed.entity_types closes.entity_types) it among in
           closed_type_declared schema bag extensions order written writable valid from.0 it from.1
           (named.entity_types from.0 from.1) from.2;
-      each_entity_type = λ name among. subst (λ keys. Contains keys name) types ((same_types schema bag written name).0 among);
-      entity_types_in_order = subst (IsStrictlySortedBy name_cmp) types order.entity_types;
+      each_entity_type = λ name among. rw types at ((same_types schema bag written name).0 among);
+      entity_types_in_order = rw types at order.entity_types;
       actions = λ it among.
           let from = turn_forth (λ (y : PlainUid × SchemaAction) (x : PlainUid × SchemaAction). ClosesAction schema x y)
           closed.actions schema.actions
@@ -176,8 +174,8 @@ converted_schemas_are_declared schema closed bag extensions order named writable
           (λ x y is. is) schema.actions closed.actions closes.actions) it among in
           closed_action_declared schema bag extensions order written writable valid from.0 it from.1
           (named.actions from.0 from.1) from.2;
-      each_action = λ uid among. subst (λ keys. Contains keys uid) actions ((same_uids schema bag written uid).0 among);
-      actions_in_order = subst (IsStrictlySortedBy uid_cmp) actions order.actions;
+      each_action = λ uid among. rw actions at ((same_uids schema bag written uid).0 among);
+      actions_in_order = rw actions at order.actions;
       action_entities = closes.action_entities;
     }
 

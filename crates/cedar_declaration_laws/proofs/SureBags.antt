@@ -24,17 +24,15 @@ use Rattle.cedar_names.specs.Reference.{Reference, ActionReference}
 module _ (bag : Bag) where
   -- what holds of each definition of a common type, of each expression that counts in what is declared of an entity type, and
   -- of each context, holds of each expression that counts
-  pub of_counted : (P : Expr → Type 0)
-      → ((it : PlainName × Expr) → Contains (declared_common bag) it → P it.1)
+  pub of_counted : (P : Expr → Type 0) → ((it : PlainName × Expr) → Contains (declared_common bag) it → P it.1)
       → ((name : PlainName) (body : EntityBody) (expr : Expr) → Contains (declared_entities bag) (name, body)
       → CountsInEntity body expr → P expr)
       → ((uid : PlainUid) (body : ActionBody) (expr : Expr) → Contains (declared_actions bag) (uid, body)
-      → CountsInRequests body.applies_to expr → P expr)
-      → (expr : Expr) → IsCounted bag expr → P expr
+      → CountsInRequests body.applies_to expr → P expr) → (expr : Expr) → IsCounted bag expr → P expr
   of_counted P common entities actions expr (it, among, counts) = by it.body refl counts where
     by : (body : Body) → it.body ≡ body → CountsIn body expr → P expr
     by (common_type definition) is here =
-        subst P here (common (declared_name it, definition) (declares_common bag it definition among is))
+        rw here at (common (declared_name it, definition) (declares_common bag it definition among is))
     by (entity_type body) is here = entities (declared_name it) body expr (declares_entity bag it body among is) here
     by (action body) is here = actions (declared_uid it) body expr (declares_action bag it body among is) here
 
@@ -47,8 +45,7 @@ module _ (bag : Bag) where
   of_placed P parents requests reference (it, among, place) = by it.body refl place where
     by : (body : Body) → it.body ≡ body → IsEntityTypePosition body reference → P reference
     by (common_type definition) is here = absurd here
-    by (entity_type body) is here =
-        parents (declared_name it) reference (body, declares_entity bag it body among is, here)
+    by (entity_type body) is here = parents (declared_name it) reference (body, declares_entity bag it body among is, here)
     by (action body) is here = requests (declared_uid it) body reference (declares_action bag it body among is) here
 
 -- of each kind of fault it is sure that it isn't one of the bag

@@ -17,7 +17,7 @@ use Rattle.cedar_declarations.proofs.DeclarationLemmas.{entity_declaration, acti
 use Rattle.cedar_declaration_laws.proofs.EnumeratedLemmas.{enumerated_parent}
 use Rattle.cedar_declaration_laws.proofs.MentionLemmas.{mentions_entity, known_written, known_counted, known_common}
 use Rattle.cedar_declarations.proofs.ResolutionLemmas.{first_defined, names_no_common}
-use Rattle.cedar_declarations.proofs.OccurrenceLemmas.{Contains-image}
+use Rattle.cedar_declarations.proofs.OccurrenceLemmas.{Contains-image, Contains-entry}
 use Rattle.cedar_declarations.specs.Bag.{Bag, declared_common, declared_entities, declared_actions, declared_types, action_uids, definitions, defined_names}
 use Rattle.cedar_below.specs.Chain.{Chain, one}
 use Rattle.cedar_below.specs.Lists.{HoldsPairwise}
@@ -298,9 +298,8 @@ module _ (bag : Bag) (extensions : Extensions) (schema : PlainSchema) (fit : Typ
   -- no entity type of the schema has the base name of actions' types
   no_action_type : (name : PlainName) → HasEntityType schema name → ¬ IsActionType name
   no_action_type name has is_action =
-      let found = Contains-preimage (λ (each : PlainName × EntityBody). each.0) (declared_entities bag) name (declared_type name has) in
-      let P : PlainName → Type 0 = λ each. Contains (declared_entities bag) (each, found.0.1) in
-      well (action_entity_type name, (found.0.1, subst P found.2 found.1, is_action))
+      let found = Contains-entry (declared_entities bag) name (declared_type name has) in
+      well (action_entity_type name, (found.0, found.1, is_action))
 
   -- no external entity type of the schema is below an enumerated one
   no_external_below : (lower upper : PlainName) → IsOfKind schema lower IsExternal → IsOfKind schema upper IsEnumerated

@@ -74,8 +74,7 @@ module _ {K B : Type 0} (of : Definitions K B) where
   pub said_declared : (entries : List (K × B)) (key : K) (body : B) → of.Says entries key body → Contains (keys entries) key
   said_declared entries key body says =
       elim (of.decided body) [
-        | inl is ↦
-            Contains-image (λ (each : K × B). each.0) entries (key, body) (said_definition entries key body is says)
+        | inl is ↦ Contains-image (λ (each : K × B). each.0) entries (key, body) (said_definition entries key body is says)
         | inr other ↦ ((of.says_declared entries key body other).0 says).0
       ]
 

@@ -1,5 +1,5 @@
 -- Items that stand at one place or two of a list.
-use Rattle.std.proofs.Common.{◌≡◌, ◌≢◌, ◌⊎◌, ◌||◌, zero, suc, Bool, true, false, List, [], ◌∷◌, ◌++◌, map, ap, sym, ◌∙◌, refl, inl, inr, arith, Contains, AllPairs}
+use Rattle.std.proofs.Common.{◌≡◌, ◌≢◌, ◌⊎◌, ◌||◌, zero, suc, Bool, true, false, List, [], ◌∷◌, ◌++◌, map, ap, sym, subst, ◌∙◌, refl, inl, inr, arith, Contains, AllPairs}
 use Rattle.std.proofs.lemmas.Bool.{false≢true}
 use Rattle.std.proofs.lemmas.Bool.Decides.{Decides-like}
 use Rattle.std.proofs.lemmas.List.Elements.{All-contains, All-contains_itself, All-from_recursion, All-filter, filter_passes, Contains-append_left, Contains-append_right, Contains-append_cases}
@@ -13,7 +13,7 @@ use Rattle.cedar_below.specs.PlainUid.{PlainUid, uid_cmp}
 use Rattle.std.specs.List.Sorted.{IsStrictlySortedBy}
 use Rattle.std.specs.declared.cmp.Ordering.{Ordering}
 use Rattle.std.specs.declared.cmp.Ordering.TheVariants.{Less, Equal, Greater}
-use Rattle.cedar_below.proofs.Lists.{Contains-cons, Contains-cons_cases}
+use Rattle.cedar_below.proofs.Lists.{Contains-cons, Contains-cons_cases, Contains-preimage}
 use Rattle.cedar_below.specs.Lists.{Twice}
 use Rattle.cedar_below.proofs.Ordered.{not_itself}
 
@@ -35,9 +35,7 @@ Twice-append (first ∷ rest) ys x twice =
       | inl here ↦
           elim (Contains-append_cases rest ys x here.1) [
             | inl there ↦ inl (inl (here.0, there))
-            | inr there ↦
-                inr
-                (inr (Contains-cons first rest x (inl here.0), there))
+            | inr there ↦ inr (inr (Contains-cons first rest x (inl here.0), there))
           ]
       | inr later ↦
           elim (Twice-append rest ys x later) [
@@ -53,6 +51,13 @@ Contains-image f [] x among = absurd (omega (arith, among.1))
 Contains-image f (first ∷ rest) x among =
     Contains-cons (f first) (map f rest) (f x)
     (elim (Contains-cons_cases first rest x among) [ inl here ↦ inl (ap f here) | inr later ↦ inr (Contains-image f rest x later) ])
+
+-- a key of some entries has a value among them
+pub Contains-entry : {K V : Type 0} (entries : List (K × V)) (key : K) → Contains (map (λ (it : K × V). it.0) entries) key
+    → (value : V) × Contains entries (key, value)
+Contains-entry {K} {V} entries key has =
+    let found = Contains-preimage (λ (it : K × V). it.0) entries key has in
+    (found.0.1, subst (λ each. Contains entries (each, found.0.1)) found.2 found.1)
 
 -- what stands in the lists that some items give stands in one of them
 pub Contains-flat_map : {A B : Type 0} (f : A → List B) (xs : List A) (y : B) → Contains (flat_map f xs) y → (x : A)
@@ -148,13 +153,11 @@ two_values (first ∷ rest) key value other among among' =
       | inl here ↦
           elim (Contains-cons_cases first rest (key, other) among') [
             | inl here' ↦ inl (ap (λ entry. entry.1) (sym here ∙ here'))
-            | inr later' ↦
-                inr (inl (ap (λ entry. entry.0) here, Contains-image (λ entry. entry.0) rest (key, other) later'))
+            | inr later' ↦ inr (inl (ap (λ entry. entry.0) here, Contains-image (λ entry. entry.0) rest (key, other) later'))
           ]
       | inr later ↦
           elim (Contains-cons_cases first rest (key, other) among') [
-            | inl here' ↦
-                inr (inl (ap (λ entry. entry.0) here', Contains-image (λ entry. entry.0) rest (key, value) later))
+            | inl here' ↦ inr (inl (ap (λ entry. entry.0) here', Contains-image (λ entry. entry.0) rest (key, value) later))
             | inr later' ↦
                 elim (two_values rest key value other later later') [ inl same ↦ inl same | inr twice ↦ inr (inr twice) ]
           ]

@@ -18,8 +18,7 @@ IsFirst-same P [] x y one other = absurd one
 IsFirst-same P (first ∷ rest) x y one other =
     elim one [
       | inl here ↦ elim other [ inl there ↦ sym here.0 ∙ there.0 | inr later ↦ absurd (later.0 here.1) ]
-      | inr later ↦
-          elim other [ inl there ↦ absurd (later.0 there.1) | inr there ↦ IsFirst-same P rest x y later.1 there.1 ]
+      | inr later ↦ elim other [ inl there ↦ absurd (later.0 there.1) | inr there ↦ IsFirst-same P rest x y later.1 there.1 ]
     ]
 
 -- where two facts hold of the same items, they hold first of the same
@@ -29,9 +28,7 @@ IsFirst-like P Q to from [] x first = absurd first
 IsFirst-like P Q to from (y ∷ rest) x first =
     elim first [
       | inl here ↦ inl (here.0, to y here.1)
-      | inr later ↦
-          inr
-          (λ holds. later.0 (from y holds), IsFirst-like P Q to from rest x later.1)
+      | inr later ↦ inr (λ holds. later.0 (from y holds), IsFirst-like P Q to from rest x later.1)
     ]
 
 -- no common name has two definitions

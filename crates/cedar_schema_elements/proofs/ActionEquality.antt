@@ -64,6 +64,5 @@ pub actions-Same : (a b : ValidatorActionId) → Decides ((action_eq.ghosts).eq 
     × SameItems (action_of a).descendants (action_of b).descendants)
 actions-Same a b =
     Decides-like _ (λ all. (all.0, all.1.0, all.1.1)) (λ all. (all.0, (all.1, all.2)))
-    (Decides-and _ _ (entity_uid_eq-same a.name b.name)
-    (Decides-and _ _ (kinds-Decides a.kind b.kind)
+    (Decides-and _ _ (entity_uid_eq-same a.name b.name) (Decides-and _ _ (kinds-Decides a.kind b.kind)
     (sets-Decides (uid_eq.ghosts).eq uid_of uid_equal.Laws.laws-law entity_uid_eq-same a.descendants b.descendants)))

@@ -1,5 +1,5 @@
 -- The entities of actions, as they are collected one after another.
-use Rattle.std.proofs.Common.{◌≡◌, ◌≢◌, ◌⊎◌, ◌↔◌, ◌++◌, Bool, true, false, List, [], ◌∷◌, Option, Some, IsSome, is_some, find, string_bytes, map, ap, sym, subst, ◌∙◌, refl, inl, inr, arith, append_assoc, Contains, IsSomeAnd}
+use Rattle.std.proofs.Common.{◌≡◌, ◌≢◌, ◌⊎◌, ◌↔◌, ◌++◌, Bool, true, false, List, [], ◌∷◌, Some, IsSome, is_some, find, string_bytes, map, ap, sym, subst, ◌∙◌, refl, inl, inr, arith, append_assoc, Contains}
 use Rattle.std.proofs.lemmas.Bool.{false≢true, cond-true, cond-false}
 use Rattle.std.proofs.lemmas.List.{append-nil}
 use Rattle.std.proofs.lemmas.Option.{same_Some}
@@ -142,8 +142,7 @@ found_itself : (entities : List Entity) (entity : Entity) → ((uid : PlainUid) 
     → Contains entities entity → find (has_uid (entity_uid entity)) entities ≡ Some entity
 found_itself [] entity once among = absurd (omega (arith, among.1))
 found_itself (first ∷ rest) entity once among =
-    by (has_uid (entity_uid entity) first) refl
-    (elim (Contains-cons_cases first rest entity among) [
+    by (has_uid (entity_uid entity) first) refl (elim (Contains-cons_cases first rest entity among) [
       | inl here ↦ inl here
       | inr later ↦ inr (later, found_itself rest entity (λ other twice. once other (inr twice)) later)
     ])
@@ -154,15 +153,13 @@ found_itself (first ∷ rest) entity once among =
     by : (b : Bool) → has_uid uid first ≡ b → (first ≡ entity) ⊎ (Contains rest entity × (find (has_uid uid) rest ≡ Some entity))
         → find (has_uid uid) (first ∷ rest) ≡ Some entity
     by true is either =
-        cond-true (has_uid uid first) (Some first) (find (has_uid uid) rest) is
-        ∙ (elim either [
+        cond-true (has_uid uid first) (Some first) (find (has_uid uid) rest) is ∙ (elim either [
           | inl here ↦ ap Some here
           | inr later ↦
               absurd (once uid (inl (sym ((uid_test uid (entity_uid first)).0 is), Contains-image entity_uid rest entity later.0)))
         ])
     by false is either =
-        cond-false (has_uid uid first) (Some first) (find (has_uid uid) rest) is
-        ∙ (elim either [
+        cond-false (has_uid uid first) (Some first) (find (has_uid uid) rest) is ∙ (elim either [
           | inl here ↦ absurd (false≢true (sym is ∙ (uid_test uid (entity_uid first)).1 (sym (ap entity_uid here))))
           | inr later ↦ later.1
         ])
@@ -257,8 +254,7 @@ module _ (all : List Item) where
             → IsSome (entity_at new uid)
         complete_at uid true is_it defined = ap is_some (here uid ((uid_test uid (entity_uid entity)).0 is_it))
         complete_at uid false is_other defined =
-            ap is_some (others uid (apart uid is_other))
-            ∙ (elim ((defines_more so_far.done key it uid).0 defined) [
+            ap is_some (others uid (apart uid is_other)) ∙ (elim ((defines_more so_far.done key it uid).0 defined) [
               | inl left ↦ so_far.complete uid left
               | inr last ↦ absurd (apart uid is_other (sym last.0 ∙ its_own))
             ])
@@ -271,8 +267,8 @@ module _ (all : List Item) where
     entities = λ it among.
         let entity = Contains-preimage plain_action_entity (entities_of entities) it among in
         let both = so_far.each (entity_uid entity.0) entity.0 (found_itself (entities_of entities) entity.0 once entity.1) in
-        let P : ActionEntity → Type 0 = IsEntityOfAction (schema_with types all (entities_of entities)) in
-        let made : P (plain_action_entity entity.0) = record {
+        let IsEntity : ActionEntity → Type 0 = IsEntityOfAction (schema_with types all (entities_of entities)) in
+        let made : IsEntity (plain_action_entity entity.0) = record {
           defined = (plain_defines all (entity_uid entity.0)).0 (rw whole at both.1);
           attributes = both.0.attributes;
           tags = both.0.tags;

@@ -48,8 +48,7 @@ ids-Decides (x ∷ xs) (y ∷ ys) =
 -- standard entity types are equal exactly where they stand for the same
 pub standard-Decides : (a b : StandardValidatorEntityType) → Decides ((standard_eq.ghosts).eq a b) (plain_standard a ≡ plain_standard b)
 standard-Decides a b =
-    Decides-like _
-    (λ all i. standard_kind (all.0 i) (all.1.0 i) (all.1.1 i))
+    Decides-like _ (λ all i. standard_kind (all.0 i) (all.1.0 i) (all.1.1 i))
     (λ e. (ap kind_fields e, (ap kind_openness e, ap kind_tags e)))
     (Decides-and _ _ (attributes-Decides a.attributes b.attributes)
     (Decides-and _ _ (open_tag-Decides a.open_attributes b.open_attributes) (tags-Decides a.tags b.tags)))
@@ -66,7 +65,6 @@ kinds-Decides a b = none (λ e. cc)
 pub entity_types-Same : (a b : ValidatorEntityType) → Decides ((entity_type_eq.ghosts).eq a b)
     ((entity_type_of a ≡ entity_type_of b) × SameItems (descendant_names a) (descendant_names b))
 entity_types-Same a b =
-    Decides-like _
-    (λ all. ((λ i. record { name = all.0 i; kind = all.1.1 i }), all.1.0))
+    Decides-like _ (λ all. ((λ i. record { name = all.0 i; kind = all.1.1 i }), all.1.0))
     (λ same. (ap (λ (it : PlainEntityType). it.name) same.0, (same.1, ap (λ (it : PlainEntityType). it.kind) same.0)))
     (Decides-and _ _ (entity_type_eq-same a.name b.name) (Decides-and _ _ (sets-Decides (name_eq.ghosts).eq type_name entity_type_equal.Laws.laws-law entity_type_eq-same a.descendants b.descendants) (kinds-Decides a.kind b.kind)))

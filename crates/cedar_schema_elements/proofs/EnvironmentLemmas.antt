@@ -100,8 +100,7 @@ of_kind uid (defined_action principals resources context) it = (
 )
 
 -- the environments of some actions
-pub of_actions : (actions : List (PlainUid × SchemaAction)) (it : Environment)
-    → Contains (action_environments actions) it
+pub of_actions : (actions : List (PlainUid × SchemaAction)) (it : Environment) → Contains (action_environments actions) it
     ↔ ((action : SchemaAction) × Contains actions (it.action, action) × IsRequestOf action.kind it)
 of_actions actions it = (
   λ among.
@@ -140,8 +139,8 @@ pub are_environments : (entries : List (EntityUID × ValidatorActionId)) (enviro
     → (types : List (PlainName × SchemaEntityType)) (entities : List Entity)
     → AreEnvironmentsOf (schema_with types entries entities) environments
 are_environments entries environments is once types entities =
-    let P : List Environment → Type 0 = AreEnvironmentsOf (schema_with types entries entities) in
-    let made : P (action_environments (map plain_action_entry entries)) = record {
+    let AreAll : List Environment → Type 0 = AreEnvironmentsOf (schema_with types entries entities) in
+    let made : AreAll (action_environments (map plain_action_entry entries)) = record {
       each = of_actions (map plain_action_entry entries);
       once = all_differ (action_environments (map plain_action_entry entries)) once;
     } in

@@ -105,8 +105,7 @@ module _ {A B K : Type 0} (f : A → List B) (key : A → K) (before : List B) (
 pub rest_more : {A B : Type 0} (f : A → List B) (all middle after : List B) (left rest : List A) (x : A) → left ≡ x ∷ rest
     → after ≡ middle ++ f x → middle ++ flat_map f left ≡ all → after ++ flat_map f rest ≡ all
 rest_more f all middle after left rest x is is_after so_far =
-    ap (λ items. items ++ flat_map f rest) is_after
-    ∙ (append_assoc middle (f x) (flat_map f rest)
+    ap (λ items. items ++ flat_map f rest) is_after ∙ (append_assoc middle (f x) (flat_map f rest)
     ∙ (ap (λ others. middle ++ flat_map f others) (sym is) ∙ so_far))
 
 -- where none is left, all was put behind

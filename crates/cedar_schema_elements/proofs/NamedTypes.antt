@@ -62,21 +62,10 @@ module _ (old new : List EntityType) (key : EntityType)
 
   pub inserted_new : Contains (map type_name new) (type_name key)
   inserted_new =
-      (alike_names (type_name key)).1
-      (Contains-image type_name (old ++ key ∷ []) key
+      (alike_names (type_name key)).1 (Contains-image type_name (old ++ key ∷ []) key
       (Contains-append_right old (key ∷ []) key (Contains-cons key [] key (inl refl))))
 
 module _ (names : Names) (all : List ConditionalName) where
-  -- at first nothing is collected
-  pub named_none : (left : List ConditionalName) (types : List EntityType) → left ≡ all → types ≡ []
-      → NamedSoFar names all (map type_name types) left
-  named_none left types same empty =
-      rw same (record {
-        sound = rw empty (λ name none. absurd (omega (arith, none.1)));
-        collected = λ reference here. inr here;
-        among = λ reference here. here;
-      })
-
   module _ (left rest : List ConditionalName) (reference : ConditionalName) (is : left ≡ reference ∷ rest) where
     -- the next one is one of them
     pub named_here : (types : List PlainName) → NamedSoFar names all types left → Contains all reference
@@ -91,7 +80,7 @@ module _ (names : Names) (all : List ConditionalName) where
         let here = named_here (map type_name old) so_far in
         let own : IsCollected names (map type_name new) reference =
         (type_name key, resolves, unreserved, inserted_new old new key updates) in
-        let R : ConditionalName → List ConditionalName → Type 0 = λ each items. Contains items each in
+        let IsIn : ConditionalName → List ConditionalName → Type 0 = λ each items. Contains items each in
         record {
           sound = λ name among. elim (inserted_cases old new key updates name among) [
             | inl left ↦ so_far.sound name left
@@ -104,7 +93,7 @@ module _ (names : Names) (all : List ConditionalName) where
           collected = λ each among. elim (so_far.collected each among) [
             | inl before ↦ inl (before.0, before.1, before.2, inserted_kept old new key updates before.0 before.3)
             | inr later ↦
-                elim (Contains-cons_cases reference rest each (subst (R each) is later)) [
+                elim (Contains-cons_cases reference rest each (subst (IsIn each) is later)) [
                   | inl same ↦ inl (subst (IsCollected names (map type_name new)) same own)
                   | inr right ↦ inr right
                 ]

@@ -57,13 +57,10 @@ AnswersAlike {K = K} eq xs ys = (q : K) → list_any (eq q) xs ≡ list_any (eq 
 -- where an equal item is inserted, the lists still answer alike
 pub AnswersAlike-insert : {K : Type 0} {eq : K → K → Bool} → IsEquivalence eq → (before old new : List K) (x copy : K)
     → AnswersAlike eq old before → eq copy x ≡ true
-    → ((q : K) → list_any (eq q) new ≡ cond (eq copy q) true (list_any (eq q) old))
-    → AnswersAlike eq new (before ++ x ∷ [])
+    → ((q : K) → list_any (eq q) new ≡ cond (eq copy q) true (list_any (eq q) old)) → AnswersAlike eq new (before ++ x ∷ [])
 AnswersAlike-insert {eq = eq} laws before old new x copy answers same inserted q =
-    inserted q
-    ∙ ap (λ b. cond b true (list_any (eq q) old)) (laws.congr copy x q same ∙ laws.symm x q)
-    ∙ ap (cond (eq q x) true) (answers q)
-    ∙ cond-last (eq q x) (list_any (eq q) before)
+    inserted q ∙ ap (λ b. cond b true (list_any (eq q) old)) (laws.congr copy x q same ∙ laws.symm x q)
+    ∙ ap (cond (eq q x) true) (answers q) ∙ cond-last (eq q x) (list_any (eq q) before)
     ∙ sym (list_any-append (eq q) before (x ∷ []))
 
 -- items that are equal exactly where they stand for the same
@@ -71,8 +68,7 @@ module _ {K B : Type 0} (eq : K → K → Bool) (f : K → B) (laws : IsEquivale
     (same : (a b : K) → Decides (eq a b) (f a ≡ f b)) where
   -- a search by equality decides whether what the item stands for is among what the others do
   pub list_any-items : (x : K) (xs : List K) → Decides (list_any (eq x) xs) (Contains (map f xs) (f x))
-  list_any-items x xs =
-      list_any-Contains f (f x) (eq x) (λ y. (λ e. sym ((same x y).0 e), λ e. (same x y).1 (sym e))) xs
+  list_any-items x xs = list_any-Contains f (f x) (eq x) (λ y. (λ e. sym ((same x y).0 e), λ e. (same x y).1 (sym e))) xs
 
   -- where two lists answer alike, what the one stands for is among what the other does
   within : (xs ys : List K) → AnswersAlike eq xs ys → (b : B) → Contains (map f xs) b → Contains (map f ys) b
@@ -97,8 +93,7 @@ module _ {K B : Type 0} (eq : K → K → Bool) (f : K → B) (laws : IsEquivale
       → Decides (hash_set_eq eq s t) (SameItems (map f s.keys) (map f t.keys))
   sets-Decides s t =
       Decides-like
-      _
-      (λ answers. SameItems-searches s.keys t.keys answers)
+      _ (λ answers. SameItems-searches s.keys t.keys answers)
       (λ items q. alike _ _ (list_any-items q s.keys) (list_any-items q t.keys) (items (f q)).0 (items (f q)).1)
       (hash_set_eq_decides laws s t)
 
@@ -118,8 +113,7 @@ module _ {K B : Type 0} (eq : K → K → Bool) (f : K → B) (laws : IsEquivale
 -- entity types that answer alike have the same names
 pub SameItems-types : (types others : List EntityType) → AnswersAlike (entity_type_eq.ghosts).eq types others
     → SameItems (map type_name types) (map type_name others)
-SameItems-types =
-    SameItems-searches (entity_type_eq.ghosts).eq type_name entity_type_equal.Laws.laws-law entity_type_eq-same
+SameItems-types = SameItems-searches (entity_type_eq.ghosts).eq type_name entity_type_equal.Laws.laws-law entity_type_eq-same
 
 -- a copy of an entity type is equal
 pub equal-type : {E : Type 0} (ty shown : EntityType) (answer : Result EntityType E) → shown ≡ ty
@@ -142,10 +136,8 @@ pub reference-Decides : (a b : ConditionalName)
     → Decides ((conditional_name_eq.ghosts).eq a b) (conditional_reference a ≡ conditional_reference b)
 reference-Decides a b =
     Decides-like
-    _
-    (λ both i. record { possibilities = both.0 i; kind = both.1 i })
-    (λ e. (ap (λ (it : Reference). it.possibilities) e, ap (λ (it : Reference). it.kind) e))
-    (conditional_name-Decides a b)
+    _ (λ both i. record { possibilities = both.0 i; kind = both.1 i })
+    (λ e. (ap (λ (it : Reference). it.possibilities) e, ap (λ (it : Reference). it.kind) e)) (conditional_name-Decides a b)
 
 -- references that answer alike stand for the same
 pub SameItems-references : (references others : List ConditionalName)

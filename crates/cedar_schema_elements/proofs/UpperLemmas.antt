@@ -26,8 +26,7 @@ module _ {K P : Type 0} (name : K → P) where
   -- where there was none, an empty one has as much
   pub none_above : (before : Option (BTreeSet K)) (keys : List K) → before ≡ None → keys ≡ []
       → (it : P) → IsSomeAnd before (λ each. Contains (map name each.keys) it) ↔ Contains (map name keys) it
-  none_above before keys is nothing it =
-      rw is (λ none. absurd none, λ among. absurd (omega (arith, (rw nothing at among).1)))
+  none_above before keys is nothing it = rw is (λ none. absurd none, λ among. absurd (omega (arith, (rw nothing at among).1)))
 
 -- keys that tie exactly where they stand for the same
 module _ {K P : Type 0} (cmp : K → K → Ordering) (name : K → P) (tied : (a b : K) → (cmp a b ≡ Equal) ↔ (name a ≡ name b)) where
@@ -173,8 +172,7 @@ module _ {K P : Type 0} (cmp : K → K → Ordering) (name : K → P) (initial :
         | inr one ↦
             inr (
               one.1,
-              Contains-append_right so_far.done (lower ∷ []) (name key)
-                  (Contains-cons lower [] (name key) (inl one.0)),
+              Contains-append_right so_far.done (lower ∷ []) (name key) (Contains-cons lower [] (name key) (inl one.0)),
             )
       ],
       elim [
@@ -256,8 +254,7 @@ module _ {K V P : Type 0} (cmp : K → K → Ordering) (name : K → P) (below :
 
   -- one more does
   pub uppers_more : (left rest : List (K × V)) (middle after : BTreeMap K (BTreeSet K)) (upper : K) (it : V)
-      → left ≡ (upper, it) ∷ rest
-      → ((key : K) (above : P) → IsUpper cmp name after key above
+      → left ≡ (upper, it) ∷ rest → ((key : K) (above : P) → IsUpper cmp name after key above
       ↔ (IsUpper cmp name middle key above ⊎ ((name upper ≡ above) × Contains (below it) (name key))))
       → UppersSoFar cmp name below all middle left → UppersSoFar cmp name below all after rest
   uppers_more left rest middle after upper it is also so_far = record {

@@ -1,5 +1,5 @@
 -- Strict subtyping is permissive subtyping of types that agree.
-use Rattle.std.proofs.Common.{◌≡◌, ◌↔◌, inl, inr, Bool, sym, ap, subst, ◌∙◌, Some, Contains}
+use Rattle.std.proofs.Common.{◌≡◌, ◌↔◌, inl, inr, Bool, sym, ap, ◌∙◌, Some}
 use Rattle.cedar_below.specs.Text.{Text}
 use Rattle.cedar_below.specs.declared.validation_mode.ValidationMode.TheVariants.{Strict, Permissive}
 use Rattle.cedar_type_rules.proofs.SubtypeLaws.{FieldsBelow-names}
@@ -25,7 +25,7 @@ mutual
   Below-permissive long long h = tt
   Below-permissive text text h = tt
   Below-permissive any_entity any_entity h = tt
-  Below-permissive (union_of a) (union_of b) h = λ name among. subst (λ names. Contains names name) h among
+  Below-permissive (union_of a) (union_of b) h = λ name among. rw h at among
   Below-permissive any_set any_set h = tt
   Below-permissive (set_of a) any_set h = tt
   Below-permissive (set_of a) (set_of b) h = Below-permissive a b h
@@ -45,7 +45,7 @@ mutual
 pub AreWellFormed-of : (fields : Fields) (name : Text) (required : Bool) (ty : Ty) → AreWellFormed fields
     → HasField fields name required ty → IsWellFormed ty
 AreWellFormed-of end name required ty formed has = absurd has
-AreWellFormed-of (field other flag of rest) name required ty formed (inl same) = subst IsWellFormed same.2 formed.0
+AreWellFormed-of (field other flag of rest) name required ty formed (inl same) = rw same.2 at formed.0
 AreWellFormed-of (field other flag of rest) name required ty formed (inr there) =
     AreWellFormed-of rest name required ty formed.1 there
 
@@ -79,7 +79,7 @@ mutual
             (let same = HasField-once a name flag own.0 of own.1 sorted_by_name has own.2 in (
               same.0 ∙ own.3,
               Agree-strict of ty (AreWellFormed-of a name flag of formed has)
-                  (subst (λ t. Below Strict t ty) (sym same.1) own.4),
+                  (rw same.1 own.4),
             ))),
         FieldsAgree-strict a rest sorted_by_name formed h.1,
       )

@@ -1,5 +1,5 @@
 -- Answers of joins of types that aren't records.
-use Rattle.std.proofs.Common.{◌≡◌, ◌≢◌, ◌⊎◌, inl, inr, refl, sym, subst, ◌∙◌, [], ◌∷◌, List, Ok, Err, IfOk, arith}
+use Rattle.std.proofs.Common.{◌≡◌, ◌≢◌, ◌⊎◌, inl, inr, refl, sym, ◌∙◌, [], ◌∷◌, List, Ok, Err, IfOk, arith}
 use Rattle.cedar_below.proofs.Lists.{Contains-cons}
 use Rattle.cedar_below.proofs.PlainNames.{name_cmp-total, name_cmp-Equal}
 use Rattle.cedar_below.specs.Lists.{Included}
@@ -147,7 +147,7 @@ extensions_answered mode a b second =
 includes_some : (names all : List PlainName) → names ≢ [] → Included names all → all ≢ []
 includes_some [] all some within = absurd (some refl)
 includes_some (name ∷ rest) all some within =
-    λ e. omega (arith, (subst (Included (name ∷ rest)) e within name (Contains-cons name rest name (inl refl))).1)
+    λ e. omega (arith, ((rw e at within) name (Contains-cons name rest name (inl refl))).1)
 
 -- unions have an answer in permissive mode
 pub unions_answered : (a b : List PlainName) → IsWellFormed (union_of a) → IsWellFormed (union_of b)
@@ -183,7 +183,7 @@ strict_unions_answered a b first second =
     no_bound : ¬ (Included a b × Included b a) → ¬ HaveOwnBound Strict (union_of a) (union_of b)
     no_bound differ (union_of names, own) =
         let same : a ≡ b = own.0.0 ∙ sym own.0.1.0 in
-        differ (subst (Included a) same (λ name among. among), subst (λ v. Included v a) same (λ name among. among))
+        differ (rw (← same) (λ name among. among), rw (← same) (λ name among. among))
     no_bound differ (bound, own) = elim own.0.0 [ ]
 
 -- any entity and a union have none in strict mode

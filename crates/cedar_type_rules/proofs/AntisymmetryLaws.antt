@@ -1,5 +1,5 @@
 -- Well-formed types that are below each other are the same.
-use Rattle.std.proofs.Common.{◌≡◌, inl, inr, Bool, true, false, refl, sym, ap, subst, ◌∙◌, List, [], ◌∷◌, Contains, arith}
+use Rattle.std.proofs.Common.{◌≡◌, inl, inr, Bool, true, false, refl, sym, ap, ◌∙◌, List, [], ◌∷◌, Contains, arith}
 use Rattle.std.proofs.lemmas.List.Elements.{All-contains, All-from_recursion}
 use Rattle.std.specs.Cmp.{IsTotalOrder}
 use Rattle.std.specs.List.Sorted.{IsStrictlySortedBy}
@@ -108,7 +108,7 @@ FieldsWithin-back : (a b : Fields) → IsSortedByName a → FieldsWithin b a →
 FieldsWithin-back a b sorted_by_name within names name required ty has =
     let found = HasField-named b name (names name (HasField-name a name required ty has)) in
     let same = HasField-once a name found.0 required found.1 ty sorted_by_name (within name found.0 found.1 found.2) has in
-    subst (λ t. HasField b name required t) same.1 (subst (λ r. HasField b name r found.1) same.0 found.2)
+    rw (same.0, same.1) at found.2
 
 mutual
   -- well formed types below each other are the same
@@ -145,11 +145,10 @@ mutual
       let own = h.0 in
       let above = HasBelow-of mode b a other own.0 own.1 k own.2 in
       let once = HasField-once b other above.0 flag above.1 of second above.2 (within other flag of (inl (refl, refl, refl))) in
-      let flags : own.0 ≡ flag = FlagsBelow-same mode own.0 flag own.3 (subst (λ r. FlagsBelow mode r own.0) once.0 above.3) in
+      let flags : own.0 ≡ flag = FlagsBelow-same mode own.0 flag own.3 (rw once.0 at above.3) in
       let types : own.1 ≡ of =
       Below-same mode own.1 of (AreWellFormed-of a other own.0 own.1 formed own.2) also.0 own.4
-      (subst (λ t. Below mode t own.1) once.1 above.4) in
-      subst (λ n. HasField a n required ty) same.0
-      (subst (λ r. HasField a other r ty) (flags ∙ same.1) (subst (λ t. HasField a other own.0 t) (types ∙ same.2) own.2))
+      (rw once.1 at above.4) in
+      rw (types ∙ same.2, flags ∙ same.1, same.0) at own.2
   FieldsWithin-below mode a b (field other flag of rest) first second formed also within h k name required ty (inr there) =
       FieldsWithin-below mode a b rest first second formed also.1 (λ n r t has. within n r t (inr has)) h.1 k name required ty there

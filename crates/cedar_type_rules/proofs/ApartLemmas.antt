@@ -1,5 +1,5 @@
 -- Types that have nothing above both, and what a bound of two records says of a name.
-use Rattle.std.proofs.Common.{◌≡◌, ◌⊎◌, inl, inr, Bool, true, false, refl, sym, subst, ◌∙◌}
+use Rattle.std.proofs.Common.{◌≡◌, ◌⊎◌, inl, inr, Bool, true, false, refl, sym, ◌∙◌}
 use Rattle.std.proofs.lemmas.Slice.Eq.{bytes_eq-Decides}
 use Rattle.std.specs.Str.{bytes_eq}
 use Rattle.cedar_below.specs.Text.{Text}
@@ -48,7 +48,7 @@ unnamed mode a b fields name first second one other apart h k required ty has =
     let also = HasBelow-of mode b fields name required ty k has in
     let same : own.1 ≡ first = one own.0 own.1 own.2 in
     let alike : also.1 ≡ second = other also.0 also.1 also.2 in
-    apart ty (subst (λ t. Below mode t ty) same own.4) (subst (λ t. Below mode t ty) alike also.4)
+    apart ty (rw same at own.4) (rw alike at also.4)
 
 -- a record has one attribute of a name, required and of that type, and beside it one of another name at most
 abbrev pub IsPair : Fields → Text → Text → Ty → Ty → Type 0
@@ -72,8 +72,8 @@ kept_below a all (field name required of rest) kept dropped ty other pair within
     let here : HasField all name required of = within name required of (inl (refl, refl, refl)) in
     let own = HasBelow-of Permissive a all name required of h here in (
       elim (pair name own.0 own.1 own.2) [
-        | inl same ↦ (true, ty, inl (same.0, refl, refl), (λ _. refl), subst (λ t. Below Permissive t of) same.2 own.4)
-        | inr same ↦ absurd (none required of (subst (λ n. HasField all n required of) (sym same.0) here))
+        | inl same ↦ (true, ty, inl (same.0, refl, refl), (λ _. refl), rw same.2 at own.4)
+        | inr same ↦ absurd (none required of (rw same.0 here))
       ],
       kept_below a all rest kept dropped ty other pair (λ n r t has. within n r t (inr has)) none h,
     )

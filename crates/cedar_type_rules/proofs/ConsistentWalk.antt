@@ -1,5 +1,5 @@
 -- Steps of a walk over two records that tells whether they are consistent.
-use Rattle.std.proofs.Common.{◌≡◌, ◌⊎◌, ◌↔◌, inl, inr, refl, sym, subst, Bool, false, List, [], ◌∷◌, ◌++◌, Contains, arith}
+use Rattle.std.proofs.Common.{◌≡◌, ◌⊎◌, ◌↔◌, inl, inr, refl, sym, Bool, false, List, [], ◌∷◌, ◌++◌, Contains, arith}
 use Rattle.std.specs.List.{AllByRecursion}
 use Rattle.cedar_below.proofs.Lists.{Contains-cons, Contains-cons_cases}
 use Rattle.cedar_below.specs.CoreTy.{CoreTy, CoreFields, core_end, core_field, core_names}
@@ -42,7 +42,7 @@ module _ (IsOpen IsCoreOpen : Type 0) where
       ((λ flag of has. absurd (fresh (HasCoreField-name core name flag of has))), parts.1.0),
       (λ other flag has out.
           elim has.1 [
-            | inl same ↦ subst (λ r. (r ≡ false) ⊎ IsCoreOpen) same.1 parts.0
+            | inl same ↦ rw same.1 at parts.0
             | inr there ↦ parts.1.1 other flag (has.0, there) out
           ]),
       (λ other flag has out. parts.1.2 other flag has (λ among. out (Contains-cons name (field_names rest) other (inr among)))),
@@ -53,7 +53,7 @@ module _ (IsOpen IsCoreOpen : Type 0) where
         whole.0.1,
         (λ other flag has out. whole.1 other flag (has.0, inr has.1) out),
         (λ other flag has out. whole.2 other flag has (not_cons name (field_names rest) other
-            (λ same. fresh (subst (Contains (core_names core)) (sym same) (HasCoreField-name core other flag has.0 has.1))) out)),
+            (λ same. fresh (rw same (HasCoreField-name core other flag has.0 has.1))) out)),
       ),
     ),
   )
@@ -88,7 +88,7 @@ module _ (IsOpen IsCoreOpen : Type 0) where
       (λ other flag has out. parts.1.1 other flag has (λ among. out (Contains-cons name (core_names rest) other (inr among)))),
       (λ other flag has out.
           elim has.1 [
-            | inl same ↦ subst (λ r. (r ≡ false) ⊎ IsOpen) same.1 parts.0
+            | inl same ↦ rw same.1 at parts.0
             | inr there ↦ parts.1.2 other flag (has.0, there) out
           ]),
     ),
@@ -97,7 +97,7 @@ module _ (IsOpen IsCoreOpen : Type 0) where
       (
         without_one fields name required of rest whole.0,
         (λ other flag has out. whole.1 other flag has (not_cons name (core_names rest) other
-            (λ same. fresh (subst (Contains (field_names fields)) (sym same) (HasField-name fields other flag has.0 has.1))) out)),
+            (λ same. fresh (rw same (HasField-name fields other flag has.0 has.1))) out)),
         (λ other flag has out. whole.2 other flag (has.0, inr has.1) out),
       ),
     ),
@@ -113,7 +113,7 @@ module _ (IsOpen IsCoreOpen : Type 0) where
       (
         (λ r c has.
             elim has [
-              | inl same ↦ subst (IsConsistent ty) same.2 parts.0
+              | inl same ↦ rw same.2 at parts.0
               | inr there ↦ absurd (core_fresh (HasCoreField-name rest name r c there))
             ]),
         with_one_more fields name flag of rest fresh parts.1.0,
@@ -136,9 +136,9 @@ module _ (IsOpen IsCoreOpen : Type 0) where
       (
         without_one fields name flag of rest whole.0.1,
         (λ other r has out. whole.1 other r (has.0, inr has.1) (not_cons name (core_names rest) other
-            (λ same. fresh (subst (Contains (field_names fields)) (sym same) (HasField-name fields other r has.0 has.1))) out)),
+            (λ same. fresh (rw same (HasField-name fields other r has.0 has.1))) out)),
         (λ other r has out. whole.2 other r (has.0, inr has.1) (not_cons name (field_names fields) other
-            (λ same. core_fresh (subst (Contains (core_names rest)) (sym same) (HasCoreField-name rest other r has.0 has.1))) out)),
+            (λ same. core_fresh (rw same (HasCoreField-name rest other r has.0 has.1))) out)),
       ),
     ),
   )

@@ -1,5 +1,5 @@
 -- What can be decided of names and lists, and sorted lists without duplicates.
-use Rattle.std.proofs.Common.{◌≡◌, ◌⊎◌, ◌↔◌, inl, inr, Bool, true, false, refl, sym, ap, subst, ◌∙◌, ◌≤◌, length, List, [], ◌∷◌, Contains, arith}
+use Rattle.std.proofs.Common.{◌≡◌, ◌⊎◌, ◌↔◌, inl, inr, Bool, true, false, refl, sym, ap, ◌∙◌, ◌≤◌, length, List, [], ◌∷◌, Contains, arith}
 use Rattle.std.proofs.lemmas.List.Elements.{All-contains, All-from_recursion}
 use Rattle.std.specs.Cmp.{IsTotalOrder}
 use Rattle.std.specs.List.{AllByRecursion}
@@ -120,7 +120,7 @@ insert_one {B = B} R total ties x (y ∷ ys) sorted_by_name = from_order (R x y)
             each_of (λ z. R y z ≡ Less) rest.all (λ z among. elim (rest.only z among) [
               | inl new ↦
                   elim (Contains-cons_cases x [] z new) [
-                    | inl same ↦ subst (λ w. R y w ≡ Less) same below
+                    | inl same ↦ rw same at below
                     | inr none ↦ absurd (omega (arith, none.1))
                   ]
               | inr old ↦ of_each (λ z. R y z ≡ Less) ys sorted_by_name.0 z old

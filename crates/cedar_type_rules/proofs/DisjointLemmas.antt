@@ -19,6 +19,5 @@ pub disjoint-unions : (a b : Ty) (names others : List PlainName) → kind_names 
 disjoint-unions (union_of own) (union_of other) names others is also =
     let first : own ≡ names = cc in
     let second : other ≡ others = cc in
-    subst (λ each. AreDisjoint each others ↔ AreDisjoint own other) first
-    (subst (λ each. AreDisjoint own each ↔ AreDisjoint own other) second (λ apart. apart, λ apart. apart))
+    rw (← first) (subst (λ each. AreDisjoint own each ↔ AreDisjoint own other) second (λ apart. apart, λ apart. apart))
 disjoint-unions _ b names others is also = absurd cc

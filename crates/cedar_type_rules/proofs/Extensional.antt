@@ -85,8 +85,7 @@ rests_same : (name : Text) (required required' : Bool) (ty ty' : Ty) (rest rest'
     → HoldSame (field name required ty rest) (field name required' ty' rest') → HoldSame rest rest'
 rests_same name required required' ty ty' rest rest' sorted_by_name sorted_by_name' same each =
     let P : Bool → Type 0 = λ b. bytes_eq each name ≡ b → field_at each rest ≡ field_at each rest' in
-    let equal : P true = λ is. subst (λ (t : Text). field_at t rest ≡ field_at t rest')
-    (sym ((bytes_eq-Decides each name).0 is)) (field_at-below name rest
+    let equal : P true = λ is. rw ((bytes_eq-Decides each name).0 is) (field_at-below name rest
     (first_below name required ty rest sorted_by_name) ∙ sym
     (field_at-below name rest' (first_below name required' ty' rest' sorted_by_name'))) in
     let other : P false = λ isn't. let h : (if bytes_eq each name then Some (required, ty) else field_at each rest)
@@ -135,8 +134,7 @@ last_named-sorted_by_name name (item ∷ rest) sorted_by_name =
     let P : Bool → Type 0 = λ b. bytes_eq name item.0 ≡ b → option_or (last_named name rest)
     (if b then Some item.1 else None) ≡ (if b then Some item.1 else field_at name (fields_from rest)) in
     let equal : P true = λ is. ap (λ found. option_or found (Some item.1)) (tail
-    ∙ subst (λ (t : Text). field_at t (fields_from rest) ≡ None) (sym ((bytes_eq-Decides name item.0).0 is))
-    (field_at-below item.0 (fields_from rest) below)) in
+    ∙ rw (← ((bytes_eq-Decides name item.0).0 is)) at (field_at-below item.0 (fields_from rest) below)) in
     let other : P false = λ isn't. option_or-None (last_named name rest) ∙ tail in
     elim (bytes_eq name item.0) as P [ true ↦ equal | false ↦ other ] refl
 

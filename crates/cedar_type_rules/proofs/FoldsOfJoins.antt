@@ -1,5 +1,5 @@
 -- Values that are folded by joins: steps of the walk, and the least clean bound.
-use Rattle.std.proofs.Common.{inl, inr, refl, sym, subst, List, [], ◌∷◌, Result, Ok, Err}
+use Rattle.std.proofs.Common.{inl, inr, refl, List, [], ◌∷◌, Result, Ok, Err}
 use Rattle.std.specs.List.{AllByRecursion}
 use Rattle.cedar_type_rules.specs.Joining.{IsGivenOrMemory, IsFoldOfJoins, IsCleanAbove, IsLeastClean}
 use Rattle.cedar_type_rules.specs.declared.join_error.JoinError.{JoinError}
@@ -61,8 +61,7 @@ module _ {A : Type 0} (IsBelow : A → A → Type 0) (IsClean : A → Type 0) (I
   -- clean values that are folded by joins from a clean start give the least clean bound of the start and of them
   pub joined_is_least : (start : A) (items : List A) (answer : Result A LubHelp) → IsClean start → AllByRecursion IsClean items
       → IsFoldOfJoins IsJoin start items answer → IsLeastClean IsBelow IsClean (start ∷ items) answer
-  joined_is_least start [] answer clean all is =
-      subst (IsLeastClean IsBelow IsClean (start ∷ [])) (sym is) (((laws.itself start, tt), clean), λ bound own. own.0.0)
+  joined_is_least start [] answer clean all is = rw is (((laws.itself start, tt), clean), λ bound own. own.0.0)
   joined_is_least start (item ∷ rest) answer clean all (inl (join, right, more)) =
       let up = laws.above start item join right in
       least-same (join ∷ rest) (start ∷ item ∷ rest) answer (λ bound own. (
@@ -71,5 +70,4 @@ module _ {A : Type 0} (IsBelow : A → A → Type 0) (IsClean : A → Type 0) (I
       )) (λ bound own. ((laws.least start item join bound right own.0.0 own.0.1.0 own.1, own.0.1.1), own.1))
       (joined_is_least join rest answer (laws.clean start item join right clean all.0) all.1 more)
   joined_is_least start (item ∷ rest) answer clean all (inr (given, right, is)) =
-      subst (IsLeastClean IsBelow IsClean (start ∷ item ∷ rest)) (sym is)
-      (λ bound own. laws.refused start item bound given right own.0.0 own.0.1.0 own.1)
+      rw is (λ bound own. laws.refused start item bound given right own.0.0 own.0.1.0 own.1)

@@ -1,10 +1,9 @@
 -- What follows for the least own bound of two types.
-use Rattle.std.proofs.Common.{inl, inr, refl, sym, subst, Ok, Err}
+use Rattle.std.proofs.Common.{inl, inr, refl, Ok, Err}
 use Rattle.cedar_below.specs.declared.validation_mode.ValidationMode.{ValidationMode}
 use Rattle.cedar_type_rules.proofs.AntisymmetryLaws.{Below-same}
 use Rattle.cedar_type_rules.proofs.OwnBoundLemmas.{LiesWithin-clean, IsClean-within, LiesWithin-more, LiesWithin-among}
 use Rattle.cedar_type_rules.proofs.SubtypeLaws.{Below-itself}
-use Rattle.cedar_type_rules.specs.Clean.{IsClean}
 use Rattle.cedar_type_rules.specs.JoinLaws.{CleanBoundsAreOwn, OwnBoundsOfCleanAreClean, JoinsAreGivenExactly, JoinsAreUnique, UpperTypesAreJoins, JoinsAreBelowCleanBounds, JoinsOfCleanAreLeastClean, JoinsAreCommutative}
 use Rattle.cedar_type_rules.specs.OwnBound.{IsEither, IsOwnBound}
 use Rattle.cedar_type_rules.specs.Ty.{Ty}
@@ -17,7 +16,7 @@ clean_is_own mode a b bound clean = (clean.0, LiesWithin-clean (IsEither a b) bo
 pub own_is_clean : OwnBoundsOfCleanAreClean
 own_is_clean mode a b bound first second own =
     IsClean-within (IsEither a b) bound
-    (λ of either. elim either [ inl e ↦ subst IsClean (sym e) first | inr e ↦ subst IsClean (sym e) second ]) own.1
+    (λ of either. elim either [ inl e ↦ rw e first | inr e ↦ rw e second ]) own.1
 
 -- the upper of two types is their join
 pub upper_is_join : UpperTypesAreJoins

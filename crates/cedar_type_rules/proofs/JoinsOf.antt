@@ -1,5 +1,5 @@
 -- Values that stand for plain types are joined as these are.
-use Rattle.std.proofs.Common.{◌≡◌, inl, inr, ap, subst, map, List, [], ◌∷◌, Result, Ok, Err}
+use Rattle.std.proofs.Common.{◌≡◌, inl, inr, ap, map, List, [], ◌∷◌, Result, Ok, Err}
 use Rattle.std.specs.Result.{result_map_both}
 use Rattle.cedar_below.specs.declared.validation_mode.ValidationMode.{ValidationMode}
 use Rattle.cedar_type_rules.proofs.JoinLemmas.{clean_is_own, own_is_clean}
@@ -17,7 +17,7 @@ use Rattle.cedar_type_rules.specs.declared.join_error.LubHelp.{LubHelp}
 module _ {A : Type 0} (stands_for : A → Ty) (mode : ValidationMode) where
   -- values that stand for the same are below each other
   pub alike_below : (a b : A) → stands_for a ≡ stands_for b → Below mode (stands_for a) (stands_for b)
-  alike_below a b same = subst (Below mode (stands_for a)) same (Below-itself mode (stands_for a))
+  alike_below a b same = rw (← same) (Below-itself mode (stands_for a))
 
   -- each value is below itself
   pub below_itself : (a : A) → Below mode (stands_for a) (stands_for a)

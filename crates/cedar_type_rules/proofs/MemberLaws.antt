@@ -1,5 +1,5 @@
 -- What has a type has each type above it.
-use Rattle.std.proofs.Common.{◌≡◌, ◌⊎◌, inl, inr, Bool, true, false, refl, sym, subst, ◌∙◌, Option, Some, None, Contains}
+use Rattle.std.proofs.Common.{◌≡◌, ◌⊎◌, inl, inr, Bool, true, false, refl, sym, ◌∙◌, Option, Some, None}
 use Rattle.cedar_below.specs.Fits.{EntryFits, NamesListed}
 use Rattle.cedar_below.specs.PlainName.{PlainName}
 use Rattle.cedar_below.specs.Text.{Text}
@@ -35,8 +35,7 @@ FlagsBelow-missing Permissive own false fits missing = refl
 
 -- a truth value as known is so as less is known
 pub HasTruth-above : (value : Bool) (a b : BoolType) → HasTruth value a → (b ≡ bool_type.AnyBool) ⊎ (a ≡ b) → HasTruth value b
-HasTruth-above value a b has below =
-    elim below [ inl any ↦ subst (HasTruth value) (sym any) tt | inr same ↦ subst (HasTruth value) same has ]
+HasTruth-above value a b has below = elim below [ inl any ↦ rw any tt | inr same ↦ rw same at has ]
 
 -- a record whose attributes are listed lists them in a record type above
 pub NamesListed-above : (mode : ValidationMode) (openness upper_openness : OpenTag) (values : Entries)
@@ -57,7 +56,7 @@ pub HasFieldsBy-of : (calls : PlainName → Trees → PlainName → Type 0) (val
 HasFieldsBy-of calls values end name required ty has among = absurd among
 HasFieldsBy-of calls values (field other flag of rest) name required ty has (inl same) =
     let P : Text → Bool → Ty → Type 0 = λ n r t. EntryFits (λ value. HasBy calls value t) r (entry_at n values) in
-    subst (λ n. P n required ty) same.0 (subst (λ r. P other r ty) same.1 (subst (λ t. P other flag t) same.2 has.0))
+    rw (← same.0, ← same.1, ← same.2) has.0
 HasFieldsBy-of calls values (field other flag of rest) name required ty has (inr there) =
     HasFieldsBy-of calls values rest name required ty has.1 there
 
@@ -76,7 +75,7 @@ mutual
   HasBy-above calls (uid_value uid) Permissive (union_of a) any_entity h k = tt
   HasBy-above calls (uid_value uid) Permissive (union_of a) (union_of b) h k = k uid.ty h
   HasBy-above calls (uid_value uid) Permissive (union_of a) b h k = elim k [ ]
-  HasBy-above calls (uid_value uid) Strict (union_of a) (union_of b) h k = subst (λ names. Contains names uid.ty) k h
+  HasBy-above calls (uid_value uid) Strict (union_of a) (union_of b) h k = rw k at h
   HasBy-above calls (uid_value uid) Strict (union_of a) b h k = elim k [ ]
   HasBy-above calls (set_value values) mode any_set any_set h k = tt
   HasBy-above calls (set_value values) mode any_set b h k = elim k [ ]
@@ -88,7 +87,7 @@ mutual
   HasBy-above calls (map_value values) mode (record_of a openness) (record_of b upper_openness) h k =
       (NamesListed-above mode openness upper_openness values a b h.0 k.0 k.1, HasFieldsBy-above calls values mode a b h.1 k.2)
   HasBy-above calls (map_value values) mode (record_of a openness) b h k = elim k [ ]
-  HasBy-above calls (call_value function args) mode (extension_of a) (extension_of b) h k = subst (calls function args) k h
+  HasBy-above calls (call_value function args) mode (extension_of a) (extension_of b) h k = rw k at h
   HasBy-above calls (call_value function args) mode (extension_of a) b h k = elim k [ ]
   HasBy-above calls value mode a b h k = elim h [ ]
 

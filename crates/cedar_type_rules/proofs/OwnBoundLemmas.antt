@@ -1,5 +1,5 @@
 -- Own bounds: clean bounds are own bounds, and what lies within clean types is clean.
-use Rattle.std.proofs.Common.{inl, inr, refl, subst, Bool}
+use Rattle.std.proofs.Common.{inl, inr, refl, Bool}
 use Rattle.cedar_below.specs.Text.{Text}
 use Rattle.cedar_type_rules.specs.Below.{HasField}
 use Rattle.cedar_type_rules.specs.Clean.{IsClean, AreClean}
@@ -23,7 +23,7 @@ mutual
 -- the type of an attribute of clean ones is clean
 pub AreClean-of : (fields : Fields) (name : Text) (required : Bool) (ty : Ty) → AreClean fields → HasField fields name required ty → IsClean ty
 AreClean-of end name required ty clean has = absurd has
-AreClean-of (field other flag of rest) name required ty clean (inl same) = subst IsClean same.2 clean.0
+AreClean-of (field other flag of rest) name required ty clean (inl same) = rw same.2 at clean.0
 AreClean-of (field other flag of rest) name required ty clean (inr there) = AreClean-of rest name required ty clean.1 there
 
 mutual

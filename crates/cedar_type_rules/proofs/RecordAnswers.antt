@@ -124,8 +124,8 @@ drop_one name required ty rest fb before none = record {
   sound = λ n r t has. in_more Permissive BothRequire rest fb name required ty n r t (before.sound n r t has);
   complete = λ n ra rb a b has also own. elim has [
     | inl same ↦
-        absurd (none rb b (subst (λ m. HasField fb m rb b) (sym same.0) also)
-        (subst (λ z. HaveOwnBound Permissive z b) (sym same.2) own))
+        absurd (none rb b (rw same.0 also)
+        (rw same.2 own))
     | inr there ↦ before.complete n ra rb a b there also own
   ];
 }
@@ -141,9 +141,7 @@ keep_one name required flag ty of join rest fb sorted_by_name before has least f
   formed = (formed, before.formed);
   sound = λ n r t there. elim there [
     | inl same ↦
-        subst (λ m. IsJoined Permissive BothRequire (field name required ty rest) fb m r t) same.0
-        (subst (λ q. IsJoined Permissive BothRequire (field name required ty rest) fb name q t) same.1
-        (subst (IsJoined Permissive BothRequire (field name required ty rest) fb name (required && flag)) same.2 (record {
+        rw (← same.0) (rw same.1 at (subst (IsJoined Permissive BothRequire (field name required ty rest) fb name (required && flag)) same.2 (record {
           first_flag = required;
           second_flag = flag;
           first = ty;
@@ -177,7 +175,7 @@ permissive_join (field name required ty rest) fb sorted_by_name second answers =
     by_answer before flag of has (Ok join, least, formed) = keep_one name required flag ty of join rest fb sorted_by_name before has least formed
     by_answer before flag of has (Err it, none, formed) =
         drop_one name required ty rest fb before
-        (λ rb b also own. none.0 (subst (HaveOwnBound Permissive ty) (HasField-once fb name rb flag b of second also has).1 own))
+        (λ rb b also own. none.0 (rw (HasField-once fb name rb flag b of second also has).1 at own))
 
 -- a openness that is below the closed one is closed
 closed_tag : (openness : OpenTag) → OpennessBelow openness ClosedAttributes → openness ≡ ClosedAttributes
@@ -243,8 +241,7 @@ permissive_fields fa fb fc ta tb tc it first second own =
       found.1,
       found.2,
       (λ needed. part.flag.1 (sym same.0 ∙ one.3 needed, sym alike.0 ∙ other.3 needed)),
-      part.least.1 t (subst (λ z. IsOwnBound Permissive z part.second t) same.1
-          (subst (λ z. IsOwnBound Permissive one.1 z t) alike.1 bound)),
+      part.least.1 t (rw (← same.1) (rw alike.1 at bound)),
     )))
 
 -- the names of the permissive join are those of the first record
@@ -257,7 +254,7 @@ permissive_names fa fb it name among =
 -- names that fit below a closed record are its own
 names_closed : (openness : OpenTag) (fa fc : Fields) → openness ≡ ClosedAttributes
     → NamesBelow Permissive openness fa fc → Included (field_names fa) (field_names fc)
-names_closed openness fa fc e names = subst (λ g. NamesBelow Permissive g fa fc) e names
+names_closed openness fa fc e names = rw e at names
 
 -- the permissive join is below each own bound
 permissive_least : (fa fb : Fields) (ta tb openness : OpenTag) (it : PermissiveJoin fa fb) → IsSortedByName fa
@@ -267,7 +264,7 @@ permissive_least fa fb ta tb openness it first second closed (record_of fc tc) o
     let fields = permissive_fields fa fb fc ta tb tc it first second own in
     let back = FieldsBelow-names Permissive it.fields fc fields in (
       tag_below openness tc (λ e. closed (
-        (closed_tag ta (subst (OpennessBelow ta) e own.0.0.0), closed_tag tb (subst (OpennessBelow tb) e own.0.1.0.0)),
+        (closed_tag ta (rw e at own.0.0.0), closed_tag tb (rw e at own.0.1.0.0)),
         (
           (λ n among. back n (names_closed tc fa fc e own.0.0.1 n among)),
           (λ n among. back n (names_closed tc fb fc e own.0.1.0.1 n among)),
@@ -295,8 +292,8 @@ pub permissive_closed : (fa fb : Fields) (ta tb : OpenTag) (it : PermissiveJoin 
     → NothingDropped fa fb it.fields ta tb
     → IsLeastOwnBound Permissive (record_of fa ta) (record_of fb tb) (record_of it.fields ClosedAttributes)
 permissive_closed fa fb ta tb it first second all = (
-  permissive_own fa fb ta tb ClosedAttributes it (subst (λ g. OpennessBelow g ClosedAttributes) (sym all.0.0) tt)
-      (subst (λ g. OpennessBelow g ClosedAttributes) (sym all.0.1) tt) all.1.0 all.1.1,
+  permissive_own fa fb ta tb ClosedAttributes it (rw all.0.0 tt)
+      (rw all.0.1 tt) all.1.0 all.1.1,
   permissive_least fa fb ta tb ClosedAttributes it first second (λ _. tt),
 )
 

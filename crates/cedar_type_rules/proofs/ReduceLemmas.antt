@@ -1,5 +1,5 @@
 -- Types that are folded by joins.
-use Rattle.std.proofs.Common.{◌≡◌, ◌∙◌, ◌++◌, inl, inr, ap, sym, subst, List, [], ◌∷◌, Ok, Err, IfOk}
+use Rattle.std.proofs.Common.{◌≡◌, ◌∙◌, ◌++◌, inl, inr, ap, sym, List, [], ◌∷◌, Ok, Err, IfOk}
 use Rattle.std.proofs.lemmas.List.Elements.{All-contains, All-from_recursion}
 use Rattle.std.specs.List.{AllByRecursion}
 use Rattle.cedar_below.proofs.Inclusion.{Included-head, Included-tail}
@@ -30,9 +30,7 @@ IsLeastAnswer-same mode Bounds Others (Err given) forth back right = λ bound ot
 -- clean types that are reduced from a clean start give their and its least clean bound
 reduce_from : (mode : ValidationMode) (start : Ty) (tys : List Ty) (answer : JoinAnswer) → IsClean start
     → AllByRecursion IsClean tys → IsReduceAnswer mode start tys answer → IsLeastAnswer mode (IsCleanBound mode (start ∷ tys)) answer
-reduce_from mode start [] answer clean all is =
-    subst (IsLeastAnswer mode (IsCleanBound mode (start ∷ []))) (sym is)
-    (((Below-itself mode start, tt), clean), λ bound own. own.0.0)
+reduce_from mode start [] answer clean all is = rw is (((Below-itself mode start, tt), clean), λ bound own. own.0.0)
 reduce_from mode start (ty ∷ rest) answer clean all (inl (join, right, formed, more)) =
     let join_clean = own_is_clean mode start ty join clean all.0 right.0 in
     IsLeastAnswer-same mode (IsCleanBound mode (join ∷ rest)) (IsCleanBound mode (start ∷ ty ∷ rest)) answer (λ bound own. (
@@ -45,8 +43,7 @@ reduce_from mode start (ty ∷ rest) answer clean all (inl (join, right, formed,
     (λ bound own. ((right.1 bound (clean_is_own mode start ty bound ((own.0.0, (own.0.1.0, tt)), own.1)), own.0.1.1), own.1))
     (reduce_from mode join rest answer join_clean all.1 more)
 reduce_from mode start (ty ∷ rest) answer clean all (inr (given, right, is)) =
-    subst (IsLeastAnswer mode (IsCleanBound mode (start ∷ ty ∷ rest))) (sym is)
-    (λ bound own. right.0 (bound, clean_is_own mode start ty bound ((own.0.0, (own.0.1.0, tt)), own.1)))
+    rw is (λ bound own. right.0 (bound, clean_is_own mode start ty bound ((own.0.0, (own.0.1.0, tt)), own.1)))
 
 -- clean types are reduced to their least clean bound
 pub reduce_least_clean : CleanAreReducedToLeastClean

@@ -1,5 +1,5 @@
 -- Values of inhabited types, and of records with a chosen attribute.
-use Rattle.std.proofs.Common.{◌≡◌, ◌≢◌, inl, inr, Bool, true, false, refl, sym, subst, ◌∙◌, ℕ, suc, ◌+◌, ◌≤◌, pos, length, List, [], ◌∷◌, Option, Some, None, Contains, arith}
+use Rattle.std.proofs.Common.{◌≡◌, ◌≢◌, inl, inr, Bool, true, false, refl, sym, ◌∙◌, ℕ, suc, ◌+◌, ◌≤◌, pos, length, List, [], ◌∷◌, Option, Some, None, Contains, arith}
 use Rattle.std.proofs.lemmas.Slice.Eq.{bytes_eq-Decides}
 use Rattle.std.proofs.Math.Facts.{sfits_lit}
 use Rattle.std.specs.Str.{bytes_eq}
@@ -42,11 +42,11 @@ HasFields-from calls values (field name required ty rest) each =
 
 -- a value that is there fits if it is as it has to be
 pub fits_some : (P : Tree → Type 0) (r : Bool) (found : Option Tree) (value : Tree) → found ≡ Some value → P value → EntryFits P r found
-fits_some P r found value e holds = subst (EntryFits P r) (sym e) holds
+fits_some P r found value e holds = rw e holds
 
 -- a value that is there and fits is as it has to be
 pub some_fits : (P : Tree → Type 0) (r : Bool) (found : Option Tree) (value : Tree) → found ≡ Some value → EntryFits P r found → P value
-some_fits P r found value e fits = subst (EntryFits P r) e fits
+some_fits P r found value e fits = rw e at fits
 
 -- the value at the first name
 pub entry_here : (n name : Text) (value : Tree) (rest : Entries) → n ≡ name → entry_at n (entry name value rest) ≡ Some value
@@ -85,7 +85,7 @@ within_total : {B : Type 0} (f : B → Text) (xs : List B) (x : B) → Contains 
 within_total f [] x among = absurd (omega (arith, among.1))
 within_total f (y ∷ ys) x among =
     elim (Contains-cons_cases y ys x among) [
-      | inl same ↦ subst (λ z. length (f z) ≤ length (f y) + total f ys) same (omega arith)
+      | inl same ↦ rw (← same) (omega arith)
       | inr there ↦ let less = within_total f ys x there in omega (arith, less)
     ]
 
@@ -188,7 +188,7 @@ put_in extensions name without required ty rest value sorted_by_name named diffe
         let first : HasField (field name required ty rest) n required ty = inl (sym same, refl, refl) in (
           value,
           entry_here n name value before.values same,
-          subst (Has extensions value) (HasField-once (field name required ty rest) n required r ty t sorted_by_name first has).1 holds,
+          rw (HasField-once (field name required ty rest) n required r ty t sorted_by_name first has).1 at holds,
         )
     | inr other ↦
         elim has [
@@ -222,7 +222,7 @@ mutual
         (
           only_listed openness it.values fields it.listed,
           HasFields-from (Gives extensions) it.values fields (λ n r t has. (let found =
-              it.has n r t has (λ same. fresh.1 (subst (Contains (field_names fields)) same (HasField-name fields n r t has))) in
+              it.has n r t has (λ same. fresh.1 (rw same at (HasField-name fields n r t has))) in
               fits_some (λ value. Has extensions value t) r (entry_at n it.values) found.0 found.1 found.2)),
         ),
       )

@@ -1,5 +1,5 @@
 -- Types that are inhabited by samples are inhabited.
-use Rattle.std.proofs.Common.{◌≡◌, Bool, true, false, refl, subst, sym, List, [], ◌∷◌, Option, Some, cond}
+use Rattle.std.proofs.Common.{◌≡◌, Bool, true, false, refl, List, [], ◌∷◌, Option, Some, cond}
 use Rattle.std.specs.BTreeMap.{is_at}
 use Rattle.std.specs.Map.{lookup}
 use Rattle.std.specs.Ordering.{is_eq}
@@ -19,7 +19,7 @@ use Rattle.cedar_type_rules.specs.Ty.{Ty, never, set_of, record_of, extension_of
 -- a name that ties with what a name stands for isn't reserved
 tied_name : (sought : PlainName) (key : Name) (answer : Ordering) → name_cmp sought (plain_name key) ≡ answer
     → is_eq answer ≡ true → IsName sought
-tied_name sought key Equal is tied = subst IsName (sym ((name_cmp-Equal sought (plain_name key)).0 is)) (IsName-plain_name key)
+tied_name sought key Equal is tied = rw ((name_cmp-Equal sought (plain_name key)).0 is) (IsName-plain_name key)
 tied_name sought key _ is tied = absurd cc
 
 -- a name at which something is found isn't reserved, if that is so of what is found further on

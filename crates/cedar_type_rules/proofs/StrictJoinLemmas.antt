@@ -1,5 +1,5 @@
 -- A strict join is below each own bound in permissive mode.
-use Rattle.std.proofs.Common.{◌≡◌, refl, sym, subst, ◌∙◌, inl, inr}
+use Rattle.std.proofs.Common.{◌≡◌, refl, sym, ◌∙◌, inl, inr}
 use Rattle.cedar_below.specs.Lists.{Included}
 use Rattle.cedar_below.specs.declared.validation_mode.ValidationMode.TheVariants.{Strict, Permissive}
 use Rattle.cedar_type_rules.proofs.AgreeLaws.{Below-permissive, AreWellFormed-of, HasField-once}
@@ -68,7 +68,7 @@ above_union names join h = elim h [ ]
 -- what is strictly above a union is below what the union is below
 above_same : (names others : _) (join : Ty) → Below Strict (union_of names) join → Included names others
     → Below Permissive join (union_of others)
-above_same names others (union_of same) h k = subst (λ v. Included v others) h k
+above_same names others (union_of same) h k = rw h at k
 above_same names others join h k = elim h [ ]
 
 -- a strict join is below any entity where both types are
@@ -106,8 +106,8 @@ tags_below : (fa fb fj : Fields) (ta tb tj upper : OpenTag) → IsLeastOwnBound 
 tags_below fa fb fj ta tb tj upper least h k =
     tag_below tj upper (λ e. (least.1 (record_of fj ClosedAttributes) (
       (
-        (subst (OpennessBelow ta) e h, least.0.0.0.1, least.0.0.0.2),
-        ((subst (OpennessBelow tb) e k, least.0.0.1.0.1, least.0.0.1.0.2), tt),
+        (rw e at h, least.0.0.0.1, least.0.0.0.2),
+        ((rw e at k, least.0.0.1.0.1, least.0.0.1.0.2), tt),
       ),
       least.0.1,
     )).0)

@@ -63,9 +63,7 @@ keep_strict name required ty of join rest fb sorted_by_name before has least for
   formed = (formed, before.formed);
   sound = λ n r t there. elim there [
     | inl same ↦
-        subst (λ m. IsJoined Strict SameFlags (field name required ty rest) fb m r t) same.0
-        (subst (λ q. IsJoined Strict SameFlags (field name required ty rest) fb name q t) same.1
-        (subst (IsJoined Strict SameFlags (field name required ty rest) fb name required) same.2 (record {
+        rw (← same.0, ← same.1) (subst (IsJoined Strict SameFlags (field name required ty rest) fb name required) same.2 (record {
           first_flag = required;
           second_flag = required;
           first = ty;
@@ -74,7 +72,7 @@ keep_strict name required ty of join rest fb sorted_by_name before has least for
           in_second = has;
           least = least;
           flag = (refl, refl);
-        })))
+        }))
     | inr old ↦ in_more Strict SameFlags rest fb name required ty n r t (before.sound n r t old)
   ];
   complete = λ n r t own. elim own [
@@ -105,7 +103,7 @@ try_strict (field name required ty rest) fb sorted_by_name answers =
         elim (decide_flags required flag) [
           | inl same ↦
               inl (keep_strict name required ty of join rest fb sorted_by_name before
-              (subst (λ q. HasField fb name q of) (sym same) has) least formed)
+              (rw same has) least formed)
           | inr differ ↦ inr (help.AttributeQualifier, inr (inl (flag, of, has, inl ((join, least.0), differ, refl))))
         ]
     by_answer before flag of has (Err it, none, formed) = inr (it, inr (inl (flag, of, has, inr none)))
@@ -125,7 +123,7 @@ help_refuses (field name required ty rest) fa fb ta tb it first second within (i
     let same = HasField-once fa name one.0 required one.1 ty first one.2 mine in
     let alike = HasField-once fb name other.0 flag other.1 of second other.2 has in
     let bound : IsOwnBound Strict ty of found.1 = (
-      (subst (λ z. Below Strict z found.1) same.1 one.4, (subst (λ z. Below Strict z found.1) alike.1 other.4, tt)),
+      (rw same.1 at one.4, (rw alike.1 at other.4, tt)),
       within_both fa fb ta tb name required flag ty of found.1 first second mine has
           (FieldsLieWithin-of (IsEither (record_of fa ta) (record_of fb tb)) fc name found.0 found.1 own.1 found.2),
     ) in
@@ -208,7 +206,7 @@ strict_least fa fb ta tb it first second names = (
             found.1,
             found.2,
             sym part.flag.0 ∙ sym same.0 ∙ one.3,
-            part.least.1 t (subst (λ z. IsOwnBound Strict z part.second t) same.1 (subst (λ z. IsOwnBound Strict one.1 z t) alike.1 bound)),
+            part.least.1 t (rw (← same.1) (rw alike.1 at bound)),
           ))),
     )
     below bound own = elim own.0.0 [ ]

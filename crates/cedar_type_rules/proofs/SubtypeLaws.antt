@@ -1,5 +1,5 @@
 -- Subtyping is reflexive and transitive.
-use Rattle.std.proofs.Common.{inl, inr, Bool, refl, sym, subst, ◌∙◌, Contains, arith}
+use Rattle.std.proofs.Common.{inl, inr, Bool, refl, sym, ◌∙◌, Contains, arith}
 use Rattle.cedar_below.proofs.Inclusion.{Included-none, Included-cons}
 use Rattle.cedar_below.proofs.Lists.{Contains-cons, Contains-cons_cases}
 use Rattle.cedar_below.specs.Lists.{Included}
@@ -79,7 +79,7 @@ pub HasBelow-of : (mode : ValidationMode) (lower upper : Fields) (name : Text) (
 HasBelow-of mode lower end name required ty below has = absurd has
 HasBelow-of mode lower (field other flag of rest) name required ty below (inl same) =
     let found = below.0 in
-    (found.0, found.1, rw same.0 at found.2, subst (FlagsBelow mode found.0) same.1 found.3, subst (Below mode found.1) same.2 found.4)
+    (found.0, found.1, rw same.0 at found.2, rw same.1 at found.3, rw (← same.2) found.4)
 HasBelow-of mode lower (field other flag of rest) name required ty below (inr there) =
     HasBelow-of mode lower rest name required ty below.1 there
 

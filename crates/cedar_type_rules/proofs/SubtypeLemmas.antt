@@ -1,5 +1,5 @@
 -- Look-up in attributes, and tests that decide subtyping.
-use Rattle.std.proofs.Common.{◌≡◌, inl, inr, Bool, true, false, refl, sym, ap, subst, ◌∙◌, List, [], ◌∷◌, map, Some, None, if◌then◌else◌}
+use Rattle.std.proofs.Common.{◌≡◌, inl, inr, Bool, true, false, refl, sym, ap, ◌∙◌, List, [], ◌∷◌, map, Some, None, if◌then◌else◌}
 use Rattle.std.proofs.lemmas.Bool.Decides.{Decides-and, Decides-like}
 use Rattle.std.proofs.lemmas.Slice.Eq.{bytes_eq-Decides}
 use Rattle.std.specs.Bool.{Decides}
@@ -47,7 +47,7 @@ HasField-found name (field other required ty rest) own e =
 pub HasField-all : (P : Text → Type 0) (name : Text) (fields : Fields) (required : Bool) (ty : Ty)
     → HasField fields name required ty → AllByRecursion P (field_names fields) → P name
 HasField-all P name end required ty has all = absurd has
-HasField-all P name (field other flag of rest) required ty (inl same) all = subst P same.0 all.0
+HasField-all P name (field other flag of rest) required ty (inl same) all = rw same.0 at all.0
 HasField-all P name (field other flag of rest) required ty (inr there) all = HasField-all P name rest required ty there all.1
 
 -- a name above another is another
@@ -55,7 +55,7 @@ above_differs : (name other : Text) → text_cmp other name ≡ Less → ¬ (byt
 above_differs name other less e =
     let same : name ≡ other = (bytes_eq-Decides name other).0 e in
     let tied : text_cmp name name ≡ Equal = tied_itself text_cmp-total name in
-    let again : text_cmp name name ≡ Less = subst (λ (x : Text). text_cmp x name ≡ Less) (sym same) less in
+    let again : text_cmp name name ≡ Less = rw (← same) at less in
     cc
 
 -- a choice that isn't made
@@ -94,7 +94,7 @@ HasBelow-Decides mode lower name upper own b sorted_by_name found decides = (
   λ e. let below = decides.0 e in (own.0, own.1, HasField-found name lower own found, below.0, below.1),
   λ has. let again : field_at name lower ≡ Some (has.0, has.1) = found-HasField name lower has.0 has.1 sorted_by_name has.2 in
       let same : (has.0, has.1) ≡ own = cc in
-      decides.1 (subst (λ (p : Bool × Ty). AttributeBelow mode p upper) same (has.3, has.4)),
+      decides.1 (rw (← same) (has.3, has.4)),
 )
 
 -- where no attribute is found there is none below

@@ -1,6 +1,6 @@
 -- Inclusion of values of inhabited types is told by their parts, and permissive subtyping is
 -- inclusion of values and of names.
-use Rattle.std.proofs.Common.{◌≡◌, ◌≢◌, inl, inr, Bool, true, false, refl, sym, subst, ◌∙◌, pos, [], Some, None, Contains, IsTrue}
+use Rattle.std.proofs.Common.{◌≡◌, inl, inr, Bool, true, false, refl, sym, ◌∙◌, pos, [], Some, Contains, IsTrue}
 use Rattle.cedar_below.proofs.Inclusion.{Included-cons}
 use Rattle.cedar_below.proofs.Lists.{Contains-cons}
 use Rattle.cedar_below.specs.CoreTy.{core_extension}
@@ -38,7 +38,7 @@ use Rattle.cedar_type_rules.specs.declared.open_tag.OpenTag.TheVariants.{OpenAtt
 AreInhabited-of : (extensions : Extensions) (fields : Fields) (name : Text) (required : Bool) (ty : Ty)
     → AreInhabited extensions fields → HasField fields name required ty → IsInhabited extensions ty
 AreInhabited-of extensions end name required ty lives has = absurd has
-AreInhabited-of extensions (field other flag of rest) name required ty lives (inl same) = subst (IsInhabited extensions) same.2 lives.0
+AreInhabited-of extensions (field other flag of rest) name required ty lives (inl same) = rw same.2 at lives.0
 AreInhabited-of extensions (field other flag of rest) name required ty lives (inr there) =
     AreInhabited-of extensions rest name required ty lives.1 there
 
@@ -75,7 +75,7 @@ with_value extensions fa ta n value it sorted_by_name fits listed = (
   HasFields-from (Gives extensions) (entry n value it.values) fa (λ m r t has. elim (decide_texts m n) [
     | inl same ↦
         fits_some (λ v. Has extensions v t) r (entry_at m (entry n value it.values)) value (entry_here m n value it.values same)
-        (fits r t (subst (λ k. HasField fa k r t) same has))
+        (fits r t (rw same at has))
     | inr differ ↦
         let found = it.has m r t has differ in
         fits_some (λ v. Has extensions v t) r (entry_at m (entry n value it.values)) found.0
@@ -96,7 +96,7 @@ attributes_included : (extensions : Extensions) (fa fb : Fields) (ta tb : OpenTa
 attributes_included extensions fa fb ta tb n ra rb a b known has also value real holds =
     let it = sample extensions fa n known.first known.formed known.texts known.lives in
     let whole = with_value extensions fa ta n value it known.first
-    (λ r t there. subst (Has extensions value) (HasField-once fa n ra r a t known.first has there).1 holds)
+    (λ r t there. rw (HasField-once fa n ra r a t known.first has there).1 at holds)
     (more_listed extensions fa ta n value it (HasField-name fa n ra a has)) in
     some_fits (λ v. Has extensions v b) rb (entry_at n (entry n value it.values)) value (entry_here n n value it.values refl)
     (HasFieldsBy-of (Gives extensions) (entry n value it.values) fb n rb b
@@ -109,10 +109,7 @@ lacking_value : (extensions : Extensions) (fa : Fields) (ta : OpenTag) (n : Text
 lacking_value extensions fa ta n it optional = (
   only_listed ta it.values fa it.listed,
   HasFields-from (Gives extensions) it.values fa (λ m r t has. elim (decide_texts m n) [
-    | inl same ↦
-        subst (EntryFits (λ v. Has extensions v t) r)
-        (sym (subst (λ k. entry_at k it.values ≡ None) (sym same) (absent_entry n it.values it.absent)))
-        (optional r t (subst (λ k. HasField fa k r t) same has))
+    | inl same ↦ rw (rw (← same) at (absent_entry n it.values it.absent)) (optional r t (rw same at has))
     | inr differ ↦
         let found = it.has m r t has differ in fits_some (λ v. Has extensions v t) r
         (entry_at m it.values) found.0 found.1 found.2
@@ -134,8 +131,7 @@ optional_too : (extensions : Extensions) (fa fb : Fields) (ta tb : OpenTag) (n :
 optional_too extensions fa fb ta tb n rb b known optional also =
     let it = sample extensions fa n known.first known.formed known.texts known.lives in
     let whole = lacking_value extensions fa ta n it optional in
-    subst (EntryFits (λ v. Has extensions v b) rb) (absent_entry n it.values it.absent)
-    (HasFieldsBy-of (Gives extensions) it.values fb n rb b (known.within (map_value it.values) it.valid whole).1 also)
+    rw (absent_entry n it.values it.absent) at (HasFieldsBy-of (Gives extensions) it.values fb n rb b (known.within (map_value it.values) it.valid whole).1 also)
 
 -- flags of a name fit where the values are included
 flags_included : (extensions : Extensions) (fa fb : Fields) (ta tb : OpenTag) (n : Text) (ra rb : Bool) (a b : Ty)
@@ -166,7 +162,7 @@ closed_names extensions fa fb ta known n among =
     let value = inhabitant extensions own.1 (AreWellFormed-of fa n own.0 own.1 known.formed own.2)
     (AreInhabited-of extensions fa n own.0 own.1 known.lives own.2) in
     let whole = with_value extensions fa ta n value.0 it known.first
-    (λ r t there. subst (Has extensions value.0) (HasField-once fa n own.0 r own.1 t known.first own.2 there).1 value.2)
+    (λ r t there. rw (← (HasField-once fa n own.0 r own.1 t known.first own.2 there).1) value.2)
     (more_listed extensions fa ta n value.0 it among) in
     (known.within (map_value (entry n value.0 it.values)) (sample_is_value extensions fa n value.0 it
     (known.texts n among) value.1) whole).0 n (Contains-cons n (entry_names it.values) n (inl refl))
@@ -364,7 +360,7 @@ fits_missing : (P : Tree → Type 0) (openness : OpenTag) (lower : Fields) (name
     → NamesListed (is_open openness) (entry_names values) (field_names lower) → IsNeverThere openness lower name required
     → EntryFits P required (entry_at name values)
 fits_missing P ClosedAttributes lower name required values listed missing =
-    subst (EntryFits P required) (sym (absent_entry name values (λ there. missing.1 (listed name there)))) missing.2
+    rw (absent_entry name values (λ there. missing.1 (listed name there))) missing.2
 fits_missing P OpenAttributes lower name required values listed missing = absurd (let e = missing.0 in cc)
 
 mutual
@@ -392,7 +388,7 @@ mutual
   HasBy-included calls (map_value values) (record_of a openness) (record_of b upper_openness) h k =
       (NamesListed-above Permissive openness upper_openness values a b h.0 k.0 k.1, HasFieldsBy-included calls values openness a b h.0 h.1 k.2)
   HasBy-included calls (map_value values) (record_of a openness) b h k = elim k [ ]
-  HasBy-included calls (call_value function args) (extension_of a) (extension_of b) h k = subst (calls function args) k h
+  HasBy-included calls (call_value function args) (extension_of a) (extension_of b) h k = rw k at h
   HasBy-included calls (call_value function args) (extension_of a) b h k = elim k [ ]
   HasBy-included calls value a b h k = elim h [ ]
 
@@ -427,7 +423,7 @@ mutual
       let one = h.0 in (
         (λ own_required own has.
             (let same = HasField-once fa name one.0 own_required one.1 own sorted_by_name one.2 has in
-            below_lists own ty (AreWellFormed-of fa name own_required own formed has) (subst (λ t. Below Permissive t ty) same.1 one.4))),
+            below_lists own ty (AreWellFormed-of fa name own_required own formed has) (rw same.1 at one.4))),
         fields_list rest fa sorted_by_name formed h.1,
       )
 
@@ -436,7 +432,7 @@ FieldsRequireAll-of : (fields : Fields) (name : Text) (required : Bool) (ty : Ty
     → HasField fields name required ty → IsTrue required × RequiresAll ty
 FieldsRequireAll-of end name required ty all has = absurd has
 FieldsRequireAll-of (field other flag of rest) name required ty all (inl same) =
-    (sym same.1 ∙ all.0, subst RequiresAll same.2 all.1)
+    (sym same.1 ∙ all.0, rw same.2 at all.1)
 FieldsRequireAll-of (field other flag of rest) name required ty all (inr there) = FieldsRequireAll-of rest name required ty all.2 there
 
 mutual
@@ -457,7 +453,7 @@ mutual
         (λ n among.
             (let found = HasField-named fb n among in
             let needed = FieldsRequireAll-of fb n found.0 found.1 all found.2 in
-            required_listed extensions fa fb ta tb n found.1 known (subst (λ r. HasField fb n r found.1) needed.0 found.2))),
+            required_listed extensions fa fb ta tb n found.1 known (rw needed.0 at found.2))),
         included_fields_list extensions fb fa fb ta tb known (λ n r t has. has) other.1 all,
       )
   included_lists extensions a b formed other lives all within = tt

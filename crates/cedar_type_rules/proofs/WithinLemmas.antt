@@ -1,5 +1,5 @@
 -- What a least own bound of two records is at a name, and of two sets at their elements.
-use Rattle.std.proofs.Common.{◌≡◌, ◌⊎◌, inl, inr, Bool, true, false, refl, sym, subst, ◌∙◌, if◌then◌else◌, ◌∷◌}
+use Rattle.std.proofs.Common.{◌≡◌, ◌⊎◌, inl, inr, Bool, true, false, refl, sym, ◌∙◌, if◌then◌else◌, ◌∷◌}
 use Rattle.std.proofs.lemmas.Slice.Eq.{bytes_eq-Decides}
 use Rattle.std.specs.Str.{bytes_eq}
 use Rattle.cedar_below.specs.Lists.{Included}
@@ -36,8 +36,7 @@ FieldsLieWithin-from Among (field name required ty rest) each =
 pub FieldsLieWithin-of : (Among : Ty → Type 0) (fields : Fields) (name : Text) (required : Bool) (ty : Ty)
     → FieldsLieWithin Among fields → HasField fields name required ty → LiesWithin (IsNamedIn Among name) ty
 FieldsLieWithin-of Among end name required ty within has = absurd has
-FieldsLieWithin-of Among (field other flag of rest) name required ty within (inl same) =
-    subst (λ n. LiesWithin (IsNamedIn Among n) ty) same.0 (subst (LiesWithin (IsNamedIn Among other)) same.2 within.0)
+FieldsLieWithin-of Among (field other flag of rest) name required ty within (inl same) = rw (same.2, same.0) at within.0
 FieldsLieWithin-of Among (field other flag of rest) name required ty within (inr there) =
     FieldsLieWithin-of Among rest name required ty within.1 there
 
@@ -50,10 +49,10 @@ within_both fa fb ta tb name ra rb a b ty first second has also =
     (λ of named. elim named.3 [
       | inl e ↦
           inl (let same : named.0 ≡ fa = cc in
-          (HasField-once fa name named.2 ra of a first (subst (λ f. HasField f name named.2 of) same named.4) has).1)
+          (HasField-once fa name named.2 ra of a first (rw same at named.4) has).1)
       | inr e ↦
           inr (let same : named.0 ≡ fb = cc in
-          (HasField-once fb name named.2 rb of b second (subst (λ f. HasField f name named.2 of) same named.4) also).1)
+          (HasField-once fb name named.2 rb of b second (rw same at named.4) also).1)
     ])
 
 -- what lies within the two types that two records have at a name lies within their types of that name
@@ -62,8 +61,8 @@ pub within_named : (fa fb : Fields) (ta tb : OpenTag) (name : Text) (ra rb : Boo
 within_named fa fb ta tb name ra rb a b ty has also =
     LiesWithin-more (IsEither a b) (IsNamedIn (IsEither (record_of fa ta) (record_of fb tb)) name) ty
     (λ of either. elim either [
-      | inl e ↦ (fa, ta, ra, inl refl, subst (HasField fa name ra) (sym e) has)
-      | inr e ↦ (fb, tb, rb, inr refl, subst (HasField fb name rb) (sym e) also)
+      | inl e ↦ (fa, ta, ra, inl refl, rw e has)
+      | inr e ↦ (fb, tb, rb, inr refl, rw e also)
     ])
 
 -- what lies within two sets lies within their elements
@@ -119,8 +118,8 @@ replaced_above fa fj name ra a ty sorted_by_name has below h =
     FieldsBelow-from Strict fa (replaced name ty fj) (λ n r t there. elim (replaced_has name ty fj n r t there) [
       | inl new ↦
           let own = HasBelow-of Strict fa fj n r new.2.0 h new.2.1 in
-          let same : own.1 ≡ a = (HasField-once fa n own.0 ra own.1 a sorted_by_name own.2 (subst (λ m. HasField fa m ra a) new.0 has)).1 in
-          (own.0, own.1, own.2, own.3, subst (λ z. Below Strict z t) (sym same) (subst (Below Strict a) new.1 below))
+          let same : own.1 ≡ a = (HasField-once fa n own.0 ra own.1 a sorted_by_name own.2 (rw new.0 at has)).1 in
+          (own.0, own.1, own.2, own.3, rw same (rw new.1 at below))
       | inr old ↦ HasBelow-of Strict fa fj n r t h old
     ])
 
@@ -134,7 +133,7 @@ least_at_name fa fb fj ta tb tj name ra rb rj a b join first second third has al
     let same : lower.1 ≡ a = (HasField-once fa name lower.0 ra lower.1 a first lower.2 has).1 in
     let alike : other.1 ≡ b = (HasField-once fb name other.0 rb other.1 b second other.2 also).1 in (
       (
-        (subst (λ z. Below Strict z join) same lower.4, (subst (λ z. Below Strict z join) alike other.4, tt)),
+        (rw same at lower.4, (rw alike at other.4, tt)),
         within_both fa fb ta tb name ra rb a b join first second has also
             (FieldsLieWithin-of (IsEither (record_of fa ta) (record_of fb tb)) fj name rj join least.0.1 there),
       ),
@@ -142,10 +141,10 @@ least_at_name fa fb fj ta tb tj name ra rb rj a b join first second third has al
     )
   where
     names_same : (bound : Ty) → Included (field_names fa) (field_names (replaced name bound fj))
-    names_same bound = subst (Included (field_names fa)) (sym (replaced_names name bound fj)) least.0.0.0.1
+    names_same bound = rw (replaced_names name bound fj) least.0.0.0.1
 
     other_names_same : (bound : Ty) → Included (field_names fb) (field_names (replaced name bound fj))
-    other_names_same bound = subst (Included (field_names fb)) (sym (replaced_names name bound fj)) least.0.0.1.0.1
+    other_names_same bound = rw (replaced_names name bound fj) least.0.0.1.0.1
 
     own_bound : (bound : Ty) → IsOwnBound Strict a b bound → IsOwnBound Strict (record_of fa ta) (record_of fb tb)
         (record_of (replaced name bound fj) tj)
@@ -156,9 +155,7 @@ least_at_name fa fb fj ta tb tj name ra rb rj a b join first second third has al
       ),
       FieldsLieWithin-from (IsEither (record_of fa ta) (record_of fb tb)) (replaced name bound fj)
           (λ n r t placed. elim (replaced_has name bound fj n r t placed) [
-            | inl new ↦
-                subst (λ m. LiesWithin (IsNamedIn (IsEither (record_of fa ta) (record_of fb tb)) m) t) new.0
-                (within_named fa fb ta tb name ra rb a b t has also (subst (LiesWithin (IsEither a b)) new.1 own.1))
+            | inl new ↦ rw new.0 at (within_named fa fb ta tb name ra rb a b t has also (rw new.1 at own.1))
             | inr old ↦ FieldsLieWithin-of (IsEither (record_of fa ta) (record_of fb tb)) fj n r t least.0.1 old
           ]),
     )
@@ -167,4 +164,4 @@ least_at_name fa fb fj ta tb tj name ra rb rj a b join first second third has al
     below bound own =
         let above = least.1 (record_of (replaced name bound fj) tj) (own_bound bound own) in
         let placed = HasBelow-of Strict fj (replaced name bound fj) name rj bound above.2 (has_replaced name bound fj rj join there) in
-        subst (λ z. Below Strict z bound) (HasField-once fj name placed.0 rj placed.1 join third placed.2 there).1 placed.4
+        rw (HasField-once fj name placed.0 rj placed.1 join third placed.2 there).1 at placed.4

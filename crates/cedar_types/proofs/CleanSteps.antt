@@ -19,8 +19,7 @@ IsCleanLeft all rest = AreClean (fields_from (plain_attributes rest)) ↔ AreCle
 
 -- at first all are left
 pub clean-first : (all : Attributes) (own : List (String Global × AttributeType)) → own ≡ pairs_of all → IsCleanLeft all own
-clean-first all own is =
-    rw is (subst (λ fields. AreClean fields ↔ AreClean (fields_of all)) (fields_of-pairs all) (λ clean. clean, λ clean. clean))
+clean-first all own is = rw (is, ← (fields_of-pairs all)) (λ clean. clean, λ clean. clean)
 
 module _ (all : Attributes) (item : String Global × AttributeType) (rest : List (String Global × AttributeType))
     (left : IsCleanLeft all (item ∷ rest)) (of : «Type») (is_of : of ≡ (out-AttributeType item.1).attr_type.value) where

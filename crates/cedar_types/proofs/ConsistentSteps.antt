@@ -20,7 +20,7 @@ use Rattle.cedar_below.specs.declared.core_schema_type.CoreAttributeType.{CoreAt
 use Rattle.cedar_type_rules.proofs.ConsistentWalk.{AreConsistent, consistent-other, consistent-both, consistent-front, consistent-left, MayBeMissing}
 use Rattle.cedar_type_rules.specs.Consistent.{IsConsistent}
 use Rattle.cedar_type_rules.specs.Fields.{field_names}
-use Rattle.cedar_type_rules.specs.Ty.{Ty, fields_from}
+use Rattle.cedar_type_rules.specs.Ty.{fields_from}
 use Rattle.cedar_name_map.proofs.RisingLemmas.{Ahead, AllBelow, Ahead-first, Ahead-next, Ahead-past, Ahead-sought, missed, below_all, below_each-apart, taken-all, rises-from, seen-from}
 use Rattle.cedar_name_map.proofs.SearchLemmas.{text_of, text_at}
 use Rattle.cedar_name_map.specs.ByName.{AreSortedByName, entry_texts}
@@ -106,10 +106,10 @@ pub step_of : (attrs : Attributes) (own : List (String Global × AttributeType))
     → Decides may (AllByRecursion (MayBeMissing IsOpen IsCoreOpen) (plain_attributes (take (place - at) (drop at own))))
     → ConsistentStep own IsOpen IsCoreOpen Whole at place item rest may
 step_of attrs own IsOpen IsCoreOpen Whole at place item rest may is so_far on sought admits =
-    let P : List (String Global × AttributeType) → Type 0 = λ pairs.
+    let PassesTo : List (String Global × AttributeType) → Type 0 = λ pairs.
     ((i : ℕ) (d : String Global × AttributeType) → at ≤ i → i < place → text_cmp (text_at pairs i d) (core_text item) ≡ Less)
     × ((d : String Global × AttributeType) → place < length pairs → text_cmp (text_at pairs place d) (core_text item) ≢ Less) in
-    let both = subst P (sym is) (sought.passed, sought.stays) in
+    let both = subst PassesTo (sym is) (sought.passed, sought.stays) in
     record {
       up = subst AreSortedByName (sym is) (out-Attributes attrs).attrs.value.sorted_by_name;
       so_far = so_far;
@@ -189,10 +189,10 @@ module _ {own : List (String Global × AttributeType)} {IsOpen IsCoreOpen Whole 
           let both = consistent-both IsOpen IsCoreOpen (core_text item) (attribute_of x.1).0 (attribute_of x.1).1
           (fields_from (plain_attributes (drop (place + 1) own))) (core_attribute_of item.1).0 (core_attribute_of item.1).1
           others own_fresh others_fresh in
-          let P : List (String Global × AttributeType) → Type 0 = λ pairs. AreLeft IsOpen IsCoreOpen pairs (item ∷ rest) ↔ Whole in
-          let Q : Text → Type 0 = λ name. AreConsistent (fields_from ((name, attribute_of x.1) ∷ plain_attributes (drop (place + 1) own)))
+          let LeftTell : List (String Global × AttributeType) → Type 0 = λ pairs. AreLeft IsOpen IsCoreOpen pairs (item ∷ rest) ↔ Whole in
+          let NamedTell : Text → Type 0 = λ name. AreConsistent (fields_from ((name, attribute_of x.1) ∷ plain_attributes (drop (place + 1) own)))
           (core_fields_from (map core_entry (item ∷ rest))) IsOpen IsCoreOpen ↔ Whole in
-          let whole = subst Q same (subst P split left) in
+          let whole = subst NamedTell same (subst LeftTell split left) in
           (λ parts. whole.0 (both.0 parts), λ all. both.1 (whole.1 all))
 
       -- where their types aren't consistent, the whole isn't

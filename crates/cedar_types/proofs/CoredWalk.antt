@@ -1,10 +1,9 @@
 -- Steps of the walk that gives attributes the core types of their types.
-use Rattle.std.proofs.Common.{◌≡◌, ◌∙◌, sym, ap, subst, Bool, List, [], ◌∷◌, ◌++◌, map, Some, string_bytes, Global, append_assoc}
+use Rattle.std.proofs.Common.{◌≡◌, ◌∙◌, sym, ap, Bool, List, [], ◌∷◌, ◌++◌, map, Some, string_bytes, Global, append_assoc}
 use Rattle.std.proofs.lemmas.List.{map-append, append-nil}
 use Rattle.std.proofs.lemmas.Simd.{map-map}
 use Rattle.std.specs.BTreeMap.{insert_entry}
 use Rattle.std.specs.List.{AllByRecursion}
-use Rattle.std.specs.List.Sorted.{IsStrictlySortedBy}
 use Rattle.std.specs.Map.{keys_of}
 use Rattle.std.specs.String.{string_cmp}
 use Rattle.std.specs.declared.cmp.Ordering.TheVariants.{Greater}
@@ -54,7 +53,7 @@ module _ (all : List (String Global × AttributeType)) (item : String Global × 
       → IsFieldsFault (fields_from (plain_attributes all)) given
   cored-fault given stands =
       let at : IsCoreFault (attribute_of item.1).1 given =
-      subst (λ ty. IsCoreFault ty given) (sym (ap (λ both. both.1) (attribute_of-parts item.1))) stands in
+      rw (ap (λ both. both.1) (attribute_of-parts item.1)) stands in
       rw (ap plain_attributes so_far.split ∙ map-append plain_entry so_far.done (item ∷ rest)) (fault-middle (map plain_entry so_far.done) (plain_entry item) (map plain_entry rest) given at)
 
   -- the names that are done are those that are made
@@ -91,11 +90,7 @@ module _ (all : List (String Global × AttributeType)) (item : String Global × 
         done = so_far.done ++ item ∷ [];
         split = so_far.split ∙ sym (append_assoc so_far.done (item ∷ []) rest);
         turn =
-            subst (λ items. HoldsPairwise IsCored items (map core_entry (made ++ (key, attribute) ∷ [])))
-            (sym (map-append plain_entry so_far.done (item ∷ [])))
-            (subst (HoldsPairwise IsCored (map plain_entry so_far.done ++ plain_entry item ∷ []))
-            (sym (map-append core_entry made ((key, attribute) ∷ [])))
-            (cored-more (map plain_entry so_far.done) (map core_entry made) (plain_entry item) (core_entry (key, attribute)) so_far.turn one));
+            rw (map-append plain_entry so_far.done (item ∷ []), map-append core_entry made ((key, attribute) ∷ [])) (cored-more (map plain_entry so_far.done) (map core_entry made) (plain_entry item) (core_entry (key, attribute)) so_far.turn one);
       })
 
 -- at last all are done

@@ -1,5 +1,5 @@
 -- Steps of a walk over the entries of a record, past those of lesser names.
-use Rattle.std.proofs.Common.{◌≡◌, ◌≢◌, false, refl, sym, ap, subst, ◌∙◌, List, [], ◌∷◌, string_bytes, Option, None, Some, if◌then◌else◌, arith}
+use Rattle.std.proofs.Common.{◌≡◌, ◌≢◌, false, refl, sym, ap, ◌∙◌, List, [], ◌∷◌, string_bytes, Option, None, Some, if◌then◌else◌, arith}
 use Rattle.std.proofs.lemmas.Bool.{false_from_ne_true}
 use Rattle.std.proofs.lemmas.Simd.{map-map}
 use Rattle.std.specs.Cmp.{tied_itself}
@@ -28,8 +28,7 @@ use denote.Ref.{Bor}
 pub AreSortedByName-keys : {V : Type 0} (entries : List (String Global × V)) → IsStrictlySortedBy string_cmp (keys_of entries)
     → AreSortedByName entries
 AreSortedByName-keys entries sorted =
-    subst (IsStrictlySortedBy text_cmp) (map-map string_bytes (λ entry. entry.0) entries)
-    (IsStrictlySortedBy-map string_cmp text_cmp string_bytes (λ a b. refl) (keys_of entries) sorted)
+    rw (map-map string_bytes (λ entry. entry.0) entries) at (IsStrictlySortedBy-map string_cmp text_cmp string_bytes (λ a b. refl) (keys_of entries) sorted)
 
 -- where there is a first, it stands before those that follow
 pub entries_left-first : (left : EntriesLeft) (entry : Bor (String Global) × Bor RestrictedExpr) → left.first ≡ Some entry

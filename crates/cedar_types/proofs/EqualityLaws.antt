@@ -130,8 +130,8 @@ attribute_told x y is b =
     let a = roll-AttributeType (attribute_parts y) in
     let parts_told = Decides-and _ _ (y.attr_type.value.1 (out-AttributeType b).attr_type.value)
     (flags-Decides y.is_required (out-AttributeType b).is_required) in
-    let D : Bool → Type 0 = λ answer. Decides answer (attribute_of a ≡ attribute_of b) in
-    let whole : D ((attribute_type_eq.ghosts).eq a b) =
+    let Tells : Bool → Type 0 = λ answer. Decides answer (attribute_of a ≡ attribute_of b) in
+    let whole : Tells ((attribute_type_eq.ghosts).eq a b) =
     rw (attribute_type_eq.Laws.is a b) (Decides-like _
     (λ both. attribute_of-parts a ∙ ((λ i. (both.1 i, both.0 i)) ∙ sym (attribute_of-parts b)))
     (λ e. let same = sym (attribute_of-parts a) ∙ (e ∙ attribute_of-parts b) in (ap (λ pair. pair.1) same, ap (λ pair. pair.0) same))
@@ -196,10 +196,10 @@ attributes_told : (x : layer.Attributes-F «Type» AttributeType Attributes) (y 
 attributes_told x y is b =
     let z = out-Attributes b in
     let a = roll-Attributes (attributes_parts y) in
-    let D : Bool → Type 0 = λ answer. Decides answer (fields_of a ≡ fields_of (roll-Attributes z)) in
+    let Tells : Bool → Type 0 = λ answer. Decides answer (fields_of a ≡ fields_of (roll-Attributes z)) in
     let first = fields_of-rolled (attributes_parts y) in
     let second = fields_of-rolled z in
-    let whole : D ((attributes_eq.ghosts).eq a (roll-Attributes z)) =
+    let whole : Tells ((attributes_eq.ghosts).eq a (roll-Attributes z)) =
     rw (attributes_eq.Laws.is a (roll-Attributes z)) (Decides-like _ (λ e. first ∙ (e ∙ sym second)) (λ e. sym first ∙ (e ∙ second)) (rolled-Decides y z)) in
     rw (roll-out-Attributes b, is) at whole
 

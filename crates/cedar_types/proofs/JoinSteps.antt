@@ -90,12 +90,11 @@ plain-push (first ∷ rest) one tail = ap (λ more. (string_bytes first.0, attri
 
 -- pairs whose names are sorted without duplicates are attributes that do
 ascending_at : (pairs : Pairs) → IsStrictlySortedBy text_cmp (map text_of pairs) → IsSortedByName (fields_at pairs)
-ascending_at pairs up = subst (IsStrictlySortedBy text_cmp) (sym (field_names-entries pairs)) up
+ascending_at pairs up = rw (field_names-entries pairs) up
 
 -- and the names of such attributes are sorted
 pub names_sorted : (pairs : Pairs) (fields : Fields) → fields ≡ fields_at pairs → IsSortedByName fields → AreSortedByName pairs
-names_sorted pairs fields is sorted_by_name =
-    subst (IsStrictlySortedBy text_cmp) (ap field_names is ∙ field_names-entries pairs) sorted_by_name
+names_sorted pairs fields is sorted_by_name = rw (ap field_names is ∙ field_names-entries pairs) at sorted_by_name
 
 -- there are as many names as pairs
 names_count : (pairs : Pairs) (fields : Fields) → fields ≡ fields_at pairs → length (field_names fields) ≡ length pairs
@@ -116,7 +115,7 @@ module _ (b : Attributes) (at place : ℕ) (item : String Global × AttributeTyp
   lacks_name : ¬ IsAt (pairs_of b) place (string_bytes item.0) → ¬ Contains (field_names (fields_of b)) (string_bytes item.0)
   lacks_name wrong among =
       missed text_of text_cmp text_cmp-total (pairs_of b) (out-Attributes b).attrs.value.sorted_by_name (string_bytes item.0)
-      place all_below sought.stays wrong (subst (λ names. Contains names (string_bytes item.0)) (field_names-pairs b) among)
+      place all_below sought.stays wrong (rw (field_names-pairs b) at among)
 
   -- where it is, the record has the attribute there
   has_there : (d : String Global × AttributeType) → IsAt (pairs_of b) place (string_bytes item.0)
@@ -182,9 +181,8 @@ module _ {a b : Attributes} {at place : ℕ} {item : String Global × AttributeT
       → ¬ HaveOwnBound Permissive (attribute_ty item.1) (attribute_ty (get_or (pairs_of b) place d).1) → PermissiveSoFar a b place rest joined
   permissive-refused d met none =
       permissive-drop (λ rb of has own.
-      none (subst (HaveOwnBound Permissive (attribute_ty item.1))
-      (HasField-once (fields_of b) (string_bytes item.0) rb _ of _ (IsSortedByName-fields b) has
-      (has_there b at place item rest step.so_far.ahead step.sought d (step.here.0 met))).1 own))
+      none (rw (HasField-once (fields_of b) (string_bytes item.0) rb _ of _ (IsSortedByName-fields b) has
+      (has_there b at place item rest step.so_far.ahead step.sought d (step.here.0 met))).1 at own))
 
   -- a name whose types join is kept
   pub permissive-kept : (d one : String Global × AttributeType) → found ≡ true → string_bytes one.0 ≡ string_bytes item.0
@@ -281,7 +279,7 @@ strict-first a b = record {
   unplaced = tt;
   ahead = Ahead-first text_of text_of text_cmp text_cmp-total (pairs_of b) (pairs_of a) (out-Attributes a).attrs.value.sorted_by_name;
   whole = λ tail. rw (← (fields_of-pairs a)) (λ it is. (it, is));
-  helped = λ given found. subst (λ fields. IsHelpAtName fields (fields_of b) given) (sym (fields_of-pairs a)) found;
+  helped = λ given found. rw (fields_of-pairs a) found;
 }
 
 -- at last the pairs are the join
@@ -324,8 +322,7 @@ module _ {a b : Attributes} {at place : ℕ} {item : String Global × AttributeT
     ahead = ahead_next b at place item rest step.so_far.ahead step.sought;
     whole = λ tail it is.
         let other = attribute_of (get_or (pairs_of b) place d).1 in
-        let has = subst (λ flag. HasField (fields_of b) (string_bytes item.0) flag other.1) (other_flag ∙ sym own_flag)
-        (has_there b at place item rest step.so_far.ahead step.sought d (step.here.0 met)) in
+        let has = rw (other_flag ∙ sym own_flag) at (has_there b at place item rest step.so_far.ahead step.sought d (step.here.0 met)) in
         let all = step.so_far.whole ((string_bytes one.0, attribute_of one.1) ∷ tail)
         (keep_strict (string_bytes item.0) (attribute_of item.1).0 (attribute_ty item.1) other.1 (attribute_ty one.1)
         (fields_at rest) (fields_of b) (ascending_at (item ∷ rest) step.so_far.ahead.up) it has least (attribute_formed one.1))

@@ -1,5 +1,5 @@
 -- Joins of types that aren't records: the upper of two, unions, and sets.
-use Rattle.std.proofs.Common.{◌≡◌, inl, inr, refl, sym, ap, subst, ◌∙◌, Bool, false, List, Result, Err}
+use Rattle.std.proofs.Common.{◌≡◌, inl, inr, refl, ap, ◌∙◌, false, List, Result, Err}
 use mathlib.Core.Bool.{beq}
 use Rattle.cedar_below.specs.PlainName.{PlainName}
 use Rattle.cedar_below.specs.declared.validation_mode.ValidationMode.{ValidationMode}
@@ -35,15 +35,12 @@ unions_join a b all union =
 
 -- whether what is held is below is whether the types are
 pub held_below : (mode : ValidationMode) (a b x y : «Type») → x ≡ a → y ≡ b → Below mode (ty_of x) (ty_of y) → Below mode (ty_of a) (ty_of b)
-held_below mode a b x y first second below =
-    subst (λ (it : «Type»). Below mode (ty_of it) (ty_of b)) first (subst (λ (it : «Type»). Below mode (ty_of x) (ty_of it)) second below)
+held_below mode a b x y first second below = rw (second, first) at below
 
 -- the upper of two types, or one that is the same, is their join
 pub upper_joins : (mode : ValidationMode) (a b : Ty) (it upper : «Type») → it ≡ upper → ty_of upper ≡ b → Below mode a b
     → IsLeastOwnBound mode a b (ty_of it) × IsLeastOwnBound mode b a (ty_of it)
-upper_joins mode a b it upper same is below =
-    let P : Ty → Type 0 = λ ty. IsLeastOwnBound mode a b ty × IsLeastOwnBound mode b a ty in
-    subst (λ (each : «Type»). P (ty_of each)) (sym same) (rw is (upper_is_join mode a b below))
+upper_joins mode a b it upper same is below = rw (same, is) (upper_is_join mode a b below)
 
 -- the set of the elements' join is the join of two sets
 pub sets_join : (mode : ValidationMode) (a b join : Ty) → IsLeastOwnBound mode a b join
@@ -74,10 +71,7 @@ pub sets_refused_at : {A : Type 0} (f : A → Ty) (mode : ValidationMode) (a b x
     (refusal given : JoinError) → a ≡ set_of x → b ≡ set_of y → answer ≡ Err given → given ≡ refusal
     → IsAnswerOrMemory f (IsJoinAnswer mode x y) (Err refusal) → IsAnswerOrMemory ty_of (IsJoinAnswer mode a b) answer
 sets_refused_at f mode a b x y answer refusal given first second is same right =
-    let R : Ty → Ty → Result «Type» JoinError → Type 0 = λ p q r. IsAnswerOrMemory ty_of (IsJoinAnswer mode p q) r in
-    subst (λ (r : Result «Type» JoinError). R a b r) (sym (is ∙ ap Err same))
-    (subst (λ (p : Ty). R p b (Err refusal)) (sym first)
-    (subst (λ (q : Ty). R (set_of x) q (Err refusal)) (sym second) (sets_refused f ty_of mode x y refusal right)))
+    rw (is ∙ ap Err same, first, second) (sets_refused f ty_of mode x y refusal right)
 
 -- attributes whose types join and whose flags differ have the help for that
 pub flags_refused : (a b : AttributeType) (join : Ty)
@@ -85,9 +79,5 @@ pub flags_refused : (a b : AttributeType) (join : Ty)
     → beq (out-AttributeType a).is_required (out-AttributeType b).is_required ≡ false
     → IsFlagHelp (attribute_of a) (attribute_of b) help.AttributeQualifier
 flags_refused a b join least differ =
-    let P : Bool × Ty → Bool × Ty → Type 0 = λ x y. IsFlagHelp x y help.AttributeQualifier in
-    let whole : P ((out-AttributeType a).is_required, ty_of (out-AttributeType a).attr_type.value)
-    ((out-AttributeType b).is_required, ty_of (out-AttributeType b).attr_type.value) =
-    ((join, least.0), (λ same. absurd (let e = (flags-Decides _ _).1 same in cc)), refl) in
-    subst (λ (x : Bool × Ty). P x (attribute_of b)) (sym (attribute_of-parts a))
-    (subst (P ((out-AttributeType a).is_required, ty_of (out-AttributeType a).attr_type.value)) (sym (attribute_of-parts b)) whole)
+    rw (attribute_of-parts a, attribute_of-parts b)
+    ((join, least.0), (λ same. absurd (let e = (flags-Decides _ _).1 same in cc)), refl)

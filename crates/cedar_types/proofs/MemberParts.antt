@@ -1,5 +1,5 @@
 -- What an answer of membership says of elements, of attributes and of uids.
-use Rattle.std.proofs.Common.{Bor, refl, ◌≡◌, ℕ, ◌<◌, ◌+◌, Bool, false, not, List, length, get_or, drop, Ok, Option, Some, None, ap, sym, subst, ◌∙◌}
+use Rattle.std.proofs.Common.{Bor, refl, ◌≡◌, ℕ, ◌<◌, ◌+◌, Bool, false, not, List, length, get_or, drop, Ok, Option, Some, None, ap, sym, ◌∙◌}
 use Rattle.std.specs.Option.{option_map, option_copied}
 use Rattle.std.specs.BTreeMap.{BTreeMap, get_by_text}
 use Rattle.std.specs.declared.alloc.Global.{Global}
@@ -36,12 +36,6 @@ use Rattle.cedar_types.specs.declared.types.Type.TheVariants as type
 abbrev pub IsMembershipFor : Extensions → Tree → Ty → Answer → Type 0
 IsMembershipFor extensions value ty answer =
     IsMembership answer (Has extensions value ty) (MayHave extensions value ty) (λ unknown. Meets extensions unknown value ty)
-
--- an answer is right of whether each of some values has a type
-abbrev pub IsMembershipForEach : Extensions → Trees → Ty → Answer → Type 0
-IsMembershipForEach extensions values ty answer =
-    IsMembership answer (EachTree (λ value. Has extensions value ty) values)
-    (EachTree (λ value. MayHave extensions value ty) values) (λ unknown. SomeTree (λ value. Meets extensions unknown value ty) values)
 
 -- an answer is right of whether some values by name have the types of attributes
 abbrev pub IsMembershipForFields : Extensions → Entries → Fields → Answer → Type 0
@@ -144,9 +138,7 @@ ty_of-extension name =
 -- an answer is right of what a value and a type stand for
 pub IsMembershipFor-at : (extensions : Extensions) (value tree : Tree) (of ty : Ty) (answer : Answer) → value ≡ tree
     → of ≡ ty → IsMembershipFor extensions tree ty answer → IsMembershipFor extensions value of answer
-IsMembershipFor-at extensions value tree of ty answer same_value same_type right =
-    subst (λ v. IsMembershipFor extensions v of answer) (sym same_value)
-    (subst (λ t. IsMembershipFor extensions tree t answer) (sym same_type) right)
+IsMembershipFor-at extensions value tree of ty answer same_value same_type right = rw (same_value, same_type) right
 
 -- the test of a uid decides whether it has the type of a kind
 pub IsMembershipFor-uid : (extensions : Extensions) (uid : PlainUid) (of : EntityKind) (b : Bool)

@@ -1,5 +1,5 @@
 -- Answers of membership, brought together one after another.
-use Rattle.std.proofs.Common.{◌≡◌, ◌↔◌, ◌⊎◌, inl, inr, Bool, true, false, Ok, Err, refl, sym, subst, IfErr, Option, Some, None, IsSome}
+use Rattle.std.proofs.Common.{◌≡◌, ◌↔◌, ◌⊎◌, inl, inr, Bool, true, false, Ok, Err, refl, sym, IfErr, Option, Some, None, IsSome}
 use Rattle.std.specs.Bool.{Decides}
 use Rattle.cedar_below.specs.Name.{plain_name}
 use Rattle.cedar_below.specs.PlainName.{PlainName}
@@ -120,8 +120,7 @@ IsMembership-known extensions name args ty function b known decides =
     let given : Decides b (Gives extensions name args ty) = (
       λ e. (let both = decides.0 e in (function, known, both.0, both.1)),
       λ gives. (let same : gives.0 ≡ function = (let found = gives.1 in cc) in
-          decides.1 (subst (λ (f : ExtensionFunction). (result_type f ≡ Some (core_extension ty))
-          × ArgumentsFit extensions args (argument_types f)) same (gives.2, gives.3))),
+          decides.1 (rw (← same) (gives.2, gives.3))),
     ) in
     let may : Decides b (MayGive extensions name args ty) = (
       λ e. inl (given.0 e),
@@ -144,7 +143,7 @@ IsMembership-unknown extensions name args ty answer error is same none =
     rw is (record {
       yes = (λ e. absurd cc, λ gives. absurd (let found = gives.1 in cc));
       no = (λ e. absurd cc, λ never. absurd (never (inr none)));
-      fault = (sym same, subst (IsUnknown extensions) (sym same) none);
+      fault = (sym same, rw (← same) at none);
     })
 
 -- where some value would be an error, there is none

@@ -5,7 +5,6 @@ use Rattle.cedar_below.specs.Lists.{Included}
 use Rattle.cedar_type_rules.proofs.ReduceLemmas.{reduce_any_order}
 use Rattle.cedar_type_rules.specs.Clean.{IsClean}
 use Rattle.cedar_types.specs.WellFormedTypes.{IsWellFormed-type}
-use Rattle.std.specs.Result.{result_map_both}
 use Rattle.cedar_below.specs.declared.validation_mode.ValidationMode.{ValidationMode}
 use Rattle.cedar_type_rules.proofs.JoinsOf.{answers_by, joined_reduced}
 use Rattle.cedar_type_rules.specs.JoinAnswer.{IsReduceAnswer, IsAnswerOrMemory}

@@ -1,5 +1,5 @@
 -- Steps of the walks that tell whether types are inhabited by samples, and require all attributes.
-use Rattle.std.proofs.Common.{◌≡◌, ◌↔◌, ◌∙◌, inl, inr, false, List, [], ◌∷◌, sym, ap, subst, Global, Contains, arith, Option, None, Some, Bor, IfSome, IsTrue, refl}
+use Rattle.std.proofs.Common.{◌≡◌, ◌↔◌, ◌∙◌, inl, inr, false, List, [], ◌∷◌, sym, ap, Global, Contains, arith, Option, None, Some, Bor, IfSome, IsTrue, refl}
 use Rattle.std.specs.Bool.{Decides}
 use Rattle.std.specs.Option.{is_some}
 use Rattle.std.specs.declared.string.String.{String}
@@ -26,9 +26,7 @@ TellsLeft P all rest = P (fields_from (plain_attributes rest)) ↔ P (fields_of 
 -- at first all are left
 pub left-first : (P : Fields → Type 0) (all : Attributes) (own : List (String Global × AttributeType)) → own ≡ pairs_of all
     → TellsLeft P all own
-left-first P all own is =
-    subst (TellsLeft P all) (sym is)
-    (subst (λ fields. P fields ↔ P (fields_of all)) (fields_of-pairs all) (λ holds. holds, λ holds. holds))
+left-first P all own is = rw (is, ← (fields_of-pairs all)) (λ holds. holds, λ holds. holds)
 
 module _ {Next Rest All : Type 0} (left : (Next × Rest) ↔ All) where
   -- where the fact of the next fails, that of all does

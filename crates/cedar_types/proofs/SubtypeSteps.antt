@@ -59,10 +59,10 @@ pub Sought-held : (lower : Attributes) (at place : ℕ) (held : ByName Attribute
     → ((d : String Global × AttributeType) → place < length held.entries.items → text_cmp (text_at held.entries.items place d) text ≢ Less)
     → Sought lower at place name
 Sought-held lower at place held text name is same passed stays =
-    let P : ByName AttributeType → Text → Type 0 = λ all sought.
+    let PassesTo : ByName AttributeType → Text → Type 0 = λ all sought.
     ((i : ℕ) (d : String Global × AttributeType) → at ≤ i → i < place → text_cmp (text_at all.entries.items i d) sought ≡ Less)
     × ((d : String Global × AttributeType) → place < length all.entries.items → text_cmp (text_at all.entries.items place d) sought ≢ Less) in
-    let both = subst (P (out-Attributes lower).attrs.value) same (subst (λ all. P all text) is (passed, stays)) in
+    let both = rw same at (subst (λ all. PassesTo all text) is (passed, stays)) in
     record { passed = both.0; stays = both.1 }
 
 -- a name is at a place of a list
@@ -73,9 +73,7 @@ IsAt all place name = (place < length all) × ((d : String Global × AttributeTy
 pub IsAt-held : (lower : Attributes) (place : ℕ) (held : ByName AttributeType) (text name : Text) (b : Bool)
     → held ≡ (out-Attributes lower).attrs.value → text ≡ name → Decides b (IsAt held.entries.items place text)
     → Decides b (IsAt (pairs_of lower) place name)
-IsAt-held lower place held text name b is same decides =
-    subst (λ sought. Decides b (IsAt (pairs_of lower) place sought)) same
-    (subst (λ all. Decides b (IsAt all.entries.items place text)) is decides)
+IsAt-held lower place held text name b is same decides = rw (is, same) at decides
 
 module _ (attrs : Attributes) (at place : ℕ) (name : String Global) (rest : List (String Global))
     (ahead : Ahead text_of string_bytes text_cmp (pairs_of attrs) at (name ∷ rest))
@@ -174,14 +172,11 @@ pub counts-Decides : (lower upper : Attributes) (own other : Pairs) → own ≡ 
 counts-Decides lower upper own other first second =
     let one : length own ≡ length (field_names (fields_of lower)) = ap length first ∙ length-fields lower _ refl in
     let two : length other ≡ length (field_names (fields_of upper)) = ap length second ∙ length-fields upper _ refl in
-    let D : ℕ → ℕ → Type 0 = λ m n. Decides (nat_eq (length own) (length other)) (m ≡ n) in
-    subst (λ m. D m (length (field_names (fields_of upper)))) one (subst (D (length own)) two (Decides-eqb (length own) (length other)))
+    rw (← one, ← two) (Decides-eqb (length own) (length other))
 
 -- whether an attribute of the list that a record holds is below another
 pub AttributeBelow-held : (mode : ValidationMode) (lower : Attributes) (own : Pairs) (place : ℕ) (d item : String Global × AttributeType)
     (b answer : Bool) → own ≡ pairs_of lower → answer ≡ b
     → Decides answer (AttributeBelow mode (attribute_of (get_or own place d).1) (attribute_of item.1))
     → Decides b (AttributeBelow mode (attribute_of (get_or (pairs_of lower) place d).1) (attribute_of item.1))
-AttributeBelow-held mode lower own place d item b answer same is decides =
-    subst (λ each. Decides each (AttributeBelow mode (attribute_of (get_or (pairs_of lower) place d).1) (attribute_of item.1))) is
-    (subst (λ each. Decides answer (AttributeBelow mode (attribute_of (get_or each place d).1) (attribute_of item.1))) same decides)
+AttributeBelow-held mode lower own place d item b answer same is decides = rw (same, is) at decides

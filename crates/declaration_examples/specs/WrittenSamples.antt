@@ -1,9 +1,9 @@
-use Rattle.std.specs.Prelude.{true, false, List, [], ◌∷◌, Option, Some, None, codes}
+use Rattle.std.specs.Prelude.{true, false, List, [], ◌∷◌, None, codes}
 use Rattle.cedar_below.specs.PlainName.{PlainName, action_word}
 use Rattle.cedar_below.specs.PlainUid.{PlainUid}
 use Rattle.cedar_below.specs.Text.{Text}
 use Rattle.cedar_declarations.specs.Bag.{Bag, alias_name}
-use Rattle.cedar_declarations.specs.EntityTypeKind.{EntityTypeKind, standard_kind, enumerated_kind}
+use Rattle.cedar_declarations.specs.EntityTypeKind.{EntityTypeKind, standard_kind}
 use Rattle.cedar_declarations.specs.PlainSchema.{PlainSchema, SchemaAction, SchemaEntityType, defined_action, external_action}
 use Rattle.cedar_names.specs.Declaration.{entity_type}
 use Rattle.cedar_names.specs.EntityBody.{standard}
@@ -11,7 +11,6 @@ use Rattle.cedar_names.specs.Expr.{long_expr, member, named, no_member, record_e
 use Rattle.cedar_names.specs.Reference.{reference_to}
 use Rattle.cedar_names.specs.declared.json_schema.reference_type.ReferenceType.TheVariants.{Entity}
 use Rattle.cedar_type_rules.specs.Ty.{Fields, Ty, end, field, long, record_of, union_of}
-use Rattle.cedar_type_rules.specs.declared.open_tag.OpenTag.{OpenTag}
 use Rattle.cedar_type_rules.specs.declared.open_tag.OpenTag.TheVariants.{ClosedAttributes}
 use Rattle.declaration_examples.specs.Samples.{action_here, declared_within, entity_here, refer_within, within_sample}
 

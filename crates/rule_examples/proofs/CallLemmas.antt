@@ -1,8 +1,7 @@
 -- Calls of functions whose signatures are known.
-use Rattle.std.proofs.Common.{List, [], refl}
+use Rattle.std.proofs.Common.{[], refl}
 use Rattle.cedar_below.proofs.TreeLemmas.{ArgumentsFit-no_types}
-use Rattle.cedar_below.specs.CoreTy.{CoreTy}
-use Rattle.cedar_below.specs.Fits.{ArgumentsFit, Gives}
+use Rattle.cedar_below.specs.Fits.{Gives}
 use Rattle.cedar_below.specs.PlainName.{PlainName}
 use Rattle.cedar_below.specs.Text.{Text}
 use Rattle.cedar_below.specs.Tree.{Trees, tree, text_value}

@@ -1,13 +1,10 @@
-use Rattle.std.proofs.Common.{Bool, not, ◌==◌, ◌∙◌, List, ap, sym, subst, string_bytes}
+use Rattle.std.proofs.Common.{Bool, not, ◌==◌, ◌∙◌, ap, sym, string_bytes}
 use Rattle.std.specs.Bool.{Decides}
 use Rattle.cedar_below.specs.CoreSchemaType.{core_ty_of, core_attribute_of}
 use Rattle.cedar_below.specs.CoreTy.{CoreTy}
 use Rattle.cedar_below.specs.Fits.{Fits, EntryFits}
-use Rattle.cedar_below.specs.RestrictedExpr.{tree_of, trees_of, entries_of}
-use Rattle.cedar_below.specs.Name.{plain_name}
-use Rattle.cedar_below.specs.Tree.{Tree, set_value, map_value, call_value, EachTree, entry_at}
-use Rattle.cedar_below.specs.declared.core_schema_type.CoreSchemaType.{CoreSchemaType}
-use Rattle.cedar_below.specs.declared.value.RestrictedExpr.{RestrictedExpr}
+use Rattle.cedar_below.specs.RestrictedExpr.{tree_of, entries_of}
+use Rattle.cedar_below.specs.Tree.{Tree, entry_at}
 use Rattle.cedar_below.proofs.Inclusion.{rest_alone, part_fails}
 use Rattle.cedar_below.proofs.TreeLemmas.{EntryFits-Some, EntryFits-None, not-Decides, tree_of-set, tree_of-record, tree_of-call, core_ty_of-set, core_ty_of-empty_set, core_ty_of-extension, core_ty_of-record, core_attribute_of-parts, no_tree-Decides, drop-at}
 use Rattle.cedar_below.proofs.+fits.Goals as goal
@@ -34,14 +31,12 @@ fits::fields_fit-returns-then-not-fits t c =
     let so_far = rw c.in-Some.ensures.steps at c.loop-name.invariant in
     let attribute = core_attribute_of c.in-Some.attribute.now in
     let parts = core_attribute_of-parts c.in-Some.attribute.now in
-    let P : Tree → Type 0 = λ value. Fits c.args.extensions.now value attribute.1 in
-    let R : Bool → Type 0 = λ fits. Decides fits (EntryFits P attribute.0 (entry_at (string_bytes c.in-Some.name.now) values)) in
-    let decides : R c.match-get.fits = elim c.match-get.branch [
-      | fits::fields_fit-in-Some-get w ↦ rw w.fits-is (EntryFits-Some P attribute.0 _ c.args.values.now c.get.result w.in-Some-get.value _ c.get.ensures.value
-          w.in-Some-get.is (subst (λ ty. Decides w.fits-fits.result
-          (Fits c.args.extensions.now (tree_of w.in-Some-get.value.now) ty))
-          (ap (λ (p : Bool × CoreTy). p.1) (sym parts)) w.fits-fits.ensures))
-      | fits::fields_fit-in-None-get w ↦ EntryFits-None P attribute.0 _ c.args.values.now c.get.result _
+    let FitsIt : Tree → Type 0 = λ value. Fits c.args.extensions.now value attribute.1 in
+    let Tells : Bool → Type 0 = λ fits. Decides fits (EntryFits FitsIt attribute.0 (entry_at (string_bytes c.in-Some.name.now) values)) in
+    let decides : Tells c.match-get.fits = elim c.match-get.branch [
+      | fits::fields_fit-in-Some-get w ↦ rw w.fits-is (EntryFits-Some FitsIt attribute.0 _ c.args.values.now c.get.result w.in-Some-get.value _ c.get.ensures.value
+          w.in-Some-get.is (rw (ap (λ (p : Bool × CoreTy). p.1) (sym parts)) at w.fits-fits.ensures))
+      | fits::fields_fit-in-None-get w ↦ EntryFits-None FitsIt attribute.0 _ c.args.values.now c.get.result _
           c.get.ensures.value w.in-None-get.is (not-Decides attribute.0 c.match-get.fits (w.fits-is
           ∙ ap (λ (p : Bool × CoreTy). not p.0) (sym parts)))
     ] in
@@ -54,14 +49,12 @@ fits::fields_fit-loop-name-preserved t c =
     let so_far = rw c.in-Some.ensures.steps at c.loop-name.invariant in
     let attribute = core_attribute_of c.in-Some.attribute.now in
     let parts = core_attribute_of-parts c.in-Some.attribute.now in
-    let P : Tree → Type 0 = λ value. Fits c.args.extensions.now value attribute.1 in
-    let R : Bool → Type 0 = λ fits. Decides fits (EntryFits P attribute.0 (entry_at (string_bytes c.in-Some.name.now) values)) in
-    let decides : R c.match-get.fits = elim c.match-get.branch [
-      | fits::fields_fit-in-Some-get w ↦ rw w.fits-is (EntryFits-Some P attribute.0 _ c.args.values.now c.get.result w.in-Some-get.value _ c.get.ensures.value
-          w.in-Some-get.is (subst (λ ty. Decides w.fits-fits.result
-          (Fits c.args.extensions.now (tree_of w.in-Some-get.value.now) ty))
-          (ap (λ (p : Bool × CoreTy). p.1) (sym parts)) w.fits-fits.ensures))
-      | fits::fields_fit-in-None-get w ↦ EntryFits-None P attribute.0 _ c.args.values.now c.get.result _
+    let FitsIt : Tree → Type 0 = λ value. Fits c.args.extensions.now value attribute.1 in
+    let Tells : Bool → Type 0 = λ fits. Decides fits (EntryFits FitsIt attribute.0 (entry_at (string_bytes c.in-Some.name.now) values)) in
+    let decides : Tells c.match-get.fits = elim c.match-get.branch [
+      | fits::fields_fit-in-Some-get w ↦ rw w.fits-is (EntryFits-Some FitsIt attribute.0 _ c.args.values.now c.get.result w.in-Some-get.value _ c.get.ensures.value
+          w.in-Some-get.is (rw (ap (λ (p : Bool × CoreTy). p.1) (sym parts)) at w.fits-fits.ensures))
+      | fits::fields_fit-in-None-get w ↦ EntryFits-None FitsIt attribute.0 _ c.args.values.now c.get.result _
           c.get.ensures.value w.in-None-get.is (not-Decides attribute.0 c.match-get.fits (w.fits-is
           ∙ ap (λ (p : Bool × CoreTy). not p.0) (sym parts)))
     ] in
@@ -71,52 +64,48 @@ fits::fields_fit-loop-name-preserved t c =
 pub value::RestrictedExpr::fits-returns-in-Set-EmptySet : goal.value::RestrictedExpr::fits-returns-in-Set-EmptySet
 value::RestrictedExpr::fits-returns-in-Set-EmptySet t c =
     let values = c.in-Set-EmptySet.values in
-    let P : Tree → CoreTy → Type 0 = λ value ty. Decides c.is_empty.result (Fits c.args.extensions.now value ty) in
-    subst (λ value. P value (core_ty_of c.args.ty.now)) (sym (ap tree_of c.in-Set-EmptySet.is-0 ∙ tree_of-set values))
-    (subst (P (set_value (trees_of values.items))) (sym (ap core_ty_of c.in-Set-EmptySet.is-1 ∙ core_ty_of-empty_set))
-    (rw (c.is_empty.ensures ∙ ap (λ n. n == 0) values.ok.0) (no_tree-Decides values.items)))
+    rw (
+      ap tree_of c.in-Set-EmptySet.is-0 ∙ tree_of-set values,
+      ap core_ty_of c.in-Set-EmptySet.is-1 ∙ core_ty_of-empty_set,
+      c.is_empty.ensures ∙ ap (λ n. n == 0) values.ok.0,
+    ) (no_tree-Decides values.items)
 
 -- a set fits another exactly if each of its elements fits
 pub value::RestrictedExpr::fits-returns-in-Set-Set : goal.value::RestrictedExpr::fits-returns-in-Set-Set
 value::RestrictedExpr::fits-returns-in-Set-Set t c =
     let values = c.in-Set-Set.values in
     let element = c.in-Set-Set.element_ty in
-    let P : Tree → CoreTy → Type 0 = λ value ty. Decides c.all_fit.result (Fits c.args.extensions.now value ty) in
-    let Q : List RestrictedExpr → CoreSchemaType → Type 0 = λ items ty. Decides c.all_fit.result
-    (EachTree (λ value. Fits c.args.extensions.now value (core_ty_of ty)) (trees_of items)) in
-    subst (λ value. P value (core_ty_of c.args.ty.now)) (sym (ap tree_of c.in-Set-Set.is-0 ∙ tree_of-set values))
-    (subst (P (set_value (trees_of values.items))) (sym (ap core_ty_of c.in-Set-Set.is-1 ∙ core_ty_of-set element))
-    (subst (λ items. Q items element.value) c.deref.ensures.value
-    (subst (Q c.deref.result.now) c.deref-in-Set-Set.ensures c.all_fit.ensures)))
+    rw (ap tree_of c.in-Set-Set.is-0 ∙ tree_of-set values, ap core_ty_of c.in-Set-Set.is-1 ∙ core_ty_of-set element)
+    (rw (c.deref-in-Set-Set.ensures, c.deref.ensures.value) at c.all_fit.ensures)
 
 -- where all names are listed, a record fits exactly if its entries do
 pub value::RestrictedExpr::fits-returns-then-names_listed : goal.value::RestrictedExpr::fits-returns-then-names_listed
 value::RestrictedExpr::fits-returns-then-names_listed t c =
     let values = c.in-Record-Record.values in
     let attrs = c.in-Record-Record.attrs in
-    let P : Tree → CoreTy → Type 0 = λ value ty. Decides c.fields_fit.result (Fits c.args.extensions.now value ty) in
-    subst (λ value. P value (core_ty_of c.args.ty.now)) (sym (ap tree_of c.in-Record-Record.is-0 ∙ tree_of-record values))
-    (subst (P (map_value (entries_of values))) (sym (ap core_ty_of c.in-Record-Record.is-1
-    ∙ core_ty_of-record attrs c.in-Record-Record.open_attrs))
-    (λ e. (c.names_listed.ensures.0 c.if-names_listed.true, c.fields_fit.ensures.0 e), λ both. c.fields_fit.ensures.1 both.1))
+    rw (
+      ap tree_of c.in-Record-Record.is-0 ∙ tree_of-record values,
+      ap core_ty_of c.in-Record-Record.is-1 ∙ core_ty_of-record attrs c.in-Record-Record.open_attrs,
+    )
+    (λ e. (c.names_listed.ensures.0 c.if-names_listed.true, c.fields_fit.ensures.0 e), λ both. c.fields_fit.ensures.1 both.1)
 
 -- where one isn't, it doesn't fit
 pub value::RestrictedExpr::fits-returns-else-names_listed : goal.value::RestrictedExpr::fits-returns-else-names_listed
 value::RestrictedExpr::fits-returns-else-names_listed t c =
     let values = c.in-Record-Record.values in
     let attrs = c.in-Record-Record.attrs in
-    let P : Tree → CoreTy → Type 0 = λ value ty. Decides c.names_listed.result (Fits c.args.extensions.now value ty) in
-    subst (λ value. P value (core_ty_of c.args.ty.now)) (sym (ap tree_of c.in-Record-Record.is-0 ∙ tree_of-record values))
-    (subst (P (map_value (entries_of values))) (sym (ap core_ty_of c.in-Record-Record.is-1
-    ∙ core_ty_of-record attrs c.in-Record-Record.open_attrs)) (λ e. absurd cc, λ both. c.names_listed.ensures.1 both.0))
+    rw (
+      ap tree_of c.in-Record-Record.is-0 ∙ tree_of-record values,
+      ap core_ty_of c.in-Record-Record.is-1 ∙ core_ty_of-record attrs c.in-Record-Record.open_attrs,
+    )
+    (λ e. absurd cc, λ both. c.names_listed.ensures.1 both.0)
 
 -- a call fits an extension type exactly if it returns it
 pub value::RestrictedExpr::fits-returns-in-ExtensionCall-Extension : goal.value::RestrictedExpr::fits-returns-in-ExtensionCall-Extension
 value::RestrictedExpr::fits-returns-in-ExtensionCall-Extension t c =
     let function = c.in-ExtensionCall-Extension.function in
     let args = c.in-ExtensionCall-Extension.args-0 in
-    let P : Tree → CoreTy → Type 0 = λ value ty. Decides c.returns.result (Fits c.args.extensions.now value ty) in
-    subst (λ value. P value (core_ty_of c.args.ty.now)) (sym (ap tree_of c.in-ExtensionCall-Extension.is-0 ∙ tree_of-call function args))
-    (subst (P (call_value (plain_name function) (trees_of args.items)))
-    (sym (ap core_ty_of c.in-ExtensionCall-Extension.is-1 ∙ core_ty_of-extension c.in-ExtensionCall-Extension.name))
-    c.returns.ensures)
+    rw (
+      ap tree_of c.in-ExtensionCall-Extension.is-0 ∙ tree_of-call function args,
+      ap core_ty_of c.in-ExtensionCall-Extension.is-1 ∙ core_ty_of-extension c.in-ExtensionCall-Extension.name,
+    ) c.returns.ensures

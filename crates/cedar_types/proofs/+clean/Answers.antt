@@ -1,9 +1,7 @@
-use Rattle.std.proofs.Common.{List, refl, ap, ◌∙◌, Global}
+use Rattle.std.proofs.Common.{refl, ap, ◌∙◌}
 use Rattle.std.proofs.Math.ListN.{drop_of_length-le}
-use Rattle.std.specs.declared.string.String.{String}
 use Rattle.cedar_below.proofs.TreeLemmas.{drop-at}
-use Rattle.cedar_types.proofs.CleanSteps.{IsCleanLeft, clean-first, clean-fails, clean-next}
-use Rattle.cedar_types.specs.declared.attributes.AttributeType.{AttributeType}
+use Rattle.cedar_types.proofs.CleanSteps.{clean-first, clean-fails, clean-next}
 use Rattle.cedar_types.proofs.+clean.Goals as goal
 
 pub clean::are_clean-loop-attribute-init : goal.clean::are_clean-loop-attribute-init

@@ -1,14 +1,14 @@
-use Rattle.std.proofs.Common.{◌≡◌, ◌∙◌, ◌≤◌, sym, ap, subst, true, List, length, string_bytes, Global, Bool, BTreeMap}
+use Rattle.std.proofs.Common.{◌≡◌, ◌∙◌, sym, ap, true, string_bytes, Global, Bool, BTreeMap}
 use Rattle.std.specs.Bool.{Decides}
 use Rattle.std.specs.declared.string.String.{String}
 use Rattle.cedar_below.proofs.TreeLemmas.{core_ty_of-record}
 use Rattle.cedar_below.specs.CoreSchemaType.{core_ty_of, core_fields_of, core_attribute_of}
-use Rattle.cedar_below.specs.CoreTy.{CoreTy, core_record}
+use Rattle.cedar_below.specs.CoreTy.{core_record}
 use Rattle.cedar_type_rules.specs.Consistent.{IsConsistent}
-use Rattle.cedar_type_rules.specs.Ty.{Ty, record_of}
+use Rattle.cedar_type_rules.specs.Ty.{record_of}
 use Rattle.cedar_type_rules.specs.declared.open_tag.OpenTag.TheVariants.{OpenAttributes}
 use Rattle.cedar_below.specs.declared.core_schema_type.CoreAttributeType.{CoreAttributeType}
-use Rattle.cedar_types.proofs.ConsistentSteps.{ConsistentSoFar, ConsistentStep, consistent-first, step_of, passed-fails, met-fails, met-next, alone-fails, alone-next, consistent-last, attribute_type, met_test}
+use Rattle.cedar_types.proofs.ConsistentSteps.{ConsistentStep, consistent-first, step_of, passed-fails, met-fails, met-next, alone-fails, alone-next, consistent-last, attribute_type, met_test}
 use Rattle.cedar_types.proofs.SubtypeSteps.{Sought-held, IsAt, IsAt-held}
 use Rattle.cedar_types.proofs.MemberParts.{ty_of-record}
 use Rattle.cedar_type_rules.specs.declared.open_tag.OpenTag.{OpenTag}
@@ -20,12 +20,11 @@ use Rattle.cedar_types.proofs.+consistent.Goals.{consistent::records_fit-After-m
 pub types::Type::is_consistent_with-returns-in-Record-Record :
     goal.types::Type::is_consistent_with-returns-in-Record-Record
 types::Type::is_consistent_with-returns-in-Record-Record t c =
-    let P : Ty → CoreTy → Type 0 = λ ty core. Decides c.records_fit.result (IsConsistent ty core) in
-    subst (λ ty. P ty (core_ty_of c.args.core.now))
-    (sym (ap ty_of c.in-Record-Record.is-0 ∙ ty_of-record c.in-Record-Record.attrs c.in-Record-Record.open_attributes))
-    (subst (P (record_of (fields_of c.in-Record-Record.attrs) c.in-Record-Record.open_attributes))
-    (sym (ap core_ty_of c.in-Record-Record.is-1 ∙ core_ty_of-record c.in-Record-Record.others c.in-Record-Record.open_attrs))
-    c.records_fit.ensures)
+    rw (
+      ap ty_of c.in-Record-Record.is-0 ∙ ty_of-record c.in-Record-Record.attrs c.in-Record-Record.open_attributes,
+      ap core_ty_of c.in-Record-Record.is-1 ∙ core_ty_of-record c.in-Record-Record.others c.in-Record-Record.open_attrs,
+    )
+    c.records_fit.ensures
 
 -- a record of some attributes is consistent with a core record
 abbrev AreFit : Attributes → BTreeMap (String Global) CoreAttributeType → OpenTag → Bool → Type 0
@@ -35,8 +34,7 @@ pub consistent::records_fit-loop-name-init : goal.consistent::records_fit-loop-n
 consistent::records_fit-loop-name-init t c =
     let (entries, _, _, _, _, ordered, _) = c.into_iter-name-iterator.ensures.into_iter_gives in
     let W = AreFit c.args.attrs.now c.args.core.now c.args.openness c.args.core_is_open in
-    subst (ConsistentSoFar c.as_slice-own.result.now (c.args.openness ≡ OpenAttributes) (c.args.core_is_open ≡ true) W 0) (sym entries)
-    (consistent-first c.args.attrs.now c.as_slice-own.result.now c.args.core.now.entries (c.args.openness ≡ OpenAttributes)
+    rw entries (consistent-first c.args.attrs.now c.as_slice-own.result.now c.args.core.now.entries (c.args.openness ≡ OpenAttributes)
     (c.args.core_is_open ≡ true) (c.as_slice-own.ensures ∙ ap (λ all. all.entries.items) c.deref.ensures) ordered)
 
 -- this turn's walk goes on to a place for the next attribute of the core record
@@ -60,9 +58,7 @@ step t c =
 here : (t : _) (c : consistent::records_fit-After-is_at t)
     → Decides c.is_at.result (IsAt c.as_slice-own.result.now c.seek-place.result (string_bytes c.in-Some.name.now))
 here t c =
-    subst (λ pairs. Decides c.is_at.result (IsAt pairs c.seek-place.result (string_bytes c.in-Some.name.now)))
-    (sym (c.as_slice-own.ensures ∙ ap (λ all. all.entries.items) c.deref.ensures))
-    (IsAt-held c.args.attrs.now c.seek-place.result c.deref-in-loop-name-3.result.now _ (string_bytes c.in-Some.name.now) c.is_at.result
+    rw (c.as_slice-own.ensures ∙ ap (λ all. all.entries.items) c.deref.ensures) (IsAt-held c.args.attrs.now c.seek-place.result c.deref-in-loop-name-3.result.now _ (string_bytes c.in-Some.name.now) c.is_at.result
     c.deref-in-loop-name-3.ensures c.deref-in-loop-name-4.ensures c.is_at.ensures)
 
 -- whether the types there are consistent
@@ -104,12 +100,10 @@ consistent::records_fit-returns-then-not-may_lack t c =
 pub consistent::records_fit-loop-name-preserved : goal.consistent::records_fit-loop-name-preserved
 consistent::records_fit-loop-name-preserved t c =
     let past = goal.at.consistent::records_fit-loop-name-preserved t c in
-    let inside = subst (λ held. c.loop-name.at ≤ length held.entries.items → c.seek-place.result ≤ length held.entries.items)
-    (c.deref-in-loop-name.ensures ∙ sym c.deref.ensures) c.seek-place.ensures.within in
+    let inside = rw (c.deref-in-loop-name.ensures ∙ sym c.deref.ensures) at c.seek-place.ensures.within in
     alone-next (step t past.After-may_lack_all) c.if-not-may_lack_all.false c.is_at.result (here t past.After-is_at) c.if-is_at.false
     c.may_lack.result c.may_lack.ensures
-    (subst (λ pairs. c.loop-name.at ≤ length pairs → c.seek-place.result ≤ length pairs) (sym c.as_slice-own.ensures)
-    inside c.loop-name.invariant.within)
+    ((rw (← c.as_slice-own.ensures) at inside) c.loop-name.invariant.within)
     c.if-not-may_lack.false
 
 pub consistent::records_fit-returns : goal.consistent::records_fit-returns

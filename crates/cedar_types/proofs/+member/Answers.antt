@@ -1,30 +1,23 @@
-use Rattle.std.proofs.Common.{◌≡◌, ◌≢◌, Bool, true, false, not, List, Ok, ap, sym, subst, ◌∙◌, string_bytes}
+use Rattle.std.proofs.Common.{◌≡◌, Bool, false, not, Ok, ap, sym, ◌∙◌, string_bytes}
 use Rattle.std.proofs.Math.ListN.{drop_of_length-le}
 use Rattle.std.specs.BTreeMap.{get_by_text}
 use Rattle.std.specs.Option.{option_copied}
-use Rattle.std.specs.declared.alloc.Global.{Global}
-use Rattle.std.specs.declared.cmp.Ordering.TheVariants.{Less}
-use Rattle.std.specs.declared.string.String.{String}
 use Rattle.cedar_below.proofs.TreeLemmas.{drop-at, tree_of-uid, tree_of-set, tree_of-record, tree_of-call}
 use Rattle.cedar_below.specs.EntityUID.{uid_of}
-use Rattle.cedar_below.specs.RestrictedExpr.{tree_of, trees_of, entries_of}
-use Rattle.cedar_below.specs.Text.{Text, text_cmp}
-use Rattle.cedar_below.specs.Tree.{call_value, entry_at}
-use Rattle.cedar_below.specs.Name.{plain_name}
-use Rattle.cedar_below.specs.declared.value.RestrictedExpr.{RestrictedExpr}
-use Rattle.cedar_name_map.specs.ByName.{AreSortedByName, value_at}
+use Rattle.cedar_below.specs.RestrictedExpr.{tree_of, entries_of}
+use Rattle.cedar_below.specs.Tree.{entry_at}
+use Rattle.cedar_name_map.specs.ByName.{value_at}
 use Rattle.cedar_types.specs.MembershipAnswer.{Answer}
 use Rattle.cedar_types.specs.EntriesLeft.{entries_left}
 use Rattle.cedar_types.specs.Attributes.{plain_attributes}
 use Rattle.cedar_types.specs.Meaning.{ty_of, fields_of, attribute_of}
-use Rattle.cedar_type_rules.specs.Ty.{Ty, extension_of, Fields, fields_from}
+use Rattle.cedar_type_rules.specs.Ty.{Ty, fields_from}
 use Rattle.cedar_types.specs.declared.attributes.Attributes.{out-Attributes}
-use Rattle.cedar_types.specs.declared.attributes.AttributeType.{AttributeType}
 use Rattle.cedar_types.specs.declared.types.Type.TheVariants as type
-use Rattle.cedar_types.proofs.EntriesLeftSteps.{Serves, Serves-first, Serves-next}
+use Rattle.cedar_types.proofs.EntriesLeftSteps.{Serves-first, Serves-next}
 use Rattle.cedar_types.proofs.MembershipLemmas.{IsMembershipSoFar-none, IsMembershipSoFar-all, IsMembershipSoFar-stops}
 use Rattle.cedar_types.specs.Layers.{fields_of-pairs}
-use Rattle.cedar_types.proofs.MemberParts.{IsMembershipFor, IsMembershipForEach, IsMembershipFor-at, IsMembershipFor-uid, IsMembershipFor-listed, IsMembershipFor-unlisted, IsMembershipForEntry, IsMembershipForEntry-Some, IsMembershipForEntry-None, ElementsSoFar, ElementsSoFar-more, FieldsSoFar, FieldsSoFar-more, attribute_of-parts, ty_of-set, ty_of-record, ty_of-entity, ty_of-extension}
+use Rattle.cedar_types.proofs.MemberParts.{IsMembershipFor, IsMembershipFor-at, IsMembershipFor-uid, IsMembershipFor-listed, IsMembershipFor-unlisted, IsMembershipForEntry, IsMembershipForEntry-Some, IsMembershipForEntry-None, ElementsSoFar-more, FieldsSoFar-more, attribute_of-parts, ty_of-set, ty_of-record, ty_of-entity, ty_of-extension}
 use Rattle.cedar_types.proofs.+member.Goals as goal
 use Rattle.cedar_types.proofs.+member.Goals.{member::fields_have-in-Some, member::fields_have-in-None}
 
@@ -63,7 +56,7 @@ member::fields_have-loop-name-init t c =
     let items = sym (c.as_slice-name-items.ensures ∙ ap (λ all. all.entries.items) c.deref.ensures) in (
       rw (← (fields_of-pairs attrs ∙ ap (λ entries. fields_from (plain_attributes entries)) items)) (IsMembershipSoFar-none _ _ _),
       Serves-first c.args.values.now.entries (entries_left c.new-left.result) c.as_slice-name-items.result.now c.new-left.ensures.all
-          c.new-left.ensures.ascend (subst AreSortedByName items (out-Attributes attrs).attrs.value.sorted_by_name),
+          c.new-left.ensures.ascend (rw items at (out-Attributes attrs).attrs.value.sorted_by_name),
     )
 
 -- the answer for the next attribute joins those before, and its entry is passed
@@ -79,12 +72,12 @@ member::fields_have-loop-name-preserved t c =
     let before = rw (drop-at _ c.loop-name.name-index item c.loop-name-test.true c.loop-name-item.is) at c.loop-name.invariant in
     let found : option_copied c.value_at.result ≡ get_by_text values name =
     c.value_at.ensures.value ∙ (ap (λ text. value_at text left) c.deref-in-loop-name.ensures ∙ before.1.finds.0) in
-    let Q : Answer → Type 0 = IsMembershipForEntry extensions (entry_at name (entries_of values)) attribute in
-    let right : Q c.match-value_at.answer = elim c.match-value_at.branch [
+    let IsAnswer : Answer → Type 0 = IsMembershipForEntry extensions (entry_at name (entries_of values)) attribute in
+    let right : IsAnswer c.match-value_at.answer = elim c.match-value_at.branch [
       | member::fields_have-in-Some w ↦ (
           let call = w.typecheck_restricted_expr-answer in
-          let R : Ty → Type 0 = λ ty. IsMembershipFor extensions (tree_of w.in-Some.value.now) ty call.result in
-          let right : R (ty_of w.deref-in-Some.result.now) = record {
+          let IsAnswerFor : Ty → Type 0 = λ ty. IsMembershipFor extensions (tree_of w.in-Some.value.now) ty call.result in
+          let right : IsAnswerFor (ty_of w.deref-in-Some.result.now) = record {
             yes = call.ensures.has;
             no = call.ensures.lacks;
             fault = call.ensures.fault;
@@ -118,12 +111,12 @@ member::fields_have-returns-in-Ok-false t c =
     let before = rw (drop-at _ c.loop-name.name-index item c.loop-name-test.true c.loop-name-item.is) at c.loop-name.invariant in
     let found : option_copied c.value_at.result ≡ get_by_text values name =
     c.value_at.ensures.value ∙ (ap (λ text. value_at text left) c.deref-in-loop-name.ensures ∙ before.1.finds.0) in
-    let Q : Answer → Type 0 = IsMembershipForEntry extensions (entry_at name (entries_of values)) attribute in
-    let right : Q c.match-value_at.answer = elim c.match-value_at.branch [
+    let IsAnswer : Answer → Type 0 = IsMembershipForEntry extensions (entry_at name (entries_of values)) attribute in
+    let right : IsAnswer c.match-value_at.answer = elim c.match-value_at.branch [
       | member::fields_have-in-Some w ↦ (
           let call = w.typecheck_restricted_expr-answer in
-          let R : Ty → Type 0 = λ ty. IsMembershipFor extensions (tree_of w.in-Some.value.now) ty call.result in
-          let right : R (ty_of w.deref-in-Some.result.now) = record {
+          let IsAnswerFor : Ty → Type 0 = λ ty. IsMembershipFor extensions (tree_of w.in-Some.value.now) ty call.result in
+          let right : IsAnswerFor (ty_of w.deref-in-Some.result.now) = record {
             yes = call.ensures.has;
             no = call.ensures.lacks;
             fault = call.ensures.fault;
@@ -163,13 +156,10 @@ pub types::Type::typecheck_restricted_expr-returns-in-Some : goal.types::Type::t
 types::Type::typecheck_restricted_expr-returns-in-Some t c =
     let values = c.in-Set-Set.values in
     let element = c.in-Some.element in
-    let P : List RestrictedExpr → Ty → Type 0 = λ items ty. IsMembershipForEach c.args.extensions.now
-    (trees_of items) ty c.elements_have.result in
     let right : IsMembershipFor c.args.extensions.now (tree_of c.args.expr.now)
     (ty_of c.args.self.now) c.elements_have.result = IsMembershipFor-at _ _ _ _ _ _ (ap tree_of c.in-Set-Set.is-1
     ∙ tree_of-set values) (ap ty_of (c.in-Set-Set.is-0 ∙ ap type.Set c.in-Some.is) ∙ ty_of-set element)
-    (subst (P values.items) (ap ty_of c.deref-in-Some.ensures)
-    (subst (λ items. P items (ty_of c.deref-in-Some.result.now)) c.deref.ensures.value c.elements_have.ensures)) in
+    (rw (c.deref.ensures.value, ap ty_of c.deref-in-Some.ensures) at c.elements_have.ensures) in
     record { has = right.yes; lacks = right.no; fault = right.fault }
 
 -- the entries of a record are of its attributes, where only those are listed

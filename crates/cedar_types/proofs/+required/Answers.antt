@@ -1,10 +1,8 @@
-use Rattle.std.proofs.Common.{List, refl, subst, sym, ap, ◌∙◌, Global}
+use Rattle.std.proofs.Common.{refl, ap, ◌∙◌}
 use Rattle.std.proofs.Math.ListN.{drop_of_length-le}
-use Rattle.std.specs.declared.string.String.{String}
 use Rattle.cedar_below.proofs.TreeLemmas.{drop-at}
-use Rattle.cedar_type_rules.specs.Stated.{FieldsRequireAll, RequiresAll}
-use Rattle.cedar_types.proofs.StatedSteps.{TellsLeft, flag_same, left-fails, left-first, left-next, required_left, type_same}
-use Rattle.cedar_types.specs.declared.attributes.AttributeType.{AttributeType}
+use Rattle.cedar_type_rules.specs.Stated.{FieldsRequireAll}
+use Rattle.cedar_types.proofs.StatedSteps.{flag_same, left-fails, left-first, left-next, required_left, type_same}
 use Rattle.cedar_types.proofs.+required.Goals as goal
 
 -- at first all attributes are left
@@ -29,8 +27,8 @@ stated::require_all-returns-then-not-requires_all t c =
     let left = required_left c.args.attrs.now c.loop-attribute-item.result _ (rw (drop-at _ c.loop-attribute.attribute-index
     c.loop-attribute-item.result c.loop-attribute-test.true c.loop-attribute-item.is) at c.loop-attribute.invariant) in
     left-fails (left-next left (flag_same c.loop-attribute-item.result.1 ∙ c.if-not-attribute.false))
-    (λ all. let there = c.requires_all.ensures.1 (subst RequiresAll (sym (type_same c.loop-attribute-item.result.1
-    c.deref-in-loop-attribute.result.now c.deref-in-loop-attribute.ensures)) all) in
+    (λ all. let there = c.requires_all.ensures.1 (rw (type_same c.loop-attribute-item.result.1
+    c.deref-in-loop-attribute.result.now c.deref-in-loop-attribute.ensures) all) in
     let none = c.if-not-requires_all.true in absurd cc)
 
 -- past one that requires all the rest decides
@@ -39,8 +37,7 @@ stated::require_all-loop-attribute-preserved t c =
     let left = required_left c.args.attrs.now c.loop-attribute-item.result _ (rw (drop-at _ c.loop-attribute.attribute-index
     c.loop-attribute-item.result c.loop-attribute-test.true c.loop-attribute-item.is) at c.loop-attribute.invariant) in
     left-next (left-next left (flag_same c.loop-attribute-item.result.1 ∙ c.if-not-attribute.false))
-    (subst RequiresAll (type_same c.loop-attribute-item.result.1 c.deref-in-loop-attribute.result.now c.deref-in-loop-attribute.ensures)
-    (c.requires_all.ensures.0 c.if-not-requires_all.false))
+    (rw (type_same c.loop-attribute-item.result.1 c.deref-in-loop-attribute.result.now c.deref-in-loop-attribute.ensures) at (c.requires_all.ensures.0 c.if-not-requires_all.false))
 
 -- where none is left, all are required
 pub stated::require_all-returns : goal.stated::require_all-returns

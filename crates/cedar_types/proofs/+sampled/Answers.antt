@@ -1,17 +1,15 @@
-use Rattle.std.proofs.Common.{◌≡◌, Bool, List, refl, subst, sym, ap, ◌∙◌, Global}
+use Rattle.std.proofs.Common.{◌≡◌, refl, ap, ◌∙◌}
 use Rattle.std.proofs.Math.ListN.{drop_of_length-le}
-use Rattle.std.specs.declared.string.String.{String}
 use Rattle.std.specs.Bool.{Decides}
 use Rattle.std.specs.Option.{is_some}
 use Rattle.cedar_below.proofs.TreeLemmas.{drop-at}
 use Rattle.cedar_below.specs.Name.{plain_name}
-use Rattle.cedar_type_rules.specs.Stated.{AreInhabitedWith, IsInhabitedWith, IsSampled}
+use Rattle.cedar_type_rules.specs.Stated.{AreInhabitedWith, IsInhabitedWith}
 use Rattle.cedar_type_rules.specs.Ty.{Ty, extension_of}
 use Rattle.cedar_types.proofs.MemberParts.{ty_of-extension}
-use Rattle.cedar_types.proofs.StatedSteps.{TellsLeft, left-fails, left-first, left-next, sampled-Decides, type_same}
+use Rattle.cedar_types.proofs.StatedSteps.{left-fails, left-first, left-next, sampled-Decides, type_same}
 use Rattle.cedar_types.specs.Meaning.{ty_of}
 use Rattle.cedar_types.specs.Samples.{value_trees}
-use Rattle.cedar_types.specs.declared.attributes.AttributeType.{AttributeType}
 use Rattle.cedar_types.proofs.+sampled.Goals as goal
 
 -- at first all attributes are left
@@ -28,8 +26,8 @@ stated::are_sampled-returns-then-not-is_inhabited_with t c =
     let left = rw (drop-at _ c.loop-attribute.attribute-index c.loop-attribute-item.result c.loop-attribute-test.true
     c.loop-attribute-item.is) at c.loop-attribute.invariant in
     left-fails left
-    (λ lives. let there = c.is_inhabited_with.ensures.1 (subst Lives (sym (type_same c.loop-attribute-item.result.1
-    c.deref-in-loop-attribute.result.now c.deref-in-loop-attribute.ensures)) lives) in
+    (λ lives. let there = c.is_inhabited_with.ensures.1 (rw (type_same c.loop-attribute-item.result.1
+    c.deref-in-loop-attribute.result.now c.deref-in-loop-attribute.ensures) lives) in
     let none = c.if-not-is_inhabited_with.true in absurd cc)
 
 -- past one that has a sample the rest decides
@@ -39,8 +37,7 @@ stated::are_sampled-loop-attribute-preserved t c =
     let left = rw (drop-at _ c.loop-attribute.attribute-index c.loop-attribute-item.result c.loop-attribute-test.true
     c.loop-attribute-item.is) at c.loop-attribute.invariant in
     left-next left
-    (subst Lives (type_same c.loop-attribute-item.result.1 c.deref-in-loop-attribute.result.now c.deref-in-loop-attribute.ensures)
-    (c.is_inhabited_with.ensures.0 c.if-not-is_inhabited_with.false))
+    (rw (type_same c.loop-attribute-item.result.1 c.deref-in-loop-attribute.result.now c.deref-in-loop-attribute.ensures) at (c.is_inhabited_with.ensures.0 c.if-not-is_inhabited_with.false))
 
 -- an extension type has a sample exactly if one of the samples is of it
 pub types::Type::is_inhabited_with-returns-in-ExtensionType :

@@ -1,17 +1,13 @@
-use Rattle.std.proofs.Common.{ap, sym, subst, ◌∙◌, string_bytes, List}
-use Rattle.std.specs.declared.alloc.Global.{Global}
-use Rattle.std.specs.declared.string.String.{String}
+use Rattle.std.proofs.Common.{ap, ◌∙◌, string_bytes}
 use Rattle.cedar_below.proofs.TreeLemmas.{drop-at}
-use Rattle.cedar_types.proofs.SubtypeSteps.{WalkedBelow, WalkedBelow-first, WalkedBelow-missed, WalkedBelow-fails, WalkedBelow-next, Sought-held, IsAt-held, AttributeBelow-held}
-use Rattle.cedar_types.specs.declared.attributes.AttributeType.{AttributeType}
+use Rattle.cedar_types.proofs.SubtypeSteps.{WalkedBelow-first, WalkedBelow-missed, WalkedBelow-fails, WalkedBelow-next, Sought-held, IsAt-held, AttributeBelow-held}
 use Rattle.cedar_types.proofs.+subtype.Goals as goal
 
 -- at first all attributes of the upper record are left
 pub subtype::fields_fit-loop-name-init : goal.subtype::fields_fit-loop-name-init
 subtype::fields_fit-loop-name-init t c =
     let same = c.as_slice-name-items.ensures ∙ ap (λ all. all.entries.items) c.deref-2.ensures in
-    subst (λ rest. WalkedBelow c.args.mode c.args.lower.now c.args.upper.now 0 rest) (sym same)
-    (WalkedBelow-first c.args.mode c.args.lower.now c.args.upper.now)
+    rw same (WalkedBelow-first c.args.mode c.args.lower.now c.args.upper.now)
 
 -- an attribute that the lower record lacks fails
 pub subtype::fields_fit-returns-then-not-is_at : goal.subtype::fields_fit-returns-then-not-is_at

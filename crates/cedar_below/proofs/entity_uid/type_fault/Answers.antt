@@ -1,6 +1,4 @@
-use Rattle.std.proofs.Common.{sym, subst}
 use Rattle.cedar_below.specs.InternalName.{name_of}
-use Rattle.cedar_below.specs.UidReading.{IsTypeFault}
 use Rattle.cedar_below.proofs.TextsOfNames.{IsOfIdentifiers-name_of}
 use Rattle.cedar_below.proofs.UidReading.{beginning_of_name, type_fault_by_name}
 use Rattle.cedar_below.proofs.entity_uid.type_fault.Goals as goal
@@ -8,7 +6,7 @@ use Rattle.cedar_below.proofs.entity_uid.type_fault.Goals.{in-Err, in-Ok}
 
 pub returns : goal.returns
 returns c = elim c.match-from_str.branch [
-  | in-Err w ↦ subst (IsTypeFault c.args.before.now) (sym w.result-is) (type_fault_by_name c.args.before.now w.in-Err.fault w.in-Err.ensures.fault)
-  | in-Ok w ↦ subst (IsTypeFault c.args.before.now) (sym w.result-is) (beginning_of_name c.args.before.now c.utf8.before
+  | in-Err w ↦ rw w.result-is (type_fault_by_name c.args.before.now w.in-Err.fault w.in-Err.ensures.fault)
+  | in-Ok w ↦ rw w.result-is (beginning_of_name c.args.before.now c.utf8.before
       (name_of w.in-Ok.field-0, IsOfIdentifiers-name_of w.in-Ok.field-0, w.in-Ok.ensures.name))
 ]

@@ -1,11 +1,10 @@
-use Rattle.std.proofs.Common.{rules, ◌≡◌, ◌+◌, Some, chars, map-id, string_bytes, sym, ap, ◌∙◌, subst}
+use Rattle.std.proofs.Common.{rules, ◌≡◌, ◌+◌, Some, chars, map-id, string_bytes, sym, ap, ◌∙◌}
 use Rattle.std.proofs.lemmas.Iterator.{YieldsList-from_chars}
 use Rattle.std.proofs.lemmas.Iterator.Consumers.{YieldsList-end, YieldsList-so_far, YieldsList-turn}
 use Rattle.std.proofs.lemmas.Str.{IsUtf8-string_bytes}
 use Rattle.std.specs.Char.{len_utf8}
 use Rattle.cedar_below.specs.Escapes.{escape_then}
-use Rattle.cedar_below.specs.declared.escape.Escape.TheVariants.{Closed}
-use Rattle.cedar_below.proofs.EscapeReading.{HasReadId, HasReadId-like, HasReadId-more, HasReadId-whole, characters_by, closed_id, counted_within, stops_at_char, stops_at_id_end}
+use Rattle.cedar_below.proofs.EscapeReading.{HasReadId-like, HasReadId-more, HasReadId-whole, characters_by, closed_id, counted_within, stops_at_char, stops_at_id_end}
 use Rattle.cedar_below.proofs.escape.read_id.Goals as goal
 use Rattle.cedar_below.proofs.escape.read_id.Goals.{in-Some-whole+in_ok-push, in_default}
 
@@ -51,8 +50,7 @@ returns-in-Closed-clause-id c =
     let end = YieldsList-end road c.loop-c.yielded _ c.loop-c.yielded_by _ _ c.in-None.is c.next.ensures.steps in
     let all : c.loop-c.yielded ≡ chars c.args.text.now = sym (map-id c.loop-c.yielded) ∙ end.0 in
     closed_id c.args.text.now (string_bytes c.loop-c.id) c.loop-c.at c.utf8.text (IsUtf8-string_bytes c.loop-c.id)
-    (subst (HasReadId Closed (string_bytes c.loop-c.id) c.loop-c.at) all
-    (subst (λ escape. HasReadId escape (string_bytes c.loop-c.id) c.loop-c.at c.loop-c.yielded) c.in-Closed.is c.loop-c.invariant))
+    (rw (c.in-Closed.is, all) at c.loop-c.invariant)
 
 -- one that ends before it stops at its end
 pub returns-in_default-escape : goal.returns-in_default-escape
@@ -63,5 +61,5 @@ returns-in_default-escape c =
     record {
       id = tt;
       fault = stops_at_id_end c.args.text.now c.loop-c.escape (string_bytes c.loop-c.id) c.loop-c.at c.utf8.text (IsUtf8-string_bytes c.loop-c.id)
-          (subst (HasReadId c.loop-c.escape (string_bytes c.loop-c.id) c.loop-c.at) all c.loop-c.invariant) c.in_default-escape.not-Closed;
+          (rw all at c.loop-c.invariant) c.in_default-escape.not-Closed;
     }

@@ -1,4 +1,4 @@
-use Rattle.std.proofs.Common.{◌≢◌, map, refl, subst, AllPairs}
+use Rattle.std.proofs.Common.{refl}
 use Rattle.std.proofs.lemmas.List.{take_all}
 use Rattle.cedar_below.specs.Name.{plain_name}
 use Rattle.cedar_below.proofs.Lists.{repeated, distinct_more}
@@ -18,7 +18,6 @@ loop-i-preserved c =
 
 pub returns : goal.returns
 returns c = (
-  λ _. subst (λ names. AllPairs (λ a b. a ≢ b) (map plain_name names))
-      (take_all c.loop-i.i c.args.names.now c.loop-i-test.false) c.loop-i.invariant,
+  λ _. rw (take_all c.loop-i.i c.args.names.now c.loop-i-test.false) at c.loop-i.invariant,
   λ _. refl,
 )

@@ -1,10 +1,9 @@
-use Rattle.std.proofs.Common.{◌≡◌, ◌≤◌, List, ap, ◌∙◌, map, length, arith}
+use Rattle.std.proofs.Common.{◌≡◌, ◌≤◌, ap, ◌∙◌, length, arith}
 use Rattle.std.proofs.lemmas.Grind.{common_steps}
 use Rattle.cedar_below.specs.EntityType.{type_name}
 use Rattle.cedar_below.specs.PlainName.{PlainName}
-use Rattle.cedar_below.specs.declared.entity_type.EntityType.{EntityType}
 use Rattle.cedar_types.specs.EntityLUB.{lub_names}
-use Rattle.cedar_counterexample.proofs.FreshLemmas.{LongestSoFar, longest_next}
+use Rattle.cedar_counterexample.proofs.FreshLemmas.{longest_next}
 use Rattle.cedar_counterexample.proofs.fresh.longest_base.Goals as goal
 
 pub loop-ty-preserved : goal.loop-ty-preserved

@@ -1,13 +1,11 @@
-use Rattle.std.proofs.Common.{None, Option, Some, refl}
-use Rattle.std.specs.Option.{option_map}
+use Rattle.std.proofs.Common.{refl}
 use Rattle.cedar_type_rules.proofs.StatedLemmas.{IsInhabited-with}
 use Rattle.cedar_type_rules.proofs.ValueInclusion.{inclusion_by_parts}
 use Rattle.cedar_type_rules.specs.Ty.{record_of}
 use Rattle.cedar_type_rules.specs.WellFormed.{IsWellFormed}
 use Rattle.cedar_type_rules.specs.declared.open_tag.OpenTag.{OpenTag}
 use Rattle.cedar_counterexample.proofs.TypeCounterexamples.{separated_outside}
-use Rattle.cedar_counterexample.specs.Counterexample.{IsOutsideAnswer, record_found}
-use Rattle.cedar_counterexample.specs.declared.found.Start.{Start}
+use Rattle.cedar_counterexample.specs.Counterexample.{record_found}
 use Rattle.cedar_types.specs.Layers.{IsSortedByName-fields}
 use Rattle.cedar_types.specs.Meaning.{fields_of}
 use Rattle.cedar_types.specs.Samples.{value_trees}

@@ -1,9 +1,6 @@
-use Rattle.std.proofs.Common.{None, Option, refl}
-use Rattle.std.specs.Option.{option_map}
+use Rattle.std.proofs.Common.{refl}
 use Rattle.cedar_type_rules.proofs.StatedLemmas.{IsInhabited-with}
 use Rattle.cedar_type_rules.proofs.ValueInclusion.{inclusion_by_parts}
-use Rattle.cedar_counterexample.specs.Counterexample.{IsOutsideAnswer, found_of}
-use Rattle.cedar_counterexample.specs.declared.found.Found.{Found}
 use Rattle.cedar_types.specs.Meaning.{ty_of}
 use Rattle.cedar_types.specs.Samples.{value_trees}
 use Rattle.cedar_types.specs.WellFormedTypes.{IsWellFormed-type}

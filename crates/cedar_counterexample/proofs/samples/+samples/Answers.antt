@@ -1,25 +1,19 @@
-use Rattle.std.proofs.Common.{◌≡◌, ◌<◌, true, false, List, None, Some, ap, arith, inl, refl, string_bytes, subst, sym, ◌∙◌, Global}
+use Rattle.std.proofs.Common.{◌≡◌, true, false, Some, ap, arith, inl, refl, string_bytes, subst, sym, ◌∙◌}
 use Rattle.std.proofs.lemmas.Result.{IfOk-weaker}
-use Rattle.std.specs.declared.string.String.{String}
 use Rattle.cedar_below.proofs.TreeLemmas.{tree_of-record}
 use Rattle.cedar_below.specs.RestrictedExpr.{entries_of, tree_of}
-use Rattle.cedar_below.specs.Text.{Text}
-use Rattle.cedar_below.specs.Tree.{Tree, entry_at, map_value}
+use Rattle.cedar_below.specs.Tree.{Tree, entry_at}
 use Rattle.cedar_type_rules.specs.Stated.{IsInhabitedWith}
-use Rattle.cedar_type_rules.specs.Ty.{Ty, fields_from}
 use Rattle.cedar_below.proofs.ValueCopies.{no_entries}
-use Rattle.cedar_counterexample.proofs.FillingLemmas.{FillingSoFar, filling_put, filling_there, missing_entry, present_entry, record_sample}
+use Rattle.cedar_counterexample.proofs.FillingLemmas.{filling_put, filling_there, missing_entry, present_entry, record_sample}
 use Rattle.cedar_counterexample.proofs.StartLemmas.{AreInhabitedWith-of}
-use Rattle.cedar_counterexample.proofs.Sizes.{attribute_smaller, fields_size, ty_size}
-use Rattle.cedar_counterexample.specs.Filling.{IsPut}
+use Rattle.cedar_counterexample.proofs.Sizes.{attribute_smaller}
 use Rattle.cedar_counterexample.specs.Counterexample.{IsValueOf}
 use Rattle.cedar_types.proofs.MemberParts.{ty_of-entity, ty_of-record}
 use Rattle.cedar_types.proofs.StatedSteps.{flag_same, type_same}
-use Rattle.cedar_types.specs.Attributes.{plain_attributes}
 use Rattle.cedar_types.specs.Layers.{IsSortedByName-fields}
 use Rattle.cedar_types.specs.Meaning.{attribute_of, fields_of, ty_of}
 use Rattle.cedar_types.specs.Samples.{value_trees}
-use Rattle.cedar_types.specs.declared.attributes.AttributeType.{AttributeType}
 use Rattle.cedar_counterexample.proofs.samples.+samples.Goals as goal
 use Rattle.cedar_counterexample.proofs.samples.+samples.Goals.{fill-else-attribute-via-then-attribute+else-not-contains_key, fill-else-attribute-via-else-attribute}
 

@@ -1,4 +1,4 @@
-use Rattle.std.proofs.Common.{◌≡◌, ◌∷◌, [], List, ap, inl, map, refl, subst, sym, ◌∙◌, Contains}
+use Rattle.std.proofs.Common.{◌≡◌, ◌∷◌, [], ap, inl, map, refl, subst, sym, ◌∙◌, Contains}
 use Rattle.std.specs.Slice.Iter.{iter_rest}
 use Rattle.cedar_below.proofs.Lists.{Contains-cons}
 use Rattle.cedar_below.specs.EntityType.{type_name}

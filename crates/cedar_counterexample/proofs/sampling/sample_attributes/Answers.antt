@@ -1,4 +1,3 @@
-use Rattle.std.proofs.Common.{sym}
 use Rattle.std.proofs.lemmas.Result.{IfOk-weaker}
 use Rattle.cedar_below.proofs.ValueCopies.{no_entries}
 use Rattle.cedar_below.specs.RestrictedExpr.{entries_of}

@@ -1,34 +1,24 @@
-use Rattle.std.proofs.Common.{◌≡◌, ◌<◌, ◌+◌, true, false, Contains, List, None, Option, Some, ap, arith, inl, refl, string_bytes, subst, sym, ◌∙◌, Global}
+use Rattle.std.proofs.Common.{◌≡◌, ◌<◌, ◌+◌, true, false, Contains, ap, arith, inl, refl, string_bytes, subst, sym, ◌∙◌}
 use Rattle.std.proofs.lemmas.Bool.{false≢true}
 use Rattle.std.proofs.lemmas.Result.{IfOk-weaker}
 use Rattle.std.proofs.lemmas.Str.{IsUtf8-string_bytes}
 use Rattle.std.specs.Option.{is_some, option_map}
-use Rattle.std.specs.declared.string.String.{String}
 use Rattle.cedar_below.proofs.TreeLemmas.{tree_of-record}
 use Rattle.cedar_below.specs.RestrictedExpr.{entries_of}
-use Rattle.cedar_below.specs.Text.{Text}
-use Rattle.cedar_below.specs.Tree.{Tree}
 use Rattle.cedar_type_rules.proofs.AgreeLaws.{HasField-once}
 use Rattle.cedar_type_rules.proofs.InclusionLemmas.{found-Decides}
 use Rattle.cedar_type_rules.proofs.SubtypeLemmas.{HasField-found}
-use Rattle.cedar_type_rules.specs.Below.{HasField}
 use Rattle.cedar_type_rules.specs.Fields.{field_names}
-use Rattle.cedar_type_rules.specs.IncludedByParts.{IncludedByParts}
 use Rattle.cedar_type_rules.specs.Stated.{IsInhabitedWith}
-use Rattle.cedar_type_rules.specs.Ty.{Ty, fields_from, record_of}
-use Rattle.cedar_type_rules.specs.declared.open_tag.OpenTag.{OpenTag}
+use Rattle.cedar_type_rules.specs.Ty.{record_of}
 use Rattle.cedar_counterexample.proofs.Sizes.{attribute_smaller, ty_size}
-use Rattle.cedar_counterexample.proofs.StartLemmas.{AreInhabitedWith-of, CounterexampleSoFar, attribute_start, missing_start, separating_next, start_separates}
-use Rattle.cedar_counterexample.specs.Filling.{IsAttributeStart, IsFieldStart, IsRecordStart, IsStart}
-use Rattle.cedar_counterexample.specs.Counterexample.{IsCounterexample, IsOutsideAnswer, PlainStart, found_of, record_found, start_of}
-use Rattle.cedar_counterexample.specs.declared.found.Found.{Found}
-use Rattle.cedar_counterexample.specs.declared.found.Start.{Start}
+use Rattle.cedar_counterexample.proofs.StartLemmas.{AreInhabitedWith-of, attribute_start, missing_start, separating_next, start_separates}
+use Rattle.cedar_counterexample.specs.Filling.{IsFieldStart, IsRecordStart}
+use Rattle.cedar_counterexample.specs.Counterexample.{found_of, start_of}
 use Rattle.cedar_types.proofs.StatedSteps.{flag_same, type_same}
-use Rattle.cedar_types.specs.Attributes.{plain_attributes}
 use Rattle.cedar_types.specs.Layers.{IsSortedByName-fields}
 use Rattle.cedar_types.specs.Meaning.{attribute_of, fields_of, ty_of}
 use Rattle.cedar_types.specs.Samples.{value_trees}
-use Rattle.cedar_types.specs.declared.attributes.AttributeType.{AttributeType}
 use Rattle.cedar_counterexample.proofs.separating.+separating.Goals as goal
 use Rattle.cedar_counterexample.proofs.separating.+separating.Goals.{separating_field-else-attribute-via-then-attribute+else-not-own, separating_field-else-attribute-via-else-attribute}
 

@@ -1,4 +1,4 @@
-use Rattle.std.proofs.Common.{◌≡◌, List, [], None, ap, inl, map, refl, reverse, string_bytes, subst, sym, true, ◌∙◌, Contains, Global}
+use Rattle.std.proofs.Common.{◌≡◌, List, [], ap, inl, map, refl, reverse, string_bytes, subst, sym, true, ◌∙◌, Contains, Global}
 use Rattle.std.proofs.lemmas.Bool.{false≢true}
 use Rattle.std.proofs.lemmas.Str.{IsUtf8-string_bytes}
 use Rattle.std.specs.declared.string.String.{String}
@@ -8,13 +8,10 @@ use Rattle.cedar_type_rules.proofs.InclusionLemmas.{found-Decides}
 use Rattle.cedar_type_rules.specs.Fields.{field_names}
 use Rattle.cedar_type_rules.specs.Stated.{IsInhabitedWith}
 use Rattle.cedar_type_rules.specs.Ty.{fields_from}
-use Rattle.cedar_type_rules.specs.declared.open_tag.OpenTag.{OpenTag}
-use Rattle.cedar_type_rules.specs.declared.open_tag.OpenTag.TheVariants.{ClosedAttributes, OpenAttributes}
 use Rattle.cedar_below.proofs.ValueCopies.{tree_of-truth}
-use Rattle.cedar_counterexample.proofs.StartLemmas.{AreInhabitedWith-of, NamesSoFar, further_start, names_all, names_next, open_start}
-use Rattle.cedar_counterexample.specs.Counterexample.{IsValueOf, PlainStart, start_of}
+use Rattle.cedar_counterexample.proofs.StartLemmas.{AreInhabitedWith-of, further_start, names_all, names_next, open_start}
+use Rattle.cedar_counterexample.specs.Counterexample.{IsValueOf, start_of}
 use Rattle.cedar_counterexample.specs.Steps.{step_of}
-use Rattle.cedar_counterexample.specs.Filling.{IsRecordStart, IsStart}
 use Rattle.cedar_type_rules.specs.IncludedByParts.{FieldsIncluded}
 use Rattle.cedar_types.proofs.StatedSteps.{type_same}
 use Rattle.cedar_types.specs.Attributes.{plain_attributes}

@@ -1,8 +1,5 @@
-use Rattle.std.proofs.Common.{List, map}
 use Rattle.cedar_below.specs.EntityType.{type_name}
-use Rattle.cedar_below.specs.declared.entity_type.EntityType.{EntityType}
-use Rattle.cedar_types.specs.EntityLUB.{lub_names}
-use Rattle.cedar_counterexample.proofs.NameLists.{IncludedSoFar, included_here, included_next}
+use Rattle.cedar_counterexample.proofs.NameLists.{included_here, included_next}
 use Rattle.cedar_counterexample.proofs.unions.separating_type.Goals as goal
 
 pub returns-then-not-contains-clause-has : goal.returns-then-not-contains-clause-has

@@ -1,4 +1,4 @@
-use Rattle.std.proofs.Common.{◌↔◌, List, map, ap, sym, ◌∙◌, Contains}
+use Rattle.std.proofs.Common.{◌↔◌, map, ap, sym, ◌∙◌, Contains}
 use Rattle.std.specs.BTreeSet.{BTreeSet}
 use Rattle.cedar_below.proofs.Uids.{entity_uid_ord-Equal}
 use Rattle.cedar_below.specs.EntityUID.{uid_of}
@@ -16,8 +16,8 @@ pub returns-clause-entity : goal.returns-clause-entity
 returns-clause-entity c =
     let before = c.args.uppers.now in
     let uid = c.args.uid.now in
-    let Q : BTreeSet EntityUID → Type 0 = λ set. (above : PlainUid) → IsUpper cmp uid_of before uid above ↔ Contains (map uid_of set.keys) above in
-    let stands : Q c.match-remove.ancestors =
+    let HoldsUppers : BTreeSet EntityUID → Type 0 = λ set. (above : PlainUid) → IsUpper cmp uid_of before uid above ↔ Contains (map uid_of set.keys) above in
+    let stands : HoldsUppers c.match-remove.ancestors =
     elim c.match-remove.branch [
       | in-Some w ↦ rw w.ancestors-is (some_above uid_of (upper_set cmp before uid) _ (sym c.remove.ensures.value ∙ w.in-Some.is))
       | in-None w ↦

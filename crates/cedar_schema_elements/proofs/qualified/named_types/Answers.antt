@@ -3,7 +3,7 @@ use Rattle.std.proofs.lemmas.Result.{err_from_is_err_and}
 use Rattle.cedar_schema_elements.proofs.NamedTypes.{all_named, all_resolved, named_here, named_more}
 use Rattle.cedar_below.specs.EntityType.{type_name}
 use Rattle.cedar_below.specs.InternalName.{name_of}
-use Rattle.cedar_below.specs.PlainName.{IsReserved, PlainName}
+use Rattle.cedar_below.specs.PlainName.{IsReserved}
 use Rattle.cedar_declarations.proofs.OccurrenceLemmas.{Contains-image}
 use Rattle.cedar_declarations.specs.Names.{ResolvesTo}
 use Rattle.cedar_fragments.proofs.QualifiedLemmas.{refused_one}

@@ -1,4 +1,4 @@
-use Rattle.std.proofs.Common.{◌≡◌, ◌++◌, List, [], Some, map, ap, sym, subst, ◌∙◌}
+use Rattle.std.proofs.Common.{◌≡◌, ◌++◌, List, [], map, ap, sym, subst, ◌∙◌}
 use Rattle.cedar_schema_elements.specs.ActionKind.{kind_principals, kind_resources}
 use Rattle.cedar_schema_elements.specs.RequestEnvironments.{with_principals}
 use Rattle.cedar_schema_elements.specs.ValidatorActionId.{action_of, plain_action_entry}
@@ -33,12 +33,11 @@ loop-uid-preserved-in-Some-context c =
     ≡ with_principals uid context (kind_principals kind) (kind_resources kind) =
     λ i. with_principals (c.in_ok-requests.ensures.action i) (c.in_ok-requests.ensures.context i) (c.principals.ensures.names i)
     (c.in_ok-requests.ensures.resources i) in
-    let P : List Environment → Type 0 = λ items. (it : Environment) → ¬ Twice items it in
+    let AreOnce : List Environment → Type 0 = λ items. (it : Environment) → ¬ Twice items it in
     given_more environments_under under [] (map plain_action_entry c.args.actions.now.entries) (λ it. it.action) of_action _ _ _ _
-    (plain_action_entry (c.in-Some.uid.now, c.in-Some.action.now))
-    (ap (map plain_action_entry) c.in-Some.ensures.steps)
+    (plain_action_entry (c.in-Some.uid.now, c.in-Some.action.now)) (ap (map plain_action_entry) c.in-Some.ensures.steps)
     (c.in_ok-add_principals.ensures ∙ ap (λ items. map owned_environment c.loop-uid.environments.items ++ items) (same ∙ sym all))
-    (subst P (sym all) (pairs_once uid context (kind_principals kind) (kind_resources kind) c.principals.ensures.once
+    (subst AreOnce (sym all) (pairs_once uid context (kind_principals kind) (kind_resources kind) c.principals.ensures.once
     c.in_ok-requests.ensures.once)) c.loop-uid.invariant
 
 -- an action that isn't defined gives none
@@ -47,8 +46,7 @@ loop-uid-preserved c =
     let uid = uid_of c.in-Some.uid.now in
     let kind = (action_of c.in-Some.action.now).kind in
     given_nothing environments_under under [] (map plain_action_entry c.args.actions.now.entries) (λ it. it.action) of_action _ _ _
-    (plain_action_entry (c.in-Some.uid.now, c.in-Some.action.now))
-    (ap (map plain_action_entry) c.in-Some.ensures.steps)
+    (plain_action_entry (c.in-Some.uid.now, c.in-Some.action.now)) (ap (map plain_action_entry) c.in-Some.ensures.steps)
     (without_context uid kind c.in_default.ensures.ty)
     c.loop-uid.invariant
 

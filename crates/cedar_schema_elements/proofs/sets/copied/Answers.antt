@@ -1,11 +1,11 @@
-use Rattle.std.proofs.Common.{◌≡◌, IsTrue, List, [], ◌∷◌, map, refl, rules}
+use Rattle.std.proofs.Common.{◌≡◌, IsTrue, [], ◌∷◌, map, refl, rules}
 use Rattle.std.proofs.lemmas.Fn.{says_at}
 use Rattle.std.proofs.lemmas.List.{map-append}
 use Rattle.std.proofs.lemmas.Map.Iter.{iter_end}
 use Rattle.std.proofs.lemmas.Result.{IfOk-at_ok}
 use Rattle.std.specs.Fn.{FnReturnsAt}
 use Rattle.std.specs.Map.Iter.{deref}
-use Rattle.cedar_schema_elements.proofs.SetLemmas.{AnswersAlike, AnswersAlike-insert}
+use Rattle.cedar_schema_elements.proofs.SetLemmas.{AnswersAlike-insert}
 use Rattle.cedar_schema_elements.proofs.sets.copied.Goals as goal
 
 pub loop-item-preserved : goal.loop-item-preserved

@@ -1,7 +1,7 @@
-use Rattle.std.proofs.Common.{◌≡◌, ◌⊎◌, ◌↔◌, Some, cond, is_some, ap, sym, ◌∙◌}
+use Rattle.std.proofs.Common.{◌≡◌, Some, cond, is_some, ap, sym, ◌∙◌}
 use Rattle.std.specs.BTreeMap.{is_at}
 use Rattle.cedar_schema_elements.proofs.UpperLemmas.{none_above, one_more_above, put_above, same_set, some_above}
-use Rattle.cedar_schema_elements.specs.Uppers.{IsUpper, upper_set}
+use Rattle.cedar_schema_elements.specs.Uppers.{upper_set}
 use Rattle.cedar_schema_elements.proofs.uppers.add_upper.Goals as goal
 
 -- what had a set of uppers has one more in it
@@ -35,11 +35,9 @@ returns-in_ok-insert-in-None-2 g c =
     let new = c.insert-in-None.new.self in
     let upper = name c.args.upper.now in
     let after = c.insert-in-None-2.new.self in
-    rw same at (put_above cmp name tied before after copy_of_lower new
-    (λ q. c.in_ok-insert-in-None-2.ensures.updates.0 q
+    rw same at (put_above cmp name tied before after copy_of_lower new (λ q. c.in_ok-insert-in-None-2.ensures.updates.0 q
     ∙ ap (λ uppers. cond (is_at (cmp copy_of_lower) q) (Some new) (upper_set cmp uppers q)) c.get_mut.follows.holds-at-none)
-    upper
-    (one_more_above cmp name tied (upper_set cmp before copy_of_lower) old.keys new.keys c.in_ok-upper.upper upper
+    upper (one_more_above cmp name tied (upper_set cmp before copy_of_lower) old.keys new.keys c.in_ok-upper.upper upper
     (none_above name (upper_set cmp before copy_of_lower) old.keys
     (same_set cmp name tied before copy_of_lower lower same ∙ sym c.in-None.ensures.value) c.new-set.ensures.empty)
     c.in_ok-upper.ensures.name c.in_ok-insert-in-None.ensures.updates.0))

@@ -1,4 +1,4 @@
-use Rattle.std.proofs.Common.{◌+◌, List, subst, drop, Ok}
+use Rattle.std.proofs.Common.{◌+◌, List, drop, Ok}
 use Rattle.std.proofs.lemmas.Result.{err_from_is_err_and}
 use Rattle.std.proofs.Math.ListN.{drop_of_length-le}
 use Rattle.cedar_below.proofs.TreeLemmas.{drop-at}
@@ -28,7 +28,7 @@ loop-item-preserved g c =
     let R = g.T.JoinOrder.join c.args.mode in
     let all = c.args.items.now in
     let P = λ (left : List g.row.T.Denot). JoinedSoFar R c.args.start all left c.loop-item.join in
-    let so_far = subst P (drop-at _ c.loop-item.item-index c.item-item.result c.loop-item-test.true c.item-item.is) c.loop-item.invariant in
+    let so_far = rw (drop-at _ c.loop-item.item-index c.item-item.result c.loop-item-test.true c.item-item.is) at c.loop-item.invariant in
     joined-next R c.args.start all (drop (c.loop-item.item-index + 1) all) c.item-item.result c.loop-item.join c.in_ok-join.join so_far
     c.in_ok-join.ensures
 
@@ -37,7 +37,7 @@ returns-in_err-join-clause-pairwise g c =
     let R = g.T.JoinOrder.join c.args.mode in
     let all = c.args.items.now in
     let P = λ (left : List g.row.T.Denot). JoinedSoFar R c.args.start all left c.loop-item.join in
-    let so_far = subst P (drop-at _ c.loop-item.item-index c.item-item.result c.loop-item-test.true c.item-item.is) c.loop-item.invariant in
+    let so_far = rw (drop-at _ c.loop-item.item-index c.item-item.result c.loop-item-test.true c.item-item.is) at c.loop-item.invariant in
     let p = err_from_is_err_and c.from_residual.result c.from_residual.ensures.1 in
     rw (p.1, p.2)
     (joined-refused R c.args.start all (drop (c.loop-item.item-index + 1) all) c.item-item.result c.loop-item.join
@@ -56,7 +56,7 @@ returns-clause-pairwise g c =
     let R = g.T.JoinOrder.join c.args.mode in
     let all = c.args.items.now in
     let P = λ (left : List g.row.T.Denot). JoinedSoFar R c.args.start all left c.loop-item.join in
-    joined-last R c.args.start all c.loop-item.join (subst P (drop_of_length-le all c.loop-item-test.false) c.loop-item.invariant)
+    joined-last R c.args.start all c.loop-item.join (rw (drop_of_length-le all c.loop-item-test.false) at c.loop-item.invariant)
 
 pub returns-clause-of_clean : goal.returns-clause-of_clean
 returns-clause-of_clean g c clean all =

@@ -1,23 +1,17 @@
-use Rattle.std.proofs.Common.{◌≡◌, ◌∙◌, refl, sym, ap, subst, List, Some, Global}
+use Rattle.std.proofs.Common.{◌≡◌, ◌∙◌, refl, sym, ap, Some}
 use Rattle.std.proofs.lemmas.Result.{err_from_is_err_and}
 use Rattle.std.proofs.Math.ListN.{drop_of_length-le}
 use Rattle.std.specs.Option.{option_map}
-use Rattle.std.specs.declared.string.String.{String}
 use Rattle.cedar_below.proofs.TreeLemmas.{drop-at, core_ty_of-record}
-use Rattle.cedar_below.specs.CoreSchemaType.{core_ty_of}
 use Rattle.cedar_below.specs.CoreTy.{core_record}
-use Rattle.cedar_below.specs.declared.core_schema_type.CoreAttributeType.{CoreAttributeType}
 use Rattle.cedar_type_rules.proofs.CompareLemmas.{is_open-eq}
-use Rattle.cedar_type_rules.specs.CoreFault.{IsCoreFault}
 use Rattle.cedar_type_rules.specs.CoreOf.{core_of}
 use Rattle.cedar_type_rules.specs.OpenTag.{is_open}
 use Rattle.cedar_name_map.specs.ByName.{AreSortedByName}
-use Rattle.cedar_types.proofs.CoredWalk.{CoredSoFar, cored-fault, cored-next, cored-last}
+use Rattle.cedar_types.proofs.CoredWalk.{cored-fault, cored-next, cored-last}
 use Rattle.cedar_types.proofs.MemberParts.{ty_of-record}
 use Rattle.cedar_types.specs.Layers.{fields_of-pairs}
 use Rattle.cedar_types.specs.Meaning.{ty_of}
-use Rattle.cedar_types.specs.declared.attributes.AttributeType.{AttributeType}
-use Rattle.cedar_types.specs.declared.types.Type.{«Type»}
 use Rattle.cedar_types.proofs.core_type.+core.Goals as goal
 
 -- an attribute whose type has no core type is the fault
@@ -37,7 +31,7 @@ core_attributes-loop-name-preserved t c =
     let all = c.as_slice-name-items.result.now in
     let item = c.loop-name-item.result in
     let so_far = rw (drop-at _ c.loop-name.name-index item c.loop-name-test.true c.loop-name-item.is) at c.loop-name.invariant in
-    let up : AreSortedByName all = subst AreSortedByName (sym c.as_slice-name-items.ensures) c.deref.result.now.sorted_by_name in
+    let up : AreSortedByName all = rw c.as_slice-name-items.ensures c.deref.result.now.sorted_by_name in
     let (key, same, put) = c.in_ok-put_named.ensures in
     rw put (cored-next all item _ c.loop-name.core.entries so_far up key _ same refl
     (rw c.deref-in-loop-name.ensures at c.in_ok-attr_type.ensures.core))

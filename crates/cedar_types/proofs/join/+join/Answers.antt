@@ -1,14 +1,12 @@
-use Rattle.std.proofs.Common.{◌≡◌, ◌+◌, [], Option, Some, Err, ap, sym, subst, ◌∙◌, drop, length, get_or, string_bytes, refl, inl, None, IfSome}
+use Rattle.std.proofs.Common.{◌≡◌, ◌+◌, Err, ap, sym, subst, ◌∙◌, drop, length, get_or, string_bytes, refl, inl}
 use Rattle.std.proofs.lemmas.Result.{err_from_is_err_and}
 use Rattle.std.proofs.Math.ListN.{drop_of_length-le}
 use Rattle.std.specs.declared.alloc.Global.{Global}
 use Rattle.std.specs.declared.rc.Rc.{Rc}
 use Rattle.cedar_below.proofs.TreeLemmas.{drop-at}
-use Rattle.cedar_below.specs.declared.validation_mode.ValidationMode.TheVariants.{Strict}
 use Rattle.cedar_type_rules.proofs.RecordAnswers.{PermissiveJoin}
 use Rattle.cedar_type_rules.proofs.StrictRecordAnswers.{StrictJoin}
 use Rattle.cedar_type_rules.specs.OpenTag.{either_open}
-use Rattle.cedar_type_rules.specs.OwnBound.{IsLeastOwnBound}
 use Rattle.cedar_type_rules.specs.Ty.{record_of, set_of}
 use Rattle.cedar_types.specs.Layers.{pairs_of}
 use Rattle.cedar_types.proofs.JoinSteps.{JoinStep, unplaced-at, Pairs, fields_at, names_sorted, PermissiveSoFar, permissive-first, permissive-last, permissive-missed, permissive-refused, permissive-kept, permissive-least, StrictSoFar, strict-first, strict-last, strict-missed, strict-kept, strict-least, strict-refusal, strict-errs, strict-unlike, dropped_have_none}
@@ -16,10 +14,8 @@ use Rattle.cedar_types.proofs.KindJoins.{held_below, upper_joins, sets_join, set
 use Rattle.cedar_types.proofs.MemberParts.{ty_of-set}
 use Rattle.cedar_types.proofs.SubtypeSteps.{Sought-held, IsAt-held}
 use Rattle.cedar_types.proofs.TypeKinds.{place_of, unlike_refused, unlike-Bool, unlike-Entity, unlike-Set, unlike-Record, unlike-other, place-Bool, place-Entity, place-Set, place-Record, place-not-Bool, place-not-Entity, place-not-Set, place-not-Record}
-use Rattle.cedar_types.specs.AttributeJoin.{attribute_ty, IsPermissiveAttribute, IsStrictAttribute}
-use Rattle.cedar_types.specs.Located.{Located}
-use Rattle.cedar_types.specs.Meaning.{ty_of, fields_of, attribute_of, attribute_loc}
-use Rattle.cedar_types.specs.declared.attributes.AttributeType.{AttributeType}
+use Rattle.cedar_types.specs.AttributeJoin.{IsStrictAttribute}
+use Rattle.cedar_types.specs.Meaning.{ty_of, fields_of, attribute_of}
 use Rattle.cedar_types.specs.declared.types.Type.{«Type»}
 use Rattle.cedar_types.specs.declared.types.Type.TheVariants as type
 use Rattle.cedar_types.proofs.join.+join.Goals as goal
@@ -118,8 +114,7 @@ permissive_record-loop-name-init t c =
     let a = c.args.a.now in
     let b = c.args.b.now in
     let own = (permissive_pairs t past.After-as_slice-others).0 in
-    subst (λ (joined : Pairs). PermissiveSoFar a b 0 c.as_slice-own.result.now joined) (sym c.new-joined.ensures.items)
-    (subst (λ (left : Pairs). PermissiveSoFar a b 0 left []) (sym own) (permissive-first a b))
+    rw (c.new-joined.ensures.items, own) (permissive-first a b)
 
 pub permissive_record-loop-name-preserved : goal.permissive_record-loop-name-preserved
 permissive_record-loop-name-preserved t c =
@@ -133,10 +128,7 @@ permissive_record-loop-name-preserved t c =
       | permissive_record-then-is_at+in_ok-join+in-Some+in_ok-push_named w ↦ (
           let more = w.in_ok-push_named.ensures in
           let one = w.index-others-at.result in
-          let Q : Pairs → Option AttributeType → Type 0 = λ all found.
-          IsPermissiveAttribute (attribute_of item.1) (attribute_of (get_or all place one).1) found in
-          let right : Q (pairs_of b) (Some w.in-Some.join) =
-          subst (Q (pairs_of b)) w.in-Some.is (subst (λ (all : Pairs). Q all w.in_ok-join.field-0) others w.in_ok-join.ensures.join) in
+          let right = rw (others, w.in-Some.is) at w.in_ok-join.ensures.join in
           rw (ap (λ v. v.items) w.joined-is ∙ more.2) (permissive-kept step one (more.0, w.in-Some.join) w.if-is_at.true more.1 right.0 right.1
           (rw w.in-Some.is at w.in_ok-join.ensures.loc))
           )
@@ -175,15 +167,11 @@ permissive_record-returns-clause-join t c =
 
 pub permissive_record-returns-clause-unplaced : goal.permissive_record-returns-clause-unplaced
 permissive_record-returns-clause-unplaced t c name =
-    subst (λ (found : Option Located). IfSome found (λ it. it.loc ≡ None))
-    (sym (c.record.ensures.listed name ∙ c.in_ok-from_sorted_by_name.ensures.located name))
-    (unplaced-at c.loop-name.joined.items name c.loop-name.invariant.unplaced)
+    rw (c.record.ensures.listed name ∙ c.in_ok-from_sorted_by_name.ensures.located name) (unplaced-at c.loop-name.joined.items name c.loop-name.invariant.unplaced)
 
 pub strict_record-returns-clause-unplaced : goal.strict_record-returns-clause-unplaced
 strict_record-returns-clause-unplaced t c name =
-    subst (λ (found : Option Located). IfSome found (λ it. it.loc ≡ None))
-    (sym (c.record.ensures.listed name ∙ c.in_ok-attrs.ensures.located name))
-    (unplaced-at c.loop-name.joined.items name c.loop-name.invariant.unplaced)
+    rw (c.record.ensures.listed name ∙ c.in_ok-attrs.ensures.located name) (unplaced-at c.loop-name.joined.items name c.loop-name.invariant.unplaced)
 
 pub strict_attribute-returns-else-a-b-clause-join : goal.strict_attribute-returns-else-a-b-clause-join
 strict_attribute-returns-else-a-b-clause-join t c =
@@ -241,8 +229,7 @@ strict_record-loop-name-init t c =
     let a = c.args.a.now in
     let b = c.args.b.now in
     let own = (strict_pairs t past.After-as_slice-others).0 in
-    subst (λ (joined : Pairs). StrictSoFar a b 0 c.as_slice-own.result.now joined) (sym c.new-joined.ensures.items)
-    (subst (λ (left : Pairs). StrictSoFar a b 0 left []) (sym own) (strict-first a b))
+    rw (c.new-joined.ensures.items, own) (strict-first a b)
 
 pub strict_record-returns-then-not-is_at-clause-join : goal.strict_record-returns-then-not-is_at-clause-join
 strict_record-returns-then-not-is_at-clause-join t c =
@@ -254,13 +241,13 @@ pub strict_record-returns-in_err-join-clause-join : goal.strict_record-returns-i
 strict_record-returns-in_err-join-clause-join t c =
     let past = goal.at.strict_record-returns-in_err-join-clause-join t c in
     let item = c.loop-name-item.result in
-    let Q : Pairs → Type 0 = λ all.
+    let RefusesIn : Pairs → Type 0 = λ all.
     IsStrictAttribute (attribute_of item.1) (attribute_of (get_or all c.seek-at.result c.index-others-at.result).1) (Err c.in_err-join.field-0.0) in
     let p = err_from_is_err_and c.from_residual.result c.from_residual.ensures.1 in
     rw (p.1, p.2)
     (strict-errs c.args.a_openness c.args.b_openness (same_length t past.Else-own-others) (strict_step t past.After-is_at)
     c.index-others-at.result c.in_err-join.field-0.0 c.if-not-is_at.false
-    (subst Q (strict_pairs t past.After-as_slice-others).1 c.in_err-join.ensures.join))
+    (subst RefusesIn (strict_pairs t past.After-as_slice-others).1 c.in_err-join.ensures.join))
 
 pub strict_record-loop-name-preserved : goal.strict_record-loop-name-preserved
 strict_record-loop-name-preserved t c =
@@ -272,8 +259,7 @@ strict_record-loop-name-preserved t c =
     let one = c.index-others-at.result in
     let right = rw others at c.in_ok-join.ensures.join in
     let more = c.in_ok-push_named.ensures in
-    let R : Pairs → Type 0 = StrictSoFar c.args.a.now c.args.b.now place (drop (c.loop-name.name-index + 1) c.as_slice-own.result.now) in
-    subst R (sym {A = Pairs} more.2)
+    rw more.2
     (strict-kept step one (more.0, c.in_ok-join.join) c.if-not-is_at.false more.1 right.0 right.1 right.2 c.in_ok-join.ensures.loc)
 
 pub strict_record-from_sorted_by_name-requires : goal.strict_record-from_sorted_by_name-requires

@@ -1,21 +1,15 @@
-use Rattle.std.proofs.Common.{refl, ◌↔◌, List, ap, sym, ◌∙◌, string_bytes, map}
+use Rattle.std.proofs.Common.{refl, ap, sym, ◌∙◌, string_bytes, map}
 use Rattle.std.proofs.lemmas.Simd.{map-map}
-use Rattle.std.specs.List.Sorted.{IsStrictlySortedBy}
 use Rattle.std.specs.String.{string_cmp}
-use Rattle.std.specs.declared.alloc.Global.{Global}
-use Rattle.std.specs.declared.string.String.{String}
 use Rattle.cedar_below.proofs.Inclusion.{Included-step, Included-head}
 use Rattle.cedar_below.proofs.Ordered.{IsStrictlySortedBy-map}
 use Rattle.cedar_below.proofs.Texts.{text_cmp-total}
 use Rattle.cedar_below.proofs.TreeLemmas.{entry_names-entries}
-use Rattle.cedar_below.specs.Lists.{Included}
-use Rattle.cedar_below.specs.RestrictedExpr.{entries_of}
-use Rattle.cedar_below.specs.Text.{Text, text_cmp}
-use Rattle.cedar_below.specs.Tree.{entry_names}
+use Rattle.cedar_below.specs.Text.{text_cmp}
 use Rattle.cedar_type_rules.specs.Fields.{field_names}
 use Rattle.cedar_types.specs.Meaning.{fields_of}
 use Rattle.cedar_types.specs.Layers.{pairs_of}
-use Rattle.cedar_name_map.proofs.RisingLemmas.{Ahead, Ahead-first}
+use Rattle.cedar_name_map.proofs.RisingLemmas.{Ahead-first}
 use Rattle.cedar_name_map.proofs.SearchLemmas.{text_of}
 use Rattle.cedar_types.proofs.SubtypeSteps.{IsAt-held, Sought-held, sought-name, sought-on}
 use Rattle.cedar_types.proofs.member.all_listed.Goals as goal

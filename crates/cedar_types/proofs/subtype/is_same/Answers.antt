@@ -1,8 +1,5 @@
-use Rattle.std.proofs.Common.{Bool, ◌≡◌}
-use Rattle.std.specs.Bool.{Decides}
 use Rattle.cedar_below.proofs.Names.{entity_type_eq-same}
 use Rattle.cedar_below.specs.EntityType.{type_name}
-use Rattle.cedar_types.specs.EntityLUB.{lub_names}
 use Rattle.cedar_type_rules.proofs.SubtypeLemmas.{pointwise-map_Decides}
 use Rattle.cedar_types.proofs.subtype.is_same.Goals as goal
 

@@ -1,7 +1,6 @@
-use Rattle.std.proofs.Common.{◌≡◌, List, [], ◌∷◌, true, Some, ap, codes, refl, inl, inr, arith}
+use Rattle.std.proofs.Common.{◌≡◌, [], ◌∷◌, true, Some, ap, codes, refl, inl, inr, arith}
 use Rattle.cedar_below.specs.PlainName.{PlainName, action_word}
 use Rattle.cedar_below.specs.PlainUid.{PlainUid}
-use Rattle.cedar_below.specs.Text.{Text}
 use Rattle.cedar_declarations.specs.Bag.{alias_name}
 use Rattle.cedar_declarations.specs.PlainSchema.{external_action}
 use Rattle.cedar_type_rules.specs.Ty.{end, field, record_of, union_of}
@@ -15,13 +14,11 @@ pub returns-clause-type_name : goal.returns-clause-type_name
 returns-clause-type_name c writable =
     let ty = union_of (alias_name action_word ∷ []) in
     let same : within_sample action_word ≡ alias_name action_word =
-    writable.names (Some sample_namespace) (alias_name action_word)
-    (inl (
+    writable.names (Some sample_namespace) (alias_name action_word) (inl (
       record_of (field (codes "a") true ty end) ClosedAttributes,
       inl (type_entry (within_sample (codes "U")) (with_attribute ty) [], (0, omega arith, refl), refl, inl refl),
       inl (0, omega arith, refl),
-    ))
-    (within_sample action_word) (inl (refl, inr (tt, (2, omega arith, refl)))) in
+    )) (within_sample action_word) (inl (refl, inr (tt, (2, omega arith, refl)))) in
     let path : codes "N" ∷ [] ≡ [] = ap (λ (name : PlainName). name.path) same in
     cc
 
@@ -37,7 +34,6 @@ returns-clause-uid c writable =
         (0, omega arith, refl),
         (0, omega arith, refl),
       ),
-    )
-    (action_within (codes "b")) (inl (refl, (1, omega arith, refl)), refl) in
+    ) (action_within (codes "b")) (inl (refl, (1, omega arith, refl)), refl) in
     let path : codes "N" ∷ [] ≡ [] = ap (λ (uid : PlainUid). uid.ty.path) same in
     cc

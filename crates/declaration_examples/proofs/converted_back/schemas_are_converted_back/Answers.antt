@@ -7,11 +7,9 @@ use Rattle.cedar_declarations.proofs.OccurrenceLemmas.{Contains-single}
 use Rattle.cedar_declarations.specs.Bag.{alias_name}
 use Rattle.cedar_declarations.specs.EntityTypeKind.{standard_kind}
 use Rattle.cedar_declarations.specs.PlainSchema.{SchemaAction, SchemaEntityType, defined_action}
-use Rattle.cedar_declarations.specs.ValidSchema.{ListsDescendant, ListsDescendantAction}
+use Rattle.cedar_declarations.specs.ValidSchema.{ListsDescendant}
 use Rattle.cedar_declarations.specs.ConvertedBack.{full_name}
-use Rattle.cedar_names.specs.Declaration.{Declaration}
 use Rattle.cedar_names.specs.Reference.{Reference}
-use Rattle.cedar_names.specs.Expr.{no_member}
 use Rattle.cedar_type_rules.specs.Ty.{end, record_of}
 use Rattle.cedar_type_rules.specs.declared.open_tag.OpenTag.TheVariants.{ClosedAttributes}
 use Rattle.declaration_examples.specs.Samples.{sample_namespace, within_sample}
@@ -29,15 +27,15 @@ listed : (lower upper : PlainName) → ListsDescendant sample_schema lower upper
     → (within_sample (codes "User") ≡ lower) × (alias_name (codes "Group") ≡ upper)
 unfolding group user
 listed lower upper lists =
-    let P : PlainName × SchemaEntityType → Type 0 = λ it. Contains it.1.descendants lower in
+    let ListsLower : PlainName × SchemaEntityType → Type 0 = λ it. Contains it.1.descendants lower in
     elim (Contains-cons_cases group (user ∷ []) (upper, lists.0) lists.1) [
       | inl first ↦ (
-        Contains-single (within_sample (codes "User")) lower (subst P (sym first) lists.2),
+        Contains-single (within_sample (codes "User")) lower (subst ListsLower (sym first) lists.2),
         ap (λ (it : PlainName × SchemaEntityType). it.0) first,
       )
       | inr later ↦
           let same = Contains-single user (upper, lists.0) later in
-          let none = subst P (sym same) lists.2 in absurd (omega (arith, none.1))
+          let none = subst ListsLower (sym same) lists.2 in absurd (omega (arith, none.1))
     ]
 
 pub returns : goal.returns

@@ -1,7 +1,6 @@
-use Rattle.std.proofs.Common.{◌≡◌, ℕ, List, [], ◌∷◌, ap, codes, refl, get_or, length, arith}
+use Rattle.std.proofs.Common.{◌≡◌, [], ◌∷◌, ap, codes, refl, get_or, length, arith}
 use Rattle.cedar_below.specs.PlainName.{PlainName}
 use Rattle.cedar_below.specs.PlainUid.{PlainUid}
-use Rattle.cedar_below.specs.Text.{Text}
 use Rattle.cedar_declarations.proofs.OccurrenceLemmas.{Contains-single}
 use Rattle.cedar_declarations.specs.Bag.{alias_name}
 use Rattle.cedar_declarations.specs.EntityTypeKind.{enumerated_kind}

@@ -1,9 +1,7 @@
-use Rattle.std.proofs.Common.{[], true, false, Option, Some, None, IsSome, codes, refl, inl, arith}
+use Rattle.std.proofs.Common.{[], true, None, codes, refl, inl, arith}
 use Rattle.std.proofs.lemmas.Bool.{false≢true}
-use Rattle.std.specs.Option.{option_map, option_zip}
 use Rattle.cedar_declarations.specs.Bag.{alias_name}
 use Rattle.cedar_declarations.specs.EntityTypeKind.{standard_kind}
-use Rattle.cedar_names.specs.Expr.{Expr, member, no_member, record_expr}
 use Rattle.cedar_type_rules.specs.Ty.{end, field, record_of}
 use Rattle.cedar_type_rules.specs.declared.open_tag.OpenTag.TheVariants.{ClosedAttributes, OpenAttributes}
 use Rattle.declaration_examples.specs.WrittenSamples.{type_entry, with_attribute}

@@ -1,13 +1,10 @@
-use Rattle.std.proofs.Common.{◌≡◌, ◌+◌, ◌++◌, codes, Some, None, arith, length, string_bytes, sym, ap, ◌∙◌, subst}
+use Rattle.std.proofs.Common.{◌≡◌, ◌++◌, codes, Some, None, arith, string_bytes, sym, ap, ◌∙◌}
 use Rattle.std.proofs.lemmas.Str.{IsUtf8-string_bytes}
 use Rattle.std.proofs.lemmas.Str.Pattern.{split_parts}
 use Rattle.cedar_below.specs.EntityUID.{uid_of}
 use Rattle.cedar_below.specs.InternalName.{name_of}
-use Rattle.cedar_below.specs.NameFault.{IsNameFault}
 use Rattle.cedar_below.specs.PlainName.{name_text}
-use Rattle.cedar_below.specs.Stops.{StopsAt}
-use Rattle.cedar_below.specs.UidReading.{IsTypeBefore}
-use Rattle.cedar_below.specs.UidText.{IsQuoted, IsReservedUidText, IsUidText, escaped_text}
+use Rattle.cedar_below.specs.UidText.{escaped_text}
 use Rattle.cedar_below.proofs.TextsOfNames.{IsOfIdentifiers-name_of}
 use Rattle.cedar_below.proofs.UidReading.{fault_before_quote, fault_without_quote, no_quote_by_bytes, stops_in_id, uid_by_parts}
 use Rattle.cedar_below.proofs.entity_uid.EntityUID.from_str.Goals as goal
@@ -22,26 +19,24 @@ returns-in_default-clause-fault c =
 pub returns-in_default-2-clause-fault : goal.returns-in_default-2-clause-fault
 returns-in_default-2-clause-fault c =
     let parts = split_parts 34 c.args.text.now (Some (c.in-Some.before, c.in-Some.after)) c.in-Some.ensures.cases (omega arith) in
-    let none = subst (IsTypeBefore c.in-Some.before.now) c.in_default-2.is c.in_ok-name.ensures in
-    subst (λ text. IsNameFault IsUidText IsReservedUidText (λ _. ⊥) text c.type_fault-in_default-2.result) (sym parts.0)
-    (fault_before_quote c.in-Some.before.now c.in-Some.after.now c.type_fault-in_default-2.result (no_quote_by_bytes c.in-Some.before.now parts.1)
+    let none = rw c.in_default-2.is at c.in_ok-name.ensures in
+    rw parts.0 (fault_before_quote c.in-Some.before.now c.in-Some.after.now c.type_fault-in_default-2.result (no_quote_by_bytes c.in-Some.before.now parts.1)
     none c.type_fault-in_default-2.ensures)
 
 -- or one whose id stops after the quote
 pub returns-in-Err-NotAName-clause-fault : goal.returns-in-Err-NotAName-clause-fault
 returns-in-Err-NotAName-clause-fault c =
     let parts = split_parts 34 c.args.text.now (Some (c.in-Some.before, c.in-Some.after)) c.in-Some.ensures.cases (omega arith) in
-    let named = subst (IsTypeBefore c.in-Some.before.now) c.in-Some-2.is c.in_ok-name.ensures in
-    subst (λ text. StopsAt IsUidText text (length c.in-Some.before.now + 1 + c.in-Err-NotAName.at)) (sym parts.0)
-    (stops_in_id (name_of c.in-Some-2.name) c.in-Some.before.now c.in-Some.after.now c.in-Err-NotAName.at (IsOfIdentifiers-name_of c.in-Some-2.name)
+    let named = rw c.in-Some-2.is at c.in_ok-name.ensures in
+    rw parts.0 (stops_in_id (name_of c.in-Some-2.name) c.in-Some.before.now c.in-Some.after.now c.in-Err-NotAName.at (IsOfIdentifiers-name_of c.in-Some-2.name)
     named.0
-    (subst (IsNameFault IsQuoted (λ _. ⊥) (λ _. ⊥) c.in-Some.after.now) c.in-Err-NotAName.field-0-is c.in-Err-NotAName.ensures.fault))
+    (rw c.in-Err-NotAName.field-0-is at c.in-Err-NotAName.ensures.fault))
 
 -- the type and the id that were read make the uid
 pub returns-in-Ok-from_internal-clause-uid : goal.returns-in-Ok-from_internal-clause-uid
 returns-in-Ok-from_internal-clause-uid c =
     let parts = split_parts 34 c.args.text.now (Some (c.in-Some.before, c.in-Some.after)) c.in-Some.ensures.cases (omega arith) in
-    let named = subst (IsTypeBefore c.in-Some.before.now) c.in-Some-2.is c.in_ok-name.ensures in
+    let named = rw c.in-Some-2.is at c.in_ok-name.ensures in
     let ty : name_of c.in-Some-2.name ≡ (uid_of c.new.result).ty = sym c.in-Ok-from_internal.ensures.name ∙ sym c.new.ensures.ty in
     uid_by_parts (uid_of c.new.result) c.in-Some.before.now c.in-Some.after.now
     (named.0 ∙ ap (λ name. name_text name ++ codes "::") ty)
@@ -51,7 +46,7 @@ returns-in-Ok-from_internal-clause-uid c =
 pub returns-clause-fault : goal.returns-clause-fault
 returns-clause-fault c =
     let parts = split_parts 34 c.args.text.now (Some (c.in-Some.before, c.in-Some.after)) c.in-Some.ensures.cases (omega arith) in
-    let named = subst (IsTypeBefore c.in-Some.before.now) c.in-Some-2.is c.in_ok-name.ensures in (
+    let named = rw c.in-Some-2.is at c.in_ok-name.ensures in (
       record { ty = name_of c.in-Some-2.name; eid = string_bytes c.in-Ok.id },
       IsOfIdentifiers-name_of c.in-Some-2.name,
       c.in-Err-from_internal.ensures.refused.1,

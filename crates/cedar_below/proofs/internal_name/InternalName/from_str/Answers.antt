@@ -1,11 +1,9 @@
-use Rattle.std.proofs.Common.{◌≡◌, ◌+◌, ◌∷◌, ◌++◌, [], Some, map, take, get_or, string_bytes, sym, ap, ◌∙◌, subst}
+use Rattle.std.proofs.Common.{◌≡◌, ◌+◌, ◌∷◌, ◌++◌, [], Some, map, take, get_or, string_bytes, sym, ap, ◌∙◌}
 use Rattle.std.proofs.lemmas.Str.{encode_ascii}
 use Rattle.std.proofs.lemmas.List.{take_all, take_more, map-append}
 use Rattle.cedar_below.specs.Id.{id_text}
-use Rattle.cedar_below.specs.NameText.{IsNameText}
 use Rattle.cedar_below.specs.Reading.{reading_then}
 use Rattle.cedar_below.specs.declared.reading.Reading.TheVariants.{Start, Inside, Colon}
-use Rattle.cedar_below.specs.Stops.{StopsAt}
 use Rattle.cedar_below.proofs.NameReading.{HasRead, HasRead-byte, HasRead-colon, HasRead-like, HasRead-part, Leads, ids_are_identifiers, leads, leads-ascii, stops_at_byte, stops_at_end}
 use Rattle.cedar_below.proofs.internal_name.InternalName.from_str.Goals as goal
 use Rattle.cedar_below.proofs.internal_name.InternalName.from_str.Goals.{in-Inside+in_ok-push-in-Inside, in-Colon, in-Start+in_ok-push-in-Start}
@@ -16,8 +14,7 @@ returns-in-None c = record {
   name = tt;
   loc = tt;
   fault =
-      subst (λ text. StopsAt IsNameText text c.loop-at.at) c.as_bytes-byte-items.ensures.value
-      (stops_at_byte c.as_bytes-byte-items.result.now c.loop-at.at c.loop-at.reading _ _ (ids_are_identifiers c.loop-at.path.items)
+      rw c.as_bytes-byte-items.ensures.value at (stops_at_byte c.as_bytes-byte-items.result.now c.loop-at.at c.loop-at.reading _ _ (ids_are_identifiers c.loop-at.path.items)
       c.loop-at.invariant c.loop-at-test.true (sym c.then.ensures ∙ c.in-None.is));
 }
 
@@ -64,6 +61,6 @@ returns-in_default c = record {
       let whole : take c.loop-at.at c.as_bytes-byte-items.result.now ≡ c.args.text.now =
       take_all c.loop-at.at c.as_bytes-byte-items.result.now c.loop-at-test.false ∙ c.as_bytes-byte-items.ensures.value in
       let read : HasRead c.loop-at.reading (map id_text c.loop-at.path.items) (string_bytes c.loop-at.part) c.args.text.now =
-      subst (HasRead c.loop-at.reading (map id_text c.loop-at.path.items) (string_bytes c.loop-at.part)) whole c.loop-at.invariant in
+      rw whole at c.loop-at.invariant in
       stops_at_end c.args.text.now c.loop-at.reading _ _ (ids_are_identifiers c.loop-at.path.items) read c.in_default.not-Inside;
 }

@@ -1,10 +1,7 @@
-use Rattle.std.proofs.Common.{List, map}
+use Rattle.std.proofs.Common.{map}
 use Rattle.std.proofs.lemmas.Result.{IfOk-weaker}
 use Rattle.cedar_below.specs.EntityType.{type_name}
 use Rattle.cedar_below.specs.Lists.{SameItems}
-use Rattle.cedar_below.specs.declared.entity_type.EntityType.{EntityType}
-use Rattle.cedar_declarations.specs.PlainSchema.{ActionKind}
-use Rattle.cedar_schema_elements.specs.ActionKind.{kind_principals, kind_resources}
 use Rattle.cedar_schema_elements.specs.ValidatorApplySpec.{principal_names, resource_names}
 use Rattle.cedar_schema_elements.proofs.action_id.ValidatorActionId.new_defined.Goals as goal
 

@@ -1,10 +1,4 @@
-use Rattle.std.proofs.Common.{◌≢◌, List, AllPairs}
-use Rattle.std.specs.List.{IsDistinct}
-use Rattle.cedar_below.specs.contracts.entity_type.EntityTypePartialEq.TheImpl as entity_type_eq
-use Rattle.cedar_below.specs.declared.entity_type.EntityType.{EntityType}
-use Rattle.cedar_schema_elements.specs.ActionKind.{plain_kind, kind_resources}
 use Rattle.cedar_schema_elements.specs.ValidatorApplySpec.{resource_types}
-use Rattle.cedar_schema_elements.specs.declared.action_kind.ValidatorActionKind.{ValidatorActionKind}
 use Rattle.cedar_schema_elements.proofs.SetLemmas.{types_once}
 use Rattle.cedar_schema_elements.proofs.action_id.ValidatorActionId.resources.Goals as goal
 

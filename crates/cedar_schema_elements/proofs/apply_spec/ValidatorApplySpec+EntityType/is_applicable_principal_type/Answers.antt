@@ -1,8 +1,4 @@
-use Rattle.std.proofs.Common.{Bool, Contains}
-use Rattle.std.specs.Bool.{Decides}
-use Rattle.cedar_below.specs.EntityType.{type_name}
 use Rattle.cedar_types.proofs.MemberLemmas.{list_any-names}
-use Rattle.cedar_schema_elements.specs.ValidatorApplySpec.{principal_names}
 use Rattle.cedar_schema_elements.proofs.apply_spec.ValidatorApplySpec+EntityType.is_applicable_principal_type.Goals as goal
 
 pub returns : goal.returns

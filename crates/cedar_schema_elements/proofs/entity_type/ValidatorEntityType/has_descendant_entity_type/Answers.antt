@@ -1,7 +1,3 @@
-use Rattle.std.proofs.Common.{Bool, Contains}
-use Rattle.std.specs.Bool.{Decides}
-use Rattle.cedar_below.specs.EntityType.{type_name}
-use Rattle.cedar_schema_elements.specs.ValidatorEntityType.{descendant_names}
 use Rattle.cedar_types.proofs.MemberLemmas.{list_any-names}
 use Rattle.cedar_schema_elements.proofs.entity_type.ValidatorEntityType.has_descendant_entity_type.Goals as goal
 

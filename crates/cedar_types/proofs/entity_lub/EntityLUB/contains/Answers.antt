@@ -1,19 +1,16 @@
-use Rattle.std.proofs.Common.{Bool, List, subst, length}
-use Rattle.std.specs.Bool.{Decides}
-use Rattle.std.specs.List.{Contains}
+use Rattle.std.proofs.Common.{List, subst, length}
 use Rattle.std.specs.List.Sorted.{IsBinarySearchResult, IsSearchInRange}
-use Rattle.cedar_below.specs.EntityType.{type_name}
 use Rattle.cedar_below.specs.contracts.entity_type.EntityTypeOrd.TheImpl as entity_type_ord
 use Rattle.cedar_below.specs.declared.entity_type.EntityType.{EntityType}
 use Rattle.cedar_types.proofs.UnionSteps.{searched-Decides}
-use Rattle.cedar_types.specs.EntityLUB.{lub_types, lub_names}
+use Rattle.cedar_types.specs.EntityLUB.{lub_types}
 use Rattle.cedar_types.proofs.entity_lub.EntityLUB.contains.Goals as goal
 
 pub returns : goal.returns
 returns c =
     let ty = c.args.ty.now in
     let r = c.binary_search.result in
-    let Q : List EntityType → Type 0 = λ types. IsSearchInRange r (length types)
+    let IsFoundIn : List EntityType → Type 0 = λ types. IsSearchInRange r (length types)
     × IsBinarySearchResult (λ y. (entity_type_ord.ghosts).cmp y ty) types r in
-    let both = subst Q c.as_slice.ensures (c.binary_search.ensures.bound, c.binary_search.ensures.position) in
+    let both = subst IsFoundIn c.as_slice.ensures (c.binary_search.ensures.bound, c.binary_search.ensures.position) in
     rw c.is_ok.ensures.value (searched-Decides (lub_types c.args.self.now) c.args.self.now.sorted_by_name ty r both.0 both.1)

@@ -1,9 +1,5 @@
-use Rattle.std.proofs.Common.{List, Bool, ◌≡◌}
-use Rattle.std.specs.Bool.{Decides}
 use Rattle.cedar_below.proofs.Names.{entity_type_eq-same}
-use Rattle.cedar_below.specs.EntityType.{type_name}
-use Rattle.cedar_below.specs.declared.entity_type.EntityType.{EntityType}
-use Rattle.cedar_types.proofs.UnionSteps.{IsTypeAt, name_at-Decides}
+use Rattle.cedar_types.proofs.UnionSteps.{name_at-Decides}
 use Rattle.cedar_types.proofs.entity_lub.EntityLUB.is_at.Goals as goal
 
 pub returns-then-place-types : goal.returns-then-place-types

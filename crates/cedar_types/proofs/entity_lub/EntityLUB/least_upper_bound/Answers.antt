@@ -1,7 +1,6 @@
-use Rattle.std.proofs.Common.{◌≡◌, ◌++◌, List, ap, map, subst, sym, ◌∙◌}
+use Rattle.std.proofs.Common.{◌≡◌, ◌++◌, ap, map, subst, sym, ◌∙◌}
 use Rattle.std.proofs.lemmas.Result.{IfOk-weaker}
 use Rattle.cedar_below.specs.EntityType.{type_name}
-use Rattle.cedar_below.specs.PlainName.{PlainName}
 use Rattle.cedar_type_rules.specs.EntityUnion.{IsUnionOf}
 use Rattle.cedar_types.proofs.MergedLemmas.{IsStrictlySortedBy-distinct, IsUnionOf-merged, IsUnionOf-nonempty}
 use Rattle.cedar_types.specs.EntityLUB.{lub_names, lub_types}

@@ -1,8 +1,7 @@
-use Rattle.std.proofs.Common.{◌≡◌, List, ap, subst, get_or}
+use Rattle.std.proofs.Common.{◌≡◌, ap, subst}
 use Rattle.std.specs.declared.cmp.Ordering.TheVariants.{Less}
 use Rattle.cedar_below.specs.EntityType.{type_name}
 use Rattle.cedar_below.specs.PlainName.{PlainName, name_cmp}
-use Rattle.cedar_below.specs.declared.entity_type.EntityType.{EntityType}
 use Rattle.cedar_name_map.proofs.RisingLemmas.{Passed-next}
 use Rattle.cedar_types.proofs.UnionSteps.{below-Decides, name_at}
 use Rattle.cedar_types.proofs.entity_lub.EntityLUB.seek.Goals as goal
@@ -10,16 +9,16 @@ use Rattle.cedar_types.proofs.entity_lub.EntityLUB.seek.Goals as goal
 pub loop-at-preserved : goal.loop-at-preserved
 loop-at-preserved c =
     let x = c.index-types-at.result in
-    let P : PlainName → Type 0 = λ name. name_cmp name (type_name c.args.ty.now) ≡ Less in
-    let less : P (type_name x) = (below-Decides x c.args.ty.now c.cmp.result c.eq.result c.cmp.ensures c.eq.ensures).0 c.if-eq.true in
+    let IsBelow : PlainName → Type 0 = λ name. name_cmp name (type_name c.args.ty.now) ≡ Less in
+    let less : IsBelow (type_name x) = (below-Decides x c.args.ty.now c.cmp.result c.eq.result c.cmp.ensures c.eq.ensures).0 c.if-eq.true in
     Passed-next type_name name_cmp c.as_slice-types.result.now (type_name c.args.ty.now) c.args.from c.loop-at.at x
-    c.loop-at.invariant c.loop-at-test.true (subst P (ap type_name c.index-types-at.is) less)
+    c.loop-at.invariant c.loop-at-test.true (subst IsBelow (ap type_name c.index-types-at.is) less)
 
 pub returns-else-eq-clause-stays : goal.returns-else-eq-clause-stays
 returns-else-eq-clause-stays c d within less =
     let x = c.index-types-at.result in
     let types = c.as_slice-types.result.now in
-    let P : PlainName → Type 0 = λ name. name_cmp name (type_name c.args.ty.now) ≡ Less in
-    let here : P (type_name x) = subst (λ name. name_cmp name (type_name c.args.ty.now) ≡ Less) (name_at types c.loop-at.at x c.index-types-at.is c.loop-at-test.true d) (rw (← c.as_slice-types.ensures) at less) in
+    let IsBelow : PlainName → Type 0 = λ name. name_cmp name (type_name c.args.ty.now) ≡ Less in
+    let here : IsBelow (type_name x) = subst IsBelow (name_at types c.loop-at.at x c.index-types-at.is c.loop-at-test.true d) (rw (← c.as_slice-types.ensures) at less) in
     let wrong = (below-Decides x c.args.ty.now c.cmp.result c.eq.result c.cmp.ensures c.eq.ensures).1 here in
     let other = c.if-eq.false in cc

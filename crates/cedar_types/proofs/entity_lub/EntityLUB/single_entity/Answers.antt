@@ -1,7 +1,5 @@
-use Rattle.std.proofs.Common.{◌≡◌, ap, ◌∙◌, List, [], ◌∷◌, map, ◌++◌}
-use Rattle.std.specs.List.Sorted.{IsStrictlySortedBy}
+use Rattle.std.proofs.Common.{◌≡◌, ap, ◌∙◌, [], ◌∷◌, map, ◌++◌}
 use Rattle.cedar_below.specs.EntityType.{type_name}
-use Rattle.cedar_below.specs.PlainName.{PlainName, name_cmp}
 use Rattle.cedar_types.proofs.UnionLemmas.{IsStrictlySortedBy-one}
 use Rattle.cedar_types.proofs.entity_lub.EntityLUB.single_entity.Goals as goal
 

@@ -1,11 +1,8 @@
-use Rattle.std.proofs.Common.{◌≡◌, ap, sym, ◌∙◌, List, string_bytes}
-use Rattle.std.specs.declared.alloc.Global.{Global}
+use Rattle.std.proofs.Common.{◌≡◌, ap, sym, ◌∙◌, string_bytes}
 use Rattle.std.specs.declared.cmp.Ordering.TheVariants.{Less, Equal, Greater}
-use Rattle.std.specs.declared.string.String.{String}
 use Rattle.cedar_below.specs.Text.{text_cmp}
-use Rattle.cedar_below.specs.declared.value.RestrictedExpr.{RestrictedExpr}
 use Rattle.cedar_name_map.specs.ByName.{value_at}
-use Rattle.cedar_types.proofs.EntriesLeftSteps.{IsPast, IsPast-next, IsPast-found, IsPast-missed, IsPast-none, IsPast-passed, entries_left-first, entries_left-none, entries_left-next}
+use Rattle.cedar_types.proofs.EntriesLeftSteps.{IsPast-next, IsPast-found, IsPast-missed, IsPast-none, IsPast-passed, entries_left-first, entries_left-none, entries_left-next}
 use Rattle.cedar_types.specs.EntriesLeft.{entries_left}
 use Rattle.cedar_types.proofs.entries_left.EntriesLeft.value_at.Goals as goal
 
