@@ -1,12 +1,12 @@
 -- The place to which a hint leads: there is one at most, and none where no row of those looked at has a hint to it.
-use Rattle.std.proofs.Common.{Bool, IfSome, IsTrue, true, refl, ◌≡◌, ◌≢◌, ◌<◌, ℕ, IsSomeAnd, List, None, Option, Some, ap, arith, length, slice_get, subst, sym, ◌∙◌, inl, inr}
+use Rattle.std.proofs.Common.{Bool, IfSome, IsTrue, true, refl, ◌≡◌, ◌≢◌, ◌<◌, ◌≤◌, ℕ, IsSomeAnd, List, None, Option, Some, ap, option_map, arith, length, slice_get, subst, sym, ◌∙◌, inl, inr}
 use Rattle.std.proofs.lemmas.Bool.{cases_eq, cases_lt}
 use Rattle.std.proofs.lemmas.Map.Entries.{place_from_lookup}
-use Rattle.std.proofs.lemmas.Option.{get_or_from_slice_get, slice_get_within}
+use Rattle.std.proofs.lemmas.Option.{MatchOption-from_none, get_or_from_slice_get, slice_get-map, slice_get_past, slice_get_within}
 use Rattle.std.specs.BTreeMap.{is_at}
 use Rattle.std.specs.Cmp.{Equal-is}
 use Rattle.std.specs.Hash.{HashWrites}
-use Rattle.std.specs.Map.{lookup}
+use Rattle.std.specs.Map.{keys_of, lookup}
 use Rattle.std.specs.Ordering.{is_eq}
 use Rattle.std.specs.declared.cmp.Ordering.{Ordering}
 use Rattle.cedar_table.specs.StandsAt.{StandsAt}
@@ -77,9 +77,27 @@ module _ (rows : List (Option Hint)) (hash : ℕ) where
       → (place : ℕ) → ¬ LeadsTo rows hash place
   ends_full before place leads = apart place leads.step (before leads.step leads.near) leads.here
 
+-- what holds of the key of an entry holds of the key
+of_key : {K V : Type 0} (P : K → Type 0) (entry : Option (K × V)) → IfSome entry (λ each. P each.0)
+    → IfSome (option_map (λ each. each.0) entry) P
+of_key P None holds = tt
+of_key P (Some entry) holds = holds
+
+-- where a hint leads to each entry, one leads to each key
+pub keys_led : {K V : Type 0} (Leads : K → ℕ → Type 0) (entries : List (K × V)) (n : ℕ) → length entries ≤ n
+    → ((place : ℕ) → place < n → IfSome (slice_get entries place) (λ entry. Leads entry.0 place))
+    → (place : ℕ) → IfSome (slice_get (keys_of entries) place) (λ key. Leads key place)
+keys_led {K = K} {V = V} Leads entries n all each place =
+    subst (λ key. IfSome key (λ it. Leads it place)) (sym (slice_get-map (λ (entry : K × V). entry.0) entries place))
+    (of_key (λ key. Leads key place) (slice_get entries place) (elim (cases_lt place n) [
+      | inl below ↦ each place below
+      | inr above ↦ MatchOption-from_none (slice_get entries place) (λ entry. Leads entry.0 place)
+          (slice_get_past entries place (omega (arith, all, above)))
+    ]))
+
 module _ {K V : Type 0} (eq : K → K → Bool) (cmp : K → K → Ordering) (writes : K → HashWrites)
     (alike : (a b : K) → eq a b ≡ true → writes a ≡ writes b) (ties : (a b : K) → eq a b ≡ is_eq (cmp a b)) (hints : Hints)
-    (entries : List (K × V)) (hinted : AreHinted writes hints entries) (complete : IsTrue hints.complete) (key : K) where
+    (entries : List (K × V)) (hinted : AreHinted writes hints (keys_of entries)) (complete : IsTrue hints.complete) (key : K) where
   -- where hints are complete, a key isn't there if it stands at no place to which a hint leads
   pub not_there : ((place : ℕ) → LeadsTo hints.rows.items (hash_by hints.seed (writes key)) place
       → ¬ StandsAt cmp entries key place)
@@ -89,7 +107,8 @@ module _ {K V : Type 0} (eq : K → K → Bool) (cmp : K → K → Ordering) (wr
       let same : writes key ≡ writes it.1 = alike key it.1 (ties key it.1 ∙ it.3) in
       let leads : LeadsTo hints.rows.items (hash_by hints.seed (writes key)) it.0 =
       subst (λ input. LeadsTo hints.rows.items (hash_by hints.seed input) it.0) (sym same)
-      (subst (λ entry. IfSome entry (λ each. LeadsTo hints.rows.items (hash_by hints.seed (writes each.0)) it.0)) it.2
+      (subst (λ each. IfSome each (λ other. LeadsTo hints.rows.items (hash_by hints.seed (writes other)) it.0))
+      (slice_get-map (λ (entry : K × V). entry.0) entries it.0 ∙ ap (option_map (λ (entry : K × V). entry.0)) it.2)
       (hinted complete it.0)) in
       nowhere it.0 leads (
         slice_get_within entries it.0 (it.1, value) it.2,

@@ -33,13 +33,12 @@ pub record LeadsTo (rows : List (Option Hint)) (hash place : ℕ) : Type 0 where
   pub before : (earlier : ℕ) → earlier < step
       → RowHas rows hash earlier (λ hint. hint.tag ≢ tag_of hash)
 
--- a hint leads to the entry at each place
-abbrev pub LeadToAll : {K V : Type 0} → (K → HashWrites) → ℕ → List (Option Hint) → List (K × V)
-    → Type 0
-LeadToAll writes seed rows entries = (place : ℕ)
-    → IfSome (slice_get entries place) (λ entry. LeadsTo rows (hash_by seed (writes entry.0)) place)
+-- a hint leads to the key at each place
+abbrev pub LeadToAll : {K : Type 0} → (K → HashWrites) → ℕ → List (Option Hint) → List K → Type 0
+LeadToAll writes seed rows keys = (place : ℕ)
+    → IfSome (slice_get keys place) (λ key. LeadsTo rows (hash_by seed (writes key)) place)
 
--- where the hints are said to be complete, one leads to each entry
-abbrev pub AreHinted : {K V : Type 0} → (K → HashWrites) → Hints → List (K × V) → Type 0
-AreHinted writes hints entries =
-    IsTrue hints.complete → LeadToAll writes hints.seed hints.rows.items entries
+-- where the hints are said to be complete, one leads to each key
+abbrev pub AreHinted : {K : Type 0} → (K → HashWrites) → Hints → List K → Type 0
+AreHinted writes hints keys =
+    IsTrue hints.complete → LeadToAll writes hints.seed hints.rows.items keys

@@ -1,6 +1,7 @@
 //! Hints: where in a list of entries a key may stand, by the hash of the key.
 
 ghost use Rattle.std.specs.Prelude.{◌≡◌, ℕ, false, IfNone, IfOk, IfSome, IsTrue, length};
+ghost use Rattle.std.specs.Map.{keys_of};
 ghost use Rattle.cedar_table.specs.Hints.{AreHinted, LeadToAll, LeadsTo, hash_by, row_of, tag_of};
 
 use cedar_below::M;
@@ -116,7 +117,7 @@ fn hint_rows<K: Hash, V>(alloc: Global, seed: u64, entries: &[(K, V)]) -> M<Vec<
 
 /// Whether a hint leads to each entry.
 fn lead_to_all<K: Hash, V>(rows: &[Option<Hint>], seed: u64, entries: &[(K, V)]) -> bool
-    ensures { IsTrue result → LeadToAll K.hash_input seed rows.now entries.now }
+    ensures { IsTrue result → LeadToAll K.hash_input seed rows.now (keys_of entries.now) }
 {
     for (place, entry) in entries.iter().enumerate() {
         if place_hinted(rows, hash_of(seed, &entry.0)) != Some(place) {
@@ -140,7 +141,7 @@ impl Hints {
 
     /// Hints to the entries of a list. Out of memory is the only refusal.
     pub(crate) fn of<K: Hash, V>(alloc: Global, entries: &[(K, V)]) -> M<Self>
-        ensures { IfOk result (λ hints. AreHinted K.hash_input hints entries.now) }
+        ensures { IfOk result (λ hints. AreHinted K.hash_input hints (keys_of entries.now)) }
     {
         for seed in SEEDS {
             let rows = hint_rows(alloc, seed, entries)?;

@@ -7,6 +7,7 @@
 pub use copying::copied_entries;
 pub use iter::{Iter, Keys, Values};
 pub use table::Table;
+pub use table_keys::TableKeys;
 
 mod comparing;
 mod copying;
@@ -14,3 +15,4 @@ mod hints;
 mod iter;
 mod search;
 mod table;
+mod table_keys;

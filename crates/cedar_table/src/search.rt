@@ -20,7 +20,7 @@ fn stands_at<K: Ord, V>(entries: &[(K, V)], key: &K, place: usize) -> bool
 /// The place of a key, where a hint leads to it. Where the hints are complete, a key to which none
 /// leads isn't there.
 fn hinted_place<K: Ord + Hash, V>(entries: &[(K, V)], hints: &Hints, key: &K) -> Option<usize>
-    requires { AreHinted K.hash_input hints.now entries.now }
+    requires { AreHinted K.hash_input hints.now (keys_of entries.now) }
     ensures found { IfSome result (StandsAt K.cmp entries.now key.now) }
     ensures lacking { IfNone result (IsTrue hints.now.complete
         → lookup (is_at (K.cmp key.now)) entries.now ≡ None) }
@@ -54,7 +54,7 @@ pub(crate) fn place_of<K: Ord + Hash, V>(
     key: &K,
 ) -> Option<usize>
     requires sorted { IsStrictlySortedBy K.cmp (keys_of entries.now) }
-    requires hinted { AreHinted K.hash_input hints.now entries.now }
+    requires hinted { AreHinted K.hash_input hints.now (keys_of entries.now) }
     ensures found { IfSome result (StandsAt K.cmp entries.now key.now) }
     ensures lacking { IfNone result (lookup (is_at (K.cmp key.now)) entries.now ≡ None) }
 {

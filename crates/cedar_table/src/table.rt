@@ -2,6 +2,7 @@
 
 use crate::hints::Hints;
 use crate::iter::{Iter, Keys, Values};
+use crate::table_keys::TableKeys;
 use crate::search::place_of;
 use cedar_below::M;
 use std::alloc::Global;
@@ -29,7 +30,7 @@ impl<K: Ord + Hash, V> Model for Table<K, V> {
     ghost view = { λ a. record { entries = a.entries.items } };
 
     ghost invariant = { λ a. IsStrictlySortedBy K.cmp (keys_of a.entries.items)
-        × AreHinted K.hash_input a.hints a.entries.items };
+        × AreHinted K.hash_input a.hints (keys_of a.entries.items) };
 }
 
 // Written out: proofs of what holds a table then see one call, and nothing of its parts.
@@ -89,9 +90,10 @@ impl<K: Ord + Hash, V> Table<K, V> {
 }
 
 impl<K: Ord + Hash + Drop, V: Drop> Table<K, V> {
-    ghost use Rattle.std.specs.Prelude.{◌≡◌, IfOk};
+    ghost use Rattle.std.specs.Prelude.{◌≡◌, IfOk, length};
+    ghost use Rattle.std.specs.List.{zip};
     ghost use Rattle.std.specs.List.Sorted.{IsStrictlySortedBy};
-    ghost use Rattle.std.specs.Map.{keys_of};
+    ghost use Rattle.std.specs.Map.{keys_of, values_of};
 
     /// The entries of a map. Out of memory is the only refusal.
     pub fn from_map(alloc: Global, map: BTreeMap<K, V>) -> M<Self>
@@ -116,12 +118,55 @@ impl<K: Ord + Hash + Drop, V: Drop> Table<K, V> {
         } = self;
         entries
     }
+
+    /// The keys, as they are hinted, and the values at their places. Out of memory is the only
+    /// refusal.
+    pub fn into_parts(self, alloc: Global) -> M<(TableKeys<K>, Vec<V>)>
+        ensures keys { IfOk result (λ parts. parts.0 ≡ keys_of self.entries) }
+        ensures values { IfOk result (λ parts. parts.1.items ≡ values_of self.entries) }
+    {
+        let Table { entries, hints } = self;
+        let mut keys = Vec::with_capacity(alloc, entries.len())?;
+        let mut values = Vec::with_capacity(alloc, entries.len())?;
+        for (key, value) in entries {
+            keys.push(key)?;
+            values.push(value)?;
+        }
+        Ok((TableKeys { keys, hints }, values))
+    }
+
+    /// The table of keys and the values at their places, as many of these. Out of memory is the
+    /// only refusal.
+    pub fn from_parts(alloc: Global, keys: TableKeys<K>, values: Vec<V>) -> M<Self>
+        requires { length values.items ≡ length keys }
+        ensures { IfOk result (λ table. table.entries ≡ zip keys values.items) }
+    {
+        let (keys, hints) = keys.into_parts();
+        let entries = keys.into_iter().zip(values).collect(alloc)?;
+        Ok(Table { entries, hints })
+    }
 }
 
 impl<K: Ord + Hash, V> Table<K, V> {
-    ghost use Rattle.std.specs.Prelude.{◌≡◌, is_some};
+    ghost use Rattle.std.specs.Prelude.{◌≡◌, ◌<◌, ℕ, IfNone, IfSome, None, is_some, length};
     ghost use Rattle.std.specs.Option.{option_copied};
     ghost use Rattle.cedar_table.specs.Entries.{get_by};
+    ghost use Rattle.cedar_table.specs.StandsAt.{StandsAt};
+
+    /// How many entries there are.
+    pub fn len(&self) -> usize
+        ensures { result ≡ length self.now.entries }
+    {
+        self.entries.len()
+    }
+
+    /// The place of a key in the order of the keys, if it is there.
+    pub fn place(&self, key: &K) -> Option<usize>
+        ensures found { IfSome result (StandsAt K.cmp self.now.entries key.now) }
+        ensures lacking { IfNone result (get_by (K.cmp key.now) self.now ≡ None) }
+    {
+        place_of(&self.entries, &self.hints, key)
+    }
 
     /// The value of a key, if there is one.
     pub fn get(&self, key: &K) -> Option<&V>

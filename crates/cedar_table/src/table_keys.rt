@@ -1,0 +1,61 @@
+//! The keys of a table whose values are taken out of it.
+
+use crate::hints::Hints;
+use std::hash::Hash;
+use std::marker::Model;
+
+/// The keys of a table, in their order, each once, as they are hinted.
+pub struct TableKeys<K: Ord + Hash> {
+    pub(crate) keys: Vec<K>,
+    pub(crate) hints: Hints,
+}
+
+impl<K: Ord + Hash> Model for TableKeys<K> {
+    ghost use Rattle.std.specs.Prelude.{List};
+    ghost use Rattle.std.specs.List.Sorted.{IsStrictlySortedBy};
+    ghost use Rattle.cedar_table.specs.Hints.{AreHinted};
+
+    ghost Value = { List K };
+
+    ghost view = { λ a. a.keys.items };
+
+    ghost invariant = { λ a. IsStrictlySortedBy K.cmp a.keys.items
+        × AreHinted K.hash_input a.hints a.keys.items };
+}
+
+// Written out: proofs of what holds them then see one call, and nothing of their parts.
+impl<K: Ord + Hash + Drop> Drop for TableKeys<K> {
+    fn drop(self) {
+        let TableKeys {
+            keys: _keys,
+            hints: _hints,
+        } = self;
+    }
+}
+
+impl<K: Ord + Hash> TableKeys<K> {
+    ghost use Rattle.std.specs.Prelude.{◌≡◌};
+
+    /// The keys, in their order.
+    pub fn as_slice(&self) -> &[K]
+        ensures { result.now ≡ self.now }
+    {
+        &self.keys
+    }
+}
+
+impl<K: Ord + Hash + Drop> TableKeys<K> {
+    ghost use Rattle.std.specs.Prelude.{◌≡◌};
+    ghost use Rattle.std.specs.List.Sorted.{IsStrictlySortedBy};
+    ghost use Rattle.cedar_table.specs.Hints.{AreHinted};
+
+    /// The keys, and the hints to them.
+    pub(crate) fn into_parts(self) -> (Vec<K>, Hints)
+        ensures keys { result.0.items ≡ self }
+        ensures sorted { IsStrictlySortedBy K.cmp self }
+        ensures hinted { AreHinted K.hash_input result.1 self }
+    {
+        let TableKeys { keys, hints } = self;
+        (keys, hints)
+    }
+}
