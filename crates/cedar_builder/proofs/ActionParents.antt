@@ -1,7 +1,7 @@
 -- Parents and descent of actions, as edges and in the bag.
 use Rattle.std.proofs.Common.{◌≡◌, List, map, ap, sym, ◌∙◌, refl, inl, Contains, inr}
 use Rattle.std.proofs.lemmas.Simd.{map-map}
-use Rattle.std.specs.BTreeMap.{BTreeMap}
+use Rattle.cedar_table.specs.Entries.{Entries}
 use Rattle.cedar_below.proofs.Uids.{entity_uid_eq-same}
 use Rattle.cedar_below.specs.Chain.{Chain, one, more}
 use Rattle.cedar_below.specs.EntityUID.{uid_of}
@@ -59,7 +59,7 @@ descendant_declared bag {lower = lower} (more step rest) =
     Contains-image (λ (it : PlainUid × ActionBody). it.0) (declared_actions bag) (lower, step.1.0) step.1.1
 
 module _ (bag : Bag) (extensions : Extensions) (declared : List (EntityUID × ActionFragment InternalName EntityType))
-    (types : BTreeMap EntityType ValidatorEntityType) (scope : TypeScope)
+    (types : Entries EntityType ValidatorEntityType) (scope : TypeScope)
     (ready : AreActionsOf bag extensions declared types scope) where
   -- a parent by its uid alone is declared
   parent_declared : (lower upper : PlainUid) → IsActionParent bag lower (reference_to_action upper)

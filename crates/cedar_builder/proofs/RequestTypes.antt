@@ -4,8 +4,7 @@ use Rattle.std.proofs.lemmas.List.Elements.{Contains-append_cases}
 use Rattle.std.proofs.lemmas.Simd.{map-map}
 use Rattle.std.specs.Bool.{Decides}
 use Rattle.std.proofs.lemmas.Map.Made.{is_some-lookup}
-use Rattle.std.specs.BTreeMap.{BTreeMap, is_at}
-use Rattle.std.specs.BTreeMap as tree
+use Rattle.std.specs.BTreeMap.{is_at}
 use Rattle.std.specs.Map.{keys_of}
 use Rattle.cedar_below.proofs.Names.{entity_type_ord-Equal}
 use Rattle.cedar_below.specs.EntityType.{type_name}
@@ -15,11 +14,12 @@ use Rattle.cedar_below.specs.declared.entity_type.EntityType.{EntityType}
 use Rattle.cedar_declarations.proofs.OccurrenceLemmas.{Contains-single}
 use Rattle.cedar_schema_elements.specs.declared.entity_type.ValidatorEntityType.{ValidatorEntityType}
 use Rattle.cedar_fragments.proofs.SetLemmas.{found-Decides}
+use Rattle.cedar_table.specs.Entries.{Entries, get_by}
 use Rattle.cedar_builder.specs.ActionSteps.{names_in}
 
 -- a map has an entity type exactly where its name is among those of the map
-pub has_name : (types : BTreeMap EntityType ValidatorEntityType) (ty : EntityType) (found : Bool)
-    → found ≡ is_some (tree.get ((order.ghosts).cmp) types ty) → Decides found (Contains (names_in types) (type_name ty))
+pub has_name : (types : Entries EntityType ValidatorEntityType) (ty : EntityType) (found : Bool)
+    → found ≡ is_some (get_by ((order.ghosts).cmp ty) types) → Decides found (Contains (names_in types) (type_name ty))
 has_name types ty found is =
     rw (← is_some-lookup (is_at ((order.ghosts).cmp ty)) types.entries, ← is, map-map _ _ types.entries) at
     (found-Decides ((order.ghosts).cmp) type_name entity_type_ord-Equal (keys_of types.entries) ty)

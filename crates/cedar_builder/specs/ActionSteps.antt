@@ -1,7 +1,7 @@
 -- What the private steps promise of declarations: those of one uid together, their parents, and
 -- what is elaborated.
 use Rattle.std.specs.Prelude.{Bool, true, false, ◌≡◌, ◌⊎◌, ◌↔◌, ◌∷◌, [], List, Contains, map}
-use Rattle.std.specs.BTreeMap.{BTreeMap}
+use Rattle.cedar_table.specs.Entries.{Entries}
 use Rattle.std.specs.List.{flat_map}
 use Rattle.cedar_below.specs.EntityType.{type_name}
 use Rattle.cedar_below.specs.PlainName.{PlainName, IsReserved}
@@ -26,7 +26,7 @@ use Rattle.cedar_elaboration.specs.Refusals.{IsRefusal}
 use Rattle.cedar_elaboration.specs.declared.type_scope.TypeScope.{TypeScope}
 
 -- the names of the entity types of a map
-abbrev pub names_in : BTreeMap EntityType ValidatorEntityType → List PlainName
+abbrev pub names_in : Entries EntityType ValidatorEntityType → List PlainName
 names_in types = map (λ it. type_name it.0) types.entries
 
 -- each declaration of an action, with the requests that it is for

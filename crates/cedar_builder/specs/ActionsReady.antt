@@ -1,6 +1,6 @@
 -- When the actions of a bag can be built.
 use Rattle.std.specs.Prelude.{◌≡◌, List, Contains, map}
-use Rattle.std.specs.BTreeMap.{BTreeMap}
+use Rattle.cedar_table.specs.Entries.{Entries}
 use Rattle.cedar_below.specs.Extensions.{extension_types}
 use Rattle.cedar_below.specs.Lists.{SameItems}
 use Rattle.cedar_below.specs.PlainName.{PlainName, IsReserved}
@@ -28,7 +28,7 @@ use Rattle.cedar_elaboration.specs.declared.type_scope.TypeScope.{TypeScope}
 -- type of actions has a reserved name
 pub record AreActionsOf (bag : Bag) (given : Extensions)
     (declared : List (EntityUID × ActionFragment InternalName EntityType))
-    (types : BTreeMap EntityType ValidatorEntityType) (scope : TypeScope) : Type 0 where
+    (types : Entries EntityType ValidatorEntityType) (scope : TypeScope) : Type 0 where
   pub actions : collected_actions declared ≡ declared_actions bag
   pub entity_types : SameItems (names_in types) (map (λ it. it.0) (declared_entities bag))
   pub placed : (reference : Reference) → IsAtEntityTypePosition bag reference

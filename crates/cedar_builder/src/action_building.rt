@@ -21,8 +21,8 @@ use cedar_elaboration::TypeScope;
 use cedar_fragments::namespace::ActionFragment;
 use cedar_graph::into_btree_map;
 use cedar_schema_elements::{ValidatorActionId, ValidatorEntityType};
+use cedar_table::Table;
 use std::alloc::Global;
-use std::collections::BTreeMap;
 
 /// The actions of a schema, each with all its descendants: what the definition of a uid says, or an
 /// external one where there are only external declarations of it. A uid may have one definition and
@@ -36,9 +36,9 @@ use std::collections::BTreeMap;
 pub fn actions(
     alloc: Global,
     declared: Vec<(EntityUID, ActionFragment<InternalName, EntityType>)>,
-    entity_types: &BTreeMap<EntityType, ValidatorEntityType>,
+    entity_types: &Table<EntityType, ValidatorEntityType>,
     scope: &TypeScope,
-) -> Result<BTreeMap<EntityUID, ValidatorActionId>, SchemaError>
+) -> Result<Table<EntityUID, ValidatorActionId>, SchemaError>
     ensures declared { IfOk result (λ actions. (bag : Bag) (extensions : Extensions)
         → AreActionsOf bag extensions declared.items entity_types.now scope.now
         → AreDeclaredActions bag extensions actions.entries) }
@@ -59,5 +59,6 @@ pub fn actions(
         alloc, declared, &scope,
     )?;
     let linked = linked_nodes(alloc, nodes, edges)?;
-    Ok(into_btree_map(alloc, linked)?)
+    let in_order = into_btree_map(alloc, linked)?;
+    Ok(Table::from_map(alloc, in_order)?)
 }

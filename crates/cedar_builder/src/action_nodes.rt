@@ -22,14 +22,14 @@ use cedar_declarations::SchemaError;
 use cedar_elaboration::TypeScope;
 use cedar_fragments::namespace::{ActionFragment, ActionParent};
 use cedar_schema_elements::{ValidatorActionId, ValidatorEntityType};
+use cedar_table::Table;
 use std::alloc::Global;
-use std::collections::BTreeMap;
 
 /// What the declarations of actions are read over: the entity types of the schema, among which
 /// principals and resources have to be, and what types may name.
 #[derive(Drop)]
 pub(crate) struct ActionScope<'a, 't> {
-    pub(crate) entity_types: &'a BTreeMap<EntityType, ValidatorEntityType>,
+    pub(crate) entity_types: &'a Table<EntityType, ValidatorEntityType>,
     pub(crate) types: &'a TypeScope<'t>,
 }
 

@@ -25,8 +25,8 @@ use cedar_fragments::namespace::{ActionFragment, ActionRequests};
 use cedar_names::json_schema;
 use cedar_schema_elements::{ValidatorActionId, ValidatorEntityType};
 use cedar_types::Type;
+use cedar_table::Table;
 use std::alloc::Global;
-use std::collections::BTreeMap;
 
 /// Whether the type is that of records.
 fn is_record(ty: &Type) -> bool
@@ -66,7 +66,7 @@ fn elaborated_definition(
     uid: EntityUID,
     requests: &ActionRequests<InternalName>,
     loc: Option<Loc>,
-    entity_types: &BTreeMap<EntityType, ValidatorEntityType>,
+    entity_types: &Table<EntityType, ValidatorEntityType>,
     scope: &TypeScope,
 ) -> Result<ValidatorActionId, SchemaError>
     ensures elaborates { IfOk result (λ action.
@@ -99,7 +99,7 @@ pub(crate) fn elaborated_action(
     alloc: Global,
     uid: EntityUID,
     fragment: &ActionFragment<InternalName, EntityType>,
-    entity_types: &BTreeMap<EntityType, ValidatorEntityType>,
+    entity_types: &Table<EntityType, ValidatorEntityType>,
     scope: &TypeScope,
 ) -> Result<ValidatorActionId, SchemaError>
     ensures elaborates { IfOk result (λ action.

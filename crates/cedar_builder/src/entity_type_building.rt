@@ -20,8 +20,8 @@ use cedar_elaboration::TypeScope;
 use cedar_fragments::namespace::EntityTypeFragment;
 use cedar_graph::into_btree_map;
 use cedar_schema_elements::ValidatorEntityType;
+use cedar_table::Table;
 use std::alloc::Global;
-use std::collections::BTreeMap;
 
 /// The entity types of a schema, each with all its descendants: what the definition of a name says,
 /// or an external one where there are only external declarations of it. A name may have one
@@ -36,7 +36,7 @@ pub fn entity_types(
     alloc: Global,
     declared: Vec<(EntityType, EntityTypeFragment<InternalName>)>,
     scope: &TypeScope,
-) -> Result<BTreeMap<EntityType, ValidatorEntityType>, SchemaError>
+) -> Result<Table<EntityType, ValidatorEntityType>, SchemaError>
     ensures declared { IfOk result (λ types. (bag : Bag) (extensions : Extensions)
         → IsReady bag extensions declared.items scope.now
         → AreDeclaredEntityTypes bag extensions types.entries) }
@@ -52,5 +52,6 @@ pub fn entity_types(
         alloc, declared, scope,
     )?;
     let linked = linked_nodes(alloc, nodes, edges)?;
-    Ok(into_btree_map(alloc, linked)?)
+    let in_order = into_btree_map(alloc, linked)?;
+    Ok(Table::from_map(alloc, in_order)?)
 }

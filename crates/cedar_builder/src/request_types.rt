@@ -14,14 +14,14 @@ use crate::named_type::named_type;
 use cedar_below::{EntityType, InternalName, NonEmpty};
 use cedar_declarations::SchemaError;
 use cedar_schema_elements::ValidatorEntityType;
+use cedar_table::Table;
 use std::alloc::Global;
-use std::collections::BTreeMap;
 
 /// The entity type of a name, which must be one of these.
 fn declared_type(
     alloc: Global,
     name: &InternalName,
-    entity_types: &BTreeMap<EntityType, ValidatorEntityType>,
+    entity_types: &Table<EntityType, ValidatorEntityType>,
 ) -> Result<EntityType, SchemaError>
     ensures name { IfOk result (λ ty. type_name ty ≡ name_of name.now) }
     ensures declared { OnOk result (Contains (names_in entity_types.now) (name_of name.now)) }
@@ -42,7 +42,7 @@ fn declared_type(
 pub(crate) fn declared_types(
     alloc: Global,
     names: &[InternalName],
-    entity_types: &BTreeMap<EntityType, ValidatorEntityType>,
+    entity_types: &Table<EntityType, ValidatorEntityType>,
 ) -> Result<Vec<EntityType>, SchemaError>
     ensures names { IfOk result (λ types. map type_name types.items ≡ map name_of names.now) }
     ensures declared { OnOk result ((name : PlainName) → Contains (map name_of names.now) name

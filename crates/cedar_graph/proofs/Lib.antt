@@ -9,3 +9,5 @@ pub mod MovingLemmas
 pub mod Numbers
 pub mod OrderProgress
 pub mod OrderSteps
+pub mod TableEdges
+pub mod TableClosing

@@ -4,4 +4,5 @@ pub mod Growth
 pub mod Numbered
 pub mod Numbering
 pub mod Order
+pub mod Tables
 pub mod TcError

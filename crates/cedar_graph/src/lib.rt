@@ -14,6 +14,8 @@ pub use adding::add_edges;
 pub use closure::{compute_tc, compute_tc_counted};
 pub use moving::into_btree_map;
 pub use ordering::{Ordered, topo_sort};
+pub use table_closing::close_table;
+pub use table_fault::TableFault;
 pub use tc_error::TcError;
 pub use tc_node::TCNode;
 
@@ -24,6 +26,9 @@ mod list_edges;
 mod moving;
 mod numbering;
 mod ordering;
+mod places;
+mod table_closing;
+mod table_fault;
 mod targets;
 mod tc_error;
 mod tc_node;

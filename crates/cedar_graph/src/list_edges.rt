@@ -23,7 +23,7 @@ fn add_edge<K: Eq + Hash + Drop, V: TCNode<K>>(node: &mut V, name: &K) -> M<()>
 }
 
 /// Adds to the node an edge to each name whose number stands in the list.
-fn add_edges<K: Eq + Hash + Drop, V: TCNode<K>>(
+pub(crate) fn add_edges<K: Eq + Hash + Drop, V: TCNode<K>>(
     node: &mut V,
     numbers: &[usize],
     names: &Vec<K>,

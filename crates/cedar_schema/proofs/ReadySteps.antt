@@ -1,6 +1,6 @@
 -- What each step is handed is what it asks for.
 use Rattle.std.proofs.Common.{◌≡◌, List, map, ap, sym, subst, inr, Contains}
-use Rattle.std.specs.BTreeMap.{BTreeMap}
+use Rattle.cedar_table.specs.Entries.{Entries}
 use Rattle.std.specs.BTreeSet.{BTreeSet}
 use Rattle.cedar_below.proofs.Lists.{Contains-preimage}
 use Rattle.cedar_below.specs.EntityType.{type_name}
@@ -74,7 +74,7 @@ module _ (bag : Bag) (given : Extensions) (held : Names) (built_in : List (Inter
     }
 
     -- the actions can be built
-    pub actions_of : (types : BTreeMap EntityType ValidatorEntityType) → AreDeclaredEntityTypes bag given types.entries
+    pub actions_of : (types : Entries EntityType ValidatorEntityType) → AreDeclaredEntityTypes bag given types.entries
         → AreActionsOf bag given actions types known
     actions_of types declared = record {
       actions = is_actions;

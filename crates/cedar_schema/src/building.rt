@@ -33,32 +33,32 @@ use cedar_fragments::namespace::ValidatorSchemaFragment;
 use cedar_names::json_schema::{ConditionalName, Type};
 use cedar_resolution::{Declarations, Resolved, collect_declarations, resolve_fragments};
 use cedar_schema_elements::{ValidatorActionId, ValidatorEntityType, action_entities};
+use cedar_table::Table;
 use std::alloc::Global;
-use std::collections::BTreeMap;
 
 /// What a schema holds: its entity types and its actions, each under its name, and the entities of
 /// its actions.
 #[derive(Debug, Drop)]
 pub(crate) struct SchemaParts {
     /// The entity types, each with all its descendants.
-    pub(crate) entity_types: BTreeMap<EntityType, ValidatorEntityType>,
+    pub(crate) entity_types: Table<EntityType, ValidatorEntityType>,
     /// The actions, each with all its descendants.
-    pub(crate) actions: BTreeMap<EntityUID, ValidatorActionId>,
+    pub(crate) actions: Table<EntityUID, ValidatorActionId>,
     /// The entities of the actions that are defined, each below all its ancestors.
     pub(crate) action_entities: Entities,
     /// The common types and namespaces of the fragments, with where these were written.
     pub(crate) located: Located,
 }
 
-/// That the names of entity types are sorted in their map.
-fn names_sorted(types: &BTreeMap<EntityType, ValidatorEntityType>)
+/// That the names of entity types are sorted in their table.
+fn names_sorted(types: &Table<EntityType, ValidatorEntityType>)
     ensures { IsStrictlySortedBy name_cmp (map type_name (keys_of types.now.entries)) }
 {
     let _keys = types.keys();
 }
 
-/// That the uids of actions are sorted in their map.
-fn uids_ascend(actions: &BTreeMap<EntityUID, ValidatorActionId>)
+/// That the uids of actions are sorted in their table.
+fn uids_ascend(actions: &Table<EntityUID, ValidatorActionId>)
     ensures { IsStrictlySortedBy uid_cmp (map uid_of (keys_of actions.now.entries)) }
 {
     let _keys = actions.keys();

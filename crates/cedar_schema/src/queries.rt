@@ -11,7 +11,6 @@ use cedar_schema_elements::{
     UnlinkedRequestEnv, ValidatorActionId, ValidatorEntityType, action_entities,
 };
 use cedar_types::Type;
-use cedar_validation::copied_actions;
 use std::alloc::Global;
 use std::collections::hash_set;
 
@@ -309,6 +308,6 @@ impl ValidatorSchema {
             (schema_with (schema_of self.now).entity_types (action_entries self.now)
             (entities_of entities))) }
     {
-        action_entities(alloc, &copied_actions(&self.action_ids)?)
+        action_entities(alloc, &self.action_ids)
     }
 }

@@ -154,14 +154,12 @@ impl ValidatorSchema {
             located,
         } = parts;
         let environments = environments(alloc, &actions)?;
-        let entity_types = Table::from_map(alloc, entity_types)?;
-        let action_ids = Table::from_map(alloc, actions)?;
         // That names and uids are in order is known from their iterators.
         let _names = entity_types.keys();
-        let _uids = action_ids.keys();
+        let _uids = actions.keys();
         Ok(ValidatorSchema {
             entity_types,
-            action_ids,
+            action_ids: actions,
             action_entities,
             environments,
             located,

@@ -13,6 +13,7 @@ ghost use Rattle.cedar_schema_elements.specs.Uppers.{IsUpper, upper_set};
 use crate::action_id::ValidatorActionId;
 use crate::uppers::{Uppers, upper_sets};
 use cedar_below::{Entities, Entity, EntityUID, M};
+use cedar_table::Table;
 use std::alloc::Global;
 use std::collections::{BTreeMap, BTreeSet};
 
@@ -43,7 +44,7 @@ fn action_entity(alloc: Global, uppers: &mut Uppers<EntityUID>, uid: &EntityUID)
 /// of memory is the only refusal.
 pub fn action_entities(
     alloc: Global,
-    actions: &BTreeMap<EntityUID, ValidatorActionId>,
+    actions: &Table<EntityUID, ValidatorActionId>,
 ) -> M<Entities>
     ensures { IfOk result (λ entities. (types : List (PlainName × SchemaEntityType))
         → AreActionEntities (schema_with types actions.now.entries (entities_of entities))) }

@@ -18,8 +18,9 @@ use crate::action_id::ValidatorActionId;
 use crate::request_env::UnlinkedRequestEnv;
 use cedar_below::{EntityType, EntityUID, M};
 use cedar_types::Type;
+use cedar_table::Table;
 use std::alloc::Global;
-use std::collections::{BTreeMap, hash_set};
+use std::collections::hash_set;
 use std::rc::Rc;
 
 /// What the environments of an action share.
@@ -114,7 +115,7 @@ fn add_principals(
 /// of memory is the only refusal.
 pub fn environments(
     alloc: Global,
-    actions: &BTreeMap<EntityUID, ValidatorActionId>,
+    actions: &Table<EntityUID, ValidatorActionId>,
 ) -> M<Vec<UnlinkedRequestEnv>>
     ensures { IfOk result (λ environments.
         (types : List (PlainName × SchemaEntityType)) (entities : List ActionEntity)

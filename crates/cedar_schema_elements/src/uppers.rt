@@ -5,6 +5,7 @@ ghost use Rattle.cedar_schema_elements.specs.Uppers.{IsUpper, ListsBelow};
 
 use crate::schema_node::SchemaNode;
 use cedar_below::M;
+use cedar_table::Table;
 use std::alloc::Global;
 use std::collections::{BTreeMap, BTreeSet};
 use std::hash::Hash;
@@ -60,7 +61,7 @@ fn add_uppers<K: Ord + Hash + Drop, V: SchemaNode<K>>(
 /// memory is the only refusal.
 pub fn upper_sets<K: Ord + Hash + Drop, V: SchemaNode<K>>(
     alloc: Global,
-    nodes: &BTreeMap<K, V>,
+    nodes: &Table<K, V>,
 ) -> M<Uppers<K>>
     ensures { IfOk result (λ uppers.
         (key : K) (above : V.Name) → IsUpper K.cmp V.key_name uppers key above

@@ -16,5 +16,4 @@ mod known;
 mod names;
 mod parents;
 mod types;
-mod uppers;
 mod write_back_fault;

@@ -11,14 +11,14 @@ use cedar_below::M;
 use std::collections::BTreeMap;
 use std::hash::Hash;
 
-/// A map of the copies of the entries of a table, in their order. The copy of a key has to tie with
+/// A table of the copies of the entries of a table, in their order. The copy of a key has to tie with
 /// it.
-pub fn copied_entries<
+pub fn copied_table<
     K: Ord + Hash + Drop,
     V: Drop,
     F: Fn(&K) -> M<K> + Drop,
     G: Fn(&V) -> M<V> + Drop,
->(table: &Table<K, V>, copy_key: F, copy_value: G) -> M<BTreeMap<K, V>>
+>(table: &Table<K, V>, copy_key: F, copy_value: G) -> M<Table<K, V>>
     requires key_callable { F.IsAlwaysCallable copy_key }
     requires value_callable { G.IsAlwaysCallable copy_value }
     requires ties { (key : K) (answer : Result K Memory) → FnReturnsAt F.Fn copy_key key answer
@@ -27,9 +27,10 @@ pub fn copied_entries<
         HoldsPairwise (λ entry other. FnReturnsAt F.Fn copy_key entry.0 (Ok other.0)
         × FnReturnsAt G.Fn copy_value entry.1 (Ok other.1)) table.now.entries copies.entries) }
 {
-    let mut copies = BTreeMap::new(*table.allocator());
+    let alloc = *table.allocator();
+    let mut copies = BTreeMap::new(alloc);
     for (key, value) in table {
         copies.insert(copy_key(key)?, copy_value(value)?)?;
     }
-    Ok(copies)
+    Ok(Table::from_map(alloc, copies)?)
 }

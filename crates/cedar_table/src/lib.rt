@@ -4,7 +4,7 @@
 //! the list alone.
 #![tactic(auto)]
 
-pub use copying::copied_entries;
+pub use copying::copied_table;
 pub use iter::{Iter, Keys, Values};
 pub use table::Table;
 pub use table_keys::TableKeys;

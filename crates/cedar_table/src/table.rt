@@ -90,7 +90,7 @@ impl<K: Ord + Hash, V> Table<K, V> {
 }
 
 impl<K: Ord + Hash + Drop, V: Drop> Table<K, V> {
-    ghost use Rattle.std.specs.Prelude.{◌≡◌, IfOk, length};
+    ghost use Rattle.std.specs.Prelude.{◌≡◌, IfOk, OnOk, length};
     ghost use Rattle.std.specs.List.{zip};
     ghost use Rattle.std.specs.List.Sorted.{IsStrictlySortedBy};
     ghost use Rattle.std.specs.Map.{keys_of, values_of};
@@ -122,6 +122,7 @@ impl<K: Ord + Hash + Drop, V: Drop> Table<K, V> {
     /// The keys, as they are hinted, and the values at their places. Out of memory is the only
     /// refusal.
     pub fn into_parts(self, alloc: Global) -> M<(TableKeys<K>, Vec<V>)>
+        ensures sorted { OnOk result (IsStrictlySortedBy K.cmp (keys_of self.entries)) }
         ensures keys { IfOk result (λ parts. parts.0 ≡ keys_of self.entries) }
         ensures values { IfOk result (λ parts. parts.1.items ≡ values_of self.entries) }
     {

@@ -37,8 +37,8 @@ impl<K: Ord + Hash> TableKeys<K> {
     ghost use Rattle.std.specs.Prelude.{◌≡◌};
 
     /// The keys, in their order.
-    pub fn as_slice(&self) -> &[K]
-        ensures { result.now ≡ self.now }
+    pub fn as_vec(&self) -> &Vec<K>
+        ensures { result.now.items ≡ self.now }
     {
         &self.keys
     }

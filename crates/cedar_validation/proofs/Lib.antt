@@ -9,7 +9,6 @@ mod KnownLemmas
 mod LastLemmas
 mod ListedEntries
 mod MentionLemmas
-mod MovedTables
 pub mod Pairwise
 mod RequestTypeLemmas
 mod Results

@@ -16,8 +16,8 @@ module _ {K V P Q : Type 0} (under : K → P) (below : V → List P) (plain : K 
   Lists lower upper = (it : Q) × Contains (map plain entries) (upper, it) × Contains (listed it) lower
 
   -- what an entry lists its plain data list
-  there : (lower upper : P) → ListsIn under below entries lower upper → Lists lower upper
-  there lower upper step =
+  pub lists_plain : (lower upper : P) → ListsIn under below entries lower upper → Lists lower upper
+  lists_plain lower upper step =
       let it = (plain step.0).1 in
       (it, rw (keyed step.0 ∙ step.2) at (Contains-image plain entries step.0 step.1), rw (sym (lists step.0)) at step.3)
 
@@ -34,7 +34,7 @@ module _ {K V P Q : Type 0} (under : K → P) (below : V → List P) (plain : K 
   -- so chains of both lead to the same names
   pub leads_alike : (lower upper : P) → LeadsTo under below entries lower upper ↔ Chain Lists lower upper
   leads_alike lower upper = (
-    λ chain. refined (λ k l step. one (there k l step)) chain,
+    λ chain. refined (λ k l step. one (lists_plain k l step)) chain,
     λ chain. refined (λ k l step. one (here k l step)) chain,
   )
 
@@ -51,3 +51,12 @@ module _ {K V P Q : Type 0} (under : K → P) (below : V → List P) (plain : K 
       let leads = leads_alike lower (under it.0) in
       (λ listed. leads.0 ((is.below_it lower).0 listed), λ chain. (is.below_it lower).1 (leads.1 chain))))
       entries closed turn)
+
+-- a name that no entry has is none of those of the plain data
+pub none_plain : {K V P Q : Type 0} (under : K → P) (plain : K × V → P × Q) → ((e : K × V) → (plain e).0 ≡ under e.0)
+    → (entries : List (K × V)) (name : P) → ¬ ((entry : K × V) × Contains entries entry × (under entry.0 ≡ name))
+    → ¬ Contains (map (λ (it : P × Q). it.0) (map plain entries)) name
+none_plain {P = P} {Q = Q} under plain keyed entries name none among =
+    let it = Contains-preimage (λ (it : P × Q). it.0) (map plain entries) name among in
+    let entry = Contains-preimage plain entries it.0 it.1 in
+    none (entry.0, entry.1, sym (keyed entry.0) ∙ (ap (λ (it : P × Q). it.0) entry.2 ∙ it.2))

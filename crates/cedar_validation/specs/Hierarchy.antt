@@ -1,6 +1,5 @@
 -- What is refused of entity types one below the other.
 use Rattle.std.specs.Prelude.{◌≡◌, ◌⊎◌, Contains, Some}
-use Rattle.std.specs.BTreeMap.{get}
 use Rattle.cedar_below.specs.EntityType.{type_name}
 use Rattle.cedar_below.specs.PlainName.{PlainName}
 use Rattle.cedar_below.specs.contracts.entity_type.EntityTypeOrd.TheImpl as entity_type_ord
@@ -11,6 +10,7 @@ use Rattle.cedar_declarations.specs.PlainSchema.{PlainSchema}
 use Rattle.cedar_declarations.specs.ValidSchema.{HasEntityType, IsEnumerated, IsExternal, IsOfKind}
 use Rattle.cedar_schema_elements.specs.ValidatorEntityType.{entity_type_of}
 use Rattle.cedar_schema_elements.specs.declared.entity_type.ValidatorEntityType.{ValidatorEntityType}
+use Rattle.cedar_table.specs.Entries.{get_by}
 use Rattle.cedar_validation.specs.declared.parts.Parts.{Parts}
 
 -- the lower kind isn't enumerated, and isn't external where the upper is enumerated
@@ -26,7 +26,7 @@ IsKindFault lower kind upper above fault =
 
 -- the entity type stands under the name
 abbrev pub StandsAt : Parts → EntityType → ValidatorEntityType → Type 0
-StandsAt parts name it = get ((entity_type_ord.ghosts).cmp) parts.entity_types name ≡ Some it
+StandsAt parts name it = get_by ((entity_type_ord.ghosts).cmp name) parts.entity_types ≡ Some it
 
 -- each descendant that stands under its name is of a kind that may stand below
 abbrev pub IsBelowSound : Parts → ValidatorEntityType → Type 0

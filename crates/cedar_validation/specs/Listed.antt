@@ -1,7 +1,9 @@
 -- What the nodes under the keys of a map list by name, and the same nodes with all that chains of
 -- these lead to.
-use Rattle.std.specs.Prelude.{◌≡◌, ◌↔◌, Contains, List}
+use Rattle.std.specs.Prelude.{◌≡◌, ◌↔◌, Bool, Contains, IsTrue, List, ⊤}
 use Rattle.cedar_below.specs.Chain.{Chain}
+use Rattle.cedar_graph.specs.declared.table_fault.TableFault.{TableFault}
+use Rattle.cedar_graph.specs.declared.table_fault.TableFault.TheVariants.{HasCycle, Lacks, Memory}
 
 module _ {K V P : Type 0} (under : K → P) (below : V → List P) (entries : List (K × V)) where
   -- an entry of the second name lists the first
@@ -12,6 +14,16 @@ module _ {K V P : Type 0} (under : K → P) (below : V → List P) (entries : Li
   -- one or more steps of what is listed lead from the second name to the first
   abbrev pub LeadsTo : P → P → Type 0
   LeadsTo = Chain ListsIn
+
+module _ {K V P : Type 0} (under : K → P) (below : V → List P) (entries : List (K × V)) where
+  -- why what is listed can't be closed: a name leads back to itself where none may, or one is listed
+  -- that no entry has; an answer of memory says nothing
+  abbrev pub IsListFault : Bool → TableFault K → Type 0
+  IsListFault enforce_dag (HasCycle key) =
+      IsTrue enforce_dag × LeadsTo under below entries (under key) (under key)
+  IsListFault enforce_dag (Lacks key) = ((upper : P) × ListsIn under below entries (under key) upper)
+      × ¬ ((entry : K × V) × Contains entries entry × (under entry.0 ≡ under key))
+  IsListFault enforce_dag Memory = ⊤
 
 -- the entries have one name and are alike, and the second lists just what chains lead to from that
 -- name

@@ -1,7 +1,8 @@
 -- The entity types and the actions of a schema as plain data, and what is made sure of them.
-use Rattle.std.specs.Prelude.{◌≡◌, ◌⊎◌, List, [], map}
+use Rattle.std.specs.Prelude.{◌≡◌, ◌⊎◌, ◌∷◌, List, [], map}
 use Rattle.cedar_schema_elements.specs.declared.action_id.ValidatorActionId.{ValidatorActionId}
 use Rattle.cedar_below.specs.Chain.{Chain}
+use Rattle.cedar_below.specs.EntityType.{type_name}
 use Rattle.cedar_below.specs.EntityUID.{uid_of}
 use Rattle.cedar_below.specs.PlainName.{PlainName}
 use Rattle.cedar_below.specs.PlainUid.{PlainUid}
@@ -9,9 +10,9 @@ use Rattle.cedar_below.specs.declared.entity.Entity.{Entity}
 use Rattle.cedar_below.specs.declared.entity_type.EntityType.{EntityType}
 use Rattle.cedar_below.specs.declared.entity_uid.EntityUID.{EntityUID}
 use Rattle.cedar_below.specs.declared.extension.Extensions.{Extensions}
-use Rattle.cedar_graph.specs.declared.tc_error.TcError.{TcError}
-use Rattle.cedar_graph.specs.declared.tc_error.TcError.TheVariants as refused
-use Rattle.cedar_declarations.specs.Fault.{Fault, action_cycle, out_of_memory}
+use Rattle.cedar_graph.specs.declared.table_fault.TableFault.{TableFault}
+use Rattle.cedar_graph.specs.declared.table_fault.TableFault.TheVariants as refused
+use Rattle.cedar_declarations.specs.Fault.{Fault, action_cycle, out_of_memory, undeclared_action_descendant, undeclared_entity_types}
 use Rattle.cedar_declarations.specs.PlainSchema.{PlainSchema}
 use Rattle.cedar_declarations.specs.ValidSchema.{IsSchemaFault, ListsDescendant, ListsDescendantAction}
 use Rattle.cedar_schema_elements.specs.ActionEntities.{schema_with}
@@ -40,7 +41,14 @@ pub record IsClosed (schema : PlainSchema) : Type 0 where
       → ListsDescendant schema lower upper
   pub acyclic : (uid : PlainUid) → ¬ Chain (ListsDescendantAction schema) uid uid
 
--- why a graph of actions is refused, as plain data
-abbrev pub graph_fault : TcError EntityUID → Fault
-graph_fault (refused.HasCycle key) = action_cycle (uid_of key)
-graph_fault refused.Memory = out_of_memory
+-- why the descendants of entity types can't be closed, as plain data; that an entity type is on a
+-- cycle is no reason
+abbrev pub type_graph_fault : TableFault EntityType → Fault
+type_graph_fault (refused.Lacks key) = undeclared_entity_types (type_name key ∷ [])
+type_graph_fault _ = out_of_memory
+
+-- why those of actions can't
+abbrev pub action_graph_fault : TableFault EntityUID → Fault
+action_graph_fault (refused.HasCycle key) = action_cycle (uid_of key)
+action_graph_fault (refused.Lacks key) = undeclared_action_descendant (uid_of key)
+action_graph_fault refused.Memory = out_of_memory

@@ -16,7 +16,8 @@ use crate::known::Known;
 use cedar_declarations::SchemaError;
 use cedar_schema_elements::{ValidatorActionId, ValidatorEntityType};
 use cedar_types::{Attributes, Type};
-use std::collections::BTreeMap;
+use cedar_table::Table;
+use std::hash::Hash;
 
 /// Refuses a type in which an entity type or an extension type stands that isn't known.
 #[cycle(mentions)]
@@ -86,8 +87,11 @@ impl Typed for ValidatorActionId {
     }
 }
 
-/// Checks what the types in each value of a map mention.
-fn check_each<K: Ord, V: Typed>(known: &Known, typed: &BTreeMap<K, V>) -> Result<(), SchemaError>
+/// Checks what the types in each value of a table mention.
+fn check_each<K: Ord + Hash, V: Typed>(
+    known: &Known,
+    typed: &Table<K, V>,
+) -> Result<(), SchemaError>
     ensures sound { OnOk result ((entry : K × V) → Contains typed.now.entries entry → (of : Ty)
         → V.HasType entry.1 of
         → IsKnownThroughout known.now of) }

@@ -1,7 +1,6 @@
 //! Entity types and actions put under their names.
 
 ghost use Rattle.std.specs.Prelude.{◌≡◌, Contains, IfOk};
-ghost use Rattle.std.specs.BTreeMap.{get_by};
 ghost use Rattle.std.specs.Ordering.{is_eq};
 ghost use Rattle.cedar_schema_elements.specs.ValidatorActionId.{action_of};
 ghost use Rattle.cedar_schema_elements.specs.declared.action_id.ValidatorActionId.{ValidatorActionId as ActionOfSchema};
@@ -15,11 +14,13 @@ ghost use Rattle.cedar_schema_elements.specs.ValidatorActionId as action_specs;
 ghost use Rattle.cedar_schema_elements.specs.ValidatorEntityType as type_specs;
 ghost use Rattle.cedar_schema_elements.specs.ValidatorEntityType.{entity_type_of};
 ghost use Rattle.cedar_schema_elements.specs.declared.entity_type.ValidatorEntityType.{ValidatorEntityType as EntityTypeOfSchema};
+ghost use Rattle.cedar_table.specs.Entries.{get_by};
 ghost use Rattle.cedar_validation.specs.LastNamed.{last_named, last_of_uid, last_that};
 
 use crate::parts::{Actions, Types};
 use cedar_below::{EntityType, EntityUID, M};
 use cedar_schema_elements::{SchemaNode, ValidatorActionId, ValidatorEntityType};
+use cedar_table::Table;
 use std::alloc::Global;
 use std::collections::BTreeMap;
 use std::hash::Hash;
@@ -29,7 +30,7 @@ use std::hash::Hash;
 fn by_name<K: Ord + Hash + Drop, V: SchemaNode<K> + Drop>(
     alloc: Global,
     nodes: Vec<V>,
-) -> M<BTreeMap<K, V>>
+) -> M<Table<K, V>>
     ensures last { IfOk result (λ named. (name : K)
         → get_by (λ key. V.name_order (V.key_name name) (V.key_name key)) named
         ≡ last_that (λ it. is_eq (V.name_order (V.key_name name) (V.node_name it))) nodes.items) }
@@ -45,7 +46,7 @@ fn by_name<K: Ord + Hash + Drop, V: SchemaNode<K> + Drop>(
         let _earlier = named.remove(&name);
         named.insert(name, node)?;
     }
-    Ok(named)
+    Ok(Table::from_map(alloc, named)?)
 }
 
 /// The entity types, each under its name; of those of one name the last. Out of memory is the

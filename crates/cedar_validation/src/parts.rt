@@ -2,13 +2,13 @@
 
 use cedar_below::{EntityType, EntityUID};
 use cedar_schema_elements::{ValidatorActionId, ValidatorEntityType};
-use std::collections::BTreeMap;
+use cedar_table::Table;
 
 /// Entity types, each under its name.
-pub(crate) type Types = BTreeMap<EntityType, ValidatorEntityType>;
+pub(crate) type Types = Table<EntityType, ValidatorEntityType>;
 
 /// Actions, each under its uid.
-pub(crate) type Actions = BTreeMap<EntityUID, ValidatorActionId>;
+pub(crate) type Actions = Table<EntityUID, ValidatorActionId>;
 
 /// The entity types and the actions of a schema.
 #[derive(Drop)]

@@ -1,7 +1,6 @@
 //! What is refused of principals, resources and descendants that are named.
 
 ghost use Rattle.std.specs.Prelude.{◌≡◌, ◌⊎◌, [], ◌∷◌, Contains, IfErr, OnOk, map};
-ghost use Rattle.std.specs.BTreeMap.{ContainsKey};
 ghost use Rattle.std.specs.Option.{MatchOption};
 ghost use Rattle.cedar_schema_elements.specs.ValidatorActionId.{action_of};
 ghost use Rattle.cedar_below.specs.EntityType.{type_name};
@@ -12,6 +11,7 @@ ghost use Rattle.cedar_declarations.specs.PlainSchema.{SchemaAction};
 ghost use Rattle.cedar_declarations.specs.SchemaError.{fault_of};
 ghost use Rattle.cedar_declarations.specs.ValidSchema.{HasAction, HasEntityType};
 ghost use Rattle.cedar_validation.specs.Parts.{IsRefusal, plain_parts};
+ghost use Rattle.cedar_table.specs.Entries.{HasKey};
 ghost use Rattle.cedar_validation.specs.RequestTypes.{ArePlaced, IsMisplaced};
 
 use crate::known::undeclared;
@@ -19,14 +19,15 @@ use crate::parts::Parts;
 use cedar_below::EntityType;
 use cedar_declarations::SchemaError;
 use cedar_schema_elements::ValidatorActionId;
+use cedar_table::Table;
 use std::alloc::Global;
-use std::collections::{BTreeMap, hash_set};
+use std::collections::hash_set;
+use std::hash::Hash;
 
 /// The first of some keys under which nothing stands in a map.
-fn missing<'a, K: Ord, V>(map: &BTreeMap<K, V>, keys: hash_set::Iter<'a, K>) -> Option<&'a K>
-    ensures { MatchOption result ((key : K) → Contains keys.entry key
-        → ContainsKey K.cmp map.now key)
-        (λ key. Contains keys.entry key.now × ¬ ContainsKey K.cmp map.now key.now) }
+fn missing<'a, K: Ord + Hash, V>(map: &Table<K, V>, keys: hash_set::Iter<'a, K>) -> Option<&'a K>
+    ensures { MatchOption result ((key : K) → Contains keys.entry key → HasKey K.cmp map.now key)
+        (λ key. Contains keys.entry key.now × ¬ HasKey K.cmp map.now key.now) }
 {
     for key in keys {
         if !map.contains_key(key) {

@@ -26,15 +26,14 @@ use cedar_declarations::SchemaError;
 use cedar_schema_elements::{ValidatorActionId, ValidatorEntityType, action_entities};
 use cedar_table::Table;
 use std::alloc::Global;
-use std::collections::BTreeMap;
 
 /// The parts of a schema that is valid, with all its descendants.
 #[derive(Drop)]
 pub struct Validated {
     /// The entity types, each under its name.
-    pub entity_types: BTreeMap<EntityType, ValidatorEntityType>,
+    pub entity_types: Table<EntityType, ValidatorEntityType>,
     /// The actions, each under its uid.
-    pub actions: BTreeMap<EntityUID, ValidatorActionId>,
+    pub actions: Table<EntityUID, ValidatorActionId>,
     /// The entities of the actions.
     pub action_entities: Entities,
 }

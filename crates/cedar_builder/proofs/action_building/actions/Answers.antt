@@ -1,4 +1,4 @@
-use Rattle.std.proofs.Common.{map, ap, ◌∙◌}
+use Rattle.std.proofs.Common.{map, ap, sym, ◌∙◌}
 use Rattle.cedar_below.specs.EntityUID.{uid_of}
 use Rattle.cedar_below.proofs.Uids.{entity_uid_eq-same, entity_uid_ord-Equal}
 use Rattle.cedar_below.specs.contracts.entity_uid.EntityUIDEq.TheImpl as uid_equal
@@ -22,16 +22,16 @@ returns-clause-declared c = λ bag extensions ready.
     let before = c.in_ok-nodes.nodes in
     let edges = c.in_ok-edges.edges.items in
     let after = c.in_ok-linked.linked in
-    let actions = c.in_ok-into_btree_map.field-0 in
-    let made = c.in_ok-into_btree_map.ensures.moved in
-    let unique = c.in_ok-into_btree_map.ensures.unique in
+    let actions = c.in_ok-in_order.in_order in
+    let made = c.in_ok-in_order.ensures.moved in
+    let unique = c.in_ok-in_order.ensures.unique in
     let collected = c.in_ok-nodes.ensures.collected in
     let once = c.in_ok-nodes.ensures.once in
     let are : AreEdges declared edges =
     c.in_ok-edges.ensures.edges ∙ ap (λ items. parents_in (map listed items)) c.deref.ensures.value in
     let linked =
     c.in_ok-linked.ensures.linked (ready_to_link bag extensions declared types scope ready before collected once edges are) in
-    record {
+    rw (sym c.in_ok-from_map.ensures) at record {
       each = λ uid it among.
           declared_at bag extensions declared types scope ready before collected once edges are after linked uid it
           (entry_at_node (uid_ord.ghosts).cmp uid_equal.Laws.laws-law uid_of entity_uid_eq-same entity_uid_ord-Equal after unique actions made
@@ -90,5 +90,6 @@ returns-in_err-linked-clause-fault c =
 pub returns-clause-located : goal.returns-clause-located
 returns-clause-located c =
     let after = c.in_ok-linked.linked in
-    moved_each (uid_ord.ghosts).cmp (tests_tied uid_of entity_uid_eq-same entity_uid_ord-Equal) after c.in_ok-into_btree_map.ensures.unique c.in_ok-into_btree_map.field-0
-    c.in_ok-into_btree_map.ensures.entries IsLocatedAsKey (c.in_ok-linked.ensures.located c.in_ok-nodes.ensures.located)
+    rw (sym c.in_ok-from_map.ensures) at
+    (moved_each (uid_ord.ghosts).cmp (tests_tied uid_of entity_uid_eq-same entity_uid_ord-Equal) after c.in_ok-in_order.ensures.unique
+    c.in_ok-in_order.in_order c.in_ok-in_order.ensures.entries IsLocatedAsKey (c.in_ok-linked.ensures.located c.in_ok-nodes.ensures.located))

@@ -1,4 +1,4 @@
-use Rattle.std.proofs.Common.{map, ap, ◌∙◌}
+use Rattle.std.proofs.Common.{map, ap, sym, ◌∙◌}
 use Rattle.cedar_below.specs.EntityType.{type_name}
 use Rattle.cedar_below.proofs.Names.{entity_type_eq-same, entity_type_ord-Equal}
 use Rattle.cedar_below.specs.contracts.entity_type.EntityTypeEq.TheImpl as entity_type_equal
@@ -22,15 +22,15 @@ returns-clause-declared c = λ bag extensions ready.
     let before = c.in_ok-nodes.nodes in
     let edges = c.in_ok-edges.edges.items in
     let after = c.in_ok-linked.linked in
-    let types = c.in_ok-into_btree_map.field-0 in
-    let made = c.in_ok-into_btree_map.ensures.moved in
-    let unique = c.in_ok-into_btree_map.ensures.unique in
+    let types = c.in_ok-in_order.in_order in
+    let made = c.in_ok-in_order.ensures.moved in
+    let unique = c.in_ok-in_order.ensures.unique in
     let collected = c.in_ok-nodes.ensures.collected in
     let once = c.in_ok-nodes.ensures.once in
     let are : AreEdges declared edges =
     c.in_ok-edges.ensures.edges ∙ ap (λ items. parents_in (map listed items)) c.deref.ensures.value in
     let linked = c.in_ok-linked.ensures.linked (no_edges scope (collected_entities declared) before collected) in
-    record {
+    rw (sym c.in_ok-from_map.ensures) at record {
       each = λ ty it among. declared_at bag extensions declared scope ready before collected once edges are after linked ty it
           (entry_at_node (entity_type_ord.ghosts).cmp entity_type_equal.Laws.laws-law type_name entity_type_eq-same entity_type_ord-Equal
           after unique types made ty it among);
@@ -88,5 +88,6 @@ returns-in_err-linked-clause-fault c =
 pub returns-clause-located : goal.returns-clause-located
 returns-clause-located c =
     let after = c.in_ok-linked.linked in
-    moved_each (entity_type_ord.ghosts).cmp (tests_tied type_name entity_type_eq-same entity_type_ord-Equal) after c.in_ok-into_btree_map.ensures.unique c.in_ok-into_btree_map.field-0
-    c.in_ok-into_btree_map.ensures.entries IsLocatedAsKey (c.in_ok-linked.ensures.located c.in_ok-nodes.ensures.located)
+    rw (sym c.in_ok-from_map.ensures) at
+    (moved_each (entity_type_ord.ghosts).cmp (tests_tied type_name entity_type_eq-same entity_type_ord-Equal) after c.in_ok-in_order.ensures.unique c.in_ok-in_order.in_order
+    c.in_ok-in_order.ensures.entries IsLocatedAsKey (c.in_ok-linked.ensures.located c.in_ok-nodes.ensures.located))

@@ -1,5 +1,5 @@
 use Rattle.std.proofs.Common.{◌≡◌, ◌⊎◌, map, refl}
-use Rattle.std.specs.BTreeMap.{BTreeMap}
+use Rattle.cedar_table.specs.Entries.{Entries}
 use Rattle.std.proofs.lemmas.Result.{err_from_is_err_and}
 use Rattle.cedar_below.specs.Entities.{entities_of}
 use Rattle.cedar_below.specs.declared.entity_type.EntityType.{EntityType}
@@ -59,7 +59,7 @@ module _ (c : After-entity_type_names-names) (over : IsResolved c) where
         collected.actions.items declared.common declared.entities declared.actions known names extensions written sound
 
     -- and its actions, over its entity types
-    acting_here : (types : BTreeMap EntityType ValidatorEntityType)
+    acting_here : (types : Entries EntityType ValidatorEntityType)
         → AreDeclaredEntityTypes (resolved_bag c.args.fragments.items) c.args.extensions.now types.entries
         → AreActionsOf (resolved_bag c.args.fragments.items) c.args.extensions.now c.in_ok-common_types.field-0.actions.items types known
     acting_here =

@@ -13,7 +13,7 @@ loop-uid-init c =
     let actions = c.args.actions.now.entries in (
       entities_none actions _ c.new-entities.result c.into_iter-uid-iterator.ensures.into_iter_gives.0 c.new-entities.ensures,
       left_all actions _ _ c.into_iter-uid-iterator.ensures.into_iter_gives.0
-          (uids_once actions c.into_iter-uid-iterator.ensures.into_iter_gives.5) c.in_ok-uppers.ensures,
+          (uids_once actions c.into_iter-uid-iterator.ensures.into_iter_gives.1) c.in_ok-uppers.ensures,
     )
 
 pub loop-uid-preserved : goal.loop-uid-preserved

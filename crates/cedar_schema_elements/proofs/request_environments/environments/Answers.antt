@@ -19,7 +19,7 @@ loop-uid-init c =
     given_none environments_under under [] (map plain_action_entry c.args.actions.now.entries) _ _
     (ap (map plain_action_entry) c.into_iter-uid-iterator.ensures.into_iter_gives.0)
     (ap (map owned_environment) c.new-environments.ensures.items)
-    (uids_once c.args.actions.now.entries c.into_iter-uid-iterator.ensures.into_iter_gives.5)
+    (uids_once c.args.actions.now.entries c.into_iter-uid-iterator.ensures.into_iter_gives.1)
 
 -- an action that is defined gives each pair of its principals and resources
 pub loop-uid-preserved-in-Some-context : goal.loop-uid-preserved-in-Some-context

@@ -1,7 +1,11 @@
-use Rattle.std.proofs.lemmas.Result.{err_from_is_err_and}
-use Rattle.cedar_graph.proofs.MovedMaps.{each_alike, moved_each, tests_tied}
-use Rattle.cedar_validation.proofs.MovedTables.{hashed_each}
-use Rattle.cedar_validation.proofs.Graphs.{Graph, closed_in_turn, none_on_cycle, refused_by_name}
+use Rattle.std.proofs.Common.{Contains, sym}
+use Rattle.std.proofs.lemmas.Result.{IfErr-weaker, IfOk-weaker, on_ok_weaker}
+use Rattle.cedar_below.proofs.TurnLemmas.{turn_weaker}
+use Rattle.cedar_below.specs.Lists.{HoldsPairwise}
+use Rattle.cedar_graph.specs.Tables.{HasEntry, IsClosedTo, IsTableFault, StepsTo}
+use Rattle.cedar_validation.proofs.Graphs.{Graph, closed_by_name, none_on_cycle, refused_by_name}
+use Rattle.cedar_validation.proofs.Pairwise.{pairwise_back}
+use Rattle.cedar_validation.specs.Listed.{IsClosedOf, IsListFault}
 use Rattle.cedar_validation.proofs.closing.closed_nodes.Given.{Over}
 use Rattle.cedar_validation.proofs.closing.closed_nodes.Goals as goal
 
@@ -9,47 +13,48 @@ use Rattle.cedar_validation.proofs.closing.closed_nodes.Goals as goal
 abbrev graph : (g : Over) → Graph g.row.K.Denot g.row.V.Denot g.V.SchemaNode.Name
 graph g = record {
   eq = g.K.PartialEq.eq;
-  cmp = g.K.Ord.cmp;
-  plain_cmp = g.V.SchemaNode.name_order;
   under = g.V.SchemaNode.key_name;
   below = g.V.SchemaNode.below;
   has_edge = g.V.TCNode.has_edge;
   is_alike = g.V.TCNode.is_alike;
   laws = g.met.K.Eq.laws;
-  plain_total = g.met.V.SchemaNode.order_total;
   same = g.met.V.SchemaNode.same_key;
-  ties = g.met.V.SchemaNode.key_order;
-  tied = tests_tied g.V.SchemaNode.key_name g.met.V.SchemaNode.same_key g.met.V.SchemaNode.tied_key;
   edge = g.met.V.SchemaNode.edge_below;
   key_below = g.met.V.SchemaNode.below_key;
 }
 
-pub returns-in_err-compute_tc-clause-fault : goal.returns-in_err-compute_tc-clause-fault
-returns-in_err-compute_tc-clause-fault g c =
-    let refused =
-    refused_by_name (graph g) c.args.nodes.entries c.in_ok-hashed.ensures.ordered c.in_ok-hashed.hashed c.in_ok-hashed.ensures.moved
-    c.args.enforce_dag c.in_err-compute_tc.field-0.0 c.in_err-compute_tc.ensures.fault in
-    let p = err_from_is_err_and c.from_residual-in_err-compute_tc.result c.from_residual-in_err-compute_tc.ensures.1 in
-    rw (p.1, p.2) refused
+pub returns-clause-fault : goal.returns-clause-fault
+returns-clause-fault g c =
+    let entries = c.args.nodes.entries in
+    IfErr-weaker c.close_table.result
+    (IsTableFault (StepsTo (graph g).eq (graph g).has_edge entries) (HasEntry (graph g).eq entries) c.args.enforce_dag)
+    (IsListFault (graph g).under (graph g).below entries c.args.enforce_dag)
+    (refused_by_name (graph g) entries c.args.enforce_dag) c.close_table.ensures.fault
 
 pub returns-clause-closed : goal.returns-clause-closed
 returns-clause-closed g c =
-    closed_in_turn (graph g) c.args.nodes.entries c.in_ok-hashed.ensures.ordered c.in_ok-hashed.hashed c.in_ok-hashed.ensures.moved
-    c.compute_tc.new.nodes c.compute_tc.ensures.alike c.compute_tc.ensures.sound c.in_ok-compute_tc.ensures.complete
-    c.in_ok-into_btree_map.ensures.unique c.in_ok-into_btree_map.field-0 c.in_ok-into_btree_map.ensures.moved
+    let entries = c.args.nodes.entries in
+    let Steps = StepsTo (graph g).eq (graph g).has_edge entries in
+    let Closed = IsClosedTo (graph g).has_edge (graph g).is_alike Steps in
+    let Of = IsClosedOf (graph g).under (graph g).below (graph g).is_alike entries in
+    IfOk-weaker c.close_table.result (λ closed. HoldsPairwise Closed entries closed.entries)
+    (λ closed. HoldsPairwise Of entries closed.entries)
+    (λ closed. turn_weaker Closed Of (closed_by_name (graph g) entries) entries closed.entries) c.close_table.ensures.closed
 
 pub returns-clause-acyclic : goal.returns-clause-acyclic
-returns-clause-acyclic g c = λ enforced.
-    none_on_cycle (graph g) c.args.nodes.entries c.in_ok-hashed.ensures.ordered c.in_ok-hashed.hashed c.in_ok-hashed.ensures.moved
-    (c.in_ok-compute_tc.ensures.acyclic enforced)
+returns-clause-acyclic g c =
+    on_ok_weaker c.close_table.result (λ none enforced. none_on_cycle (graph g) c.args.nodes.entries (none enforced))
+    c.close_table.ensures.acyclic
 
 pub returns-clause-located : goal.returns-clause-located
-returns-clause-located g c = λ located.
-    let before = c.in_ok-hashed.hashed in
-    let after = c.compute_tc.new.nodes in
-    let At : g.row.K.Denot × g.row.V.Denot → Type 0 = λ entry. g.V.SchemaNode.IsLocatedAs entry.0 entry.1 in
-    moved_each (graph g).cmp (graph g).tied after c.in_ok-into_btree_map.ensures.unique c.in_ok-into_btree_map.field-0
-    c.in_ok-into_btree_map.ensures.entries At
-    (each_alike (graph g).laws (graph g).is_alike g.V.SchemaNode.IsLocatedAs g.met.V.SchemaNode.alike_located before after
-    c.in_ok-hashed.ensures.moved.1 c.compute_tc.ensures.keys c.compute_tc.ensures.alike
-    (hashed_each (graph g).cmp (graph g).tied c.args.nodes.entries c.in_ok-hashed.ensures.ordered before c.in_ok-hashed.ensures.entries At located))
+returns-clause-located g c =
+    let entries = c.args.nodes.entries in
+    let Closed = IsClosedTo (graph g).has_edge (graph g).is_alike (StepsTo (graph g).eq (graph g).has_edge entries) in
+    IfOk-weaker c.close_table.result (λ closed. HoldsPairwise Closed entries closed.entries)
+    (λ closed. ((it : _) → Contains entries it → g.V.SchemaNode.IsLocatedAs it.0 it.1)
+    → (it : _) → Contains closed.entries it → g.V.SchemaNode.IsLocatedAs it.0 it.1)
+    (λ closed turn located it among.
+    let before = pairwise_back Closed entries closed.entries turn it among in
+    rw (sym before.2.key) at
+    (g.met.V.SchemaNode.alike_located before.0.0 before.0.1 it.1 before.2.alike (located before.0 before.1)))
+    c.close_table.ensures.closed

@@ -9,13 +9,13 @@ use Rattle.cedar_below.proofs.TurnLemmas.{turn_weaker}
 use Rattle.cedar_validation.specs.Copies.{IsActionCopied}
 use Rattle.cedar_validation.proofs.copies.copied_actions.Goals as goal
 
-pub copied_entries-requires-clause-ties : goal.copied_entries-requires-clause-ties
-copied_entries-requires-clause-ties c key answer ran =
+pub copied_table-requires-clause-ties : goal.copied_table-requires-clause-ties
+copied_table-requires-clause-ties c key answer ran =
     copy_ties (entity_uid_ord.ghosts).cmp uid_of entity_uid_ord-Equal key ran.shown.now answer ran.shows ran.says.met.0
 
 pub returns : goal.returns
 returns c =
-    IfOk-weaker c.copied_entries.result _ _
+    IfOk-weaker c.copied_table.result _ _
     (λ copies turn.
     turn_weaker _ IsActionCopied
     (λ it copy ran.
@@ -33,4 +33,4 @@ returns c =
       loc = ran.1.says.met.1.1.1.1.1 ∙ ap action_loc ran.1.shows;
     })
     c.args.actions.now.entries copies.entries turn)
-    c.copied_entries.ensures
+    c.copied_table.ensures

@@ -10,13 +10,13 @@ use Rattle.cedar_types.specs.Located.{located_at}
 use Rattle.cedar_validation.specs.Copies.{IsTypeCopied}
 use Rattle.cedar_validation.proofs.copies.copied_types.Goals as goal
 
-pub copied_entries-requires-clause-ties : goal.copied_entries-requires-clause-ties
-copied_entries-requires-clause-ties c key answer ran =
+pub copied_table-requires-clause-ties : goal.copied_table-requires-clause-ties
+copied_table-requires-clause-ties c key answer ran =
     copy_ties (entity_type_ord.ghosts).cmp type_name entity_type_ord-Equal key ran.shown.now answer ran.shows ran.says.met.0
 
 pub returns : goal.returns
 returns c =
-    IfOk-weaker c.copied_entries.result _ _
+    IfOk-weaker c.copied_table.result _ _
     (λ copies turn.
     turn_weaker _ IsTypeCopied
     (λ it copy ran.
@@ -34,4 +34,4 @@ returns c =
       loc = ran.1.says.met.1.1.1.1 ∙ ap (λ each. each.loc) ran.1.shows;
     })
     c.args.types.now.entries copies.entries turn)
-    c.copied_entries.ensures
+    c.copied_table.ensures

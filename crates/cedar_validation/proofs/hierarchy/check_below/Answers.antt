@@ -1,6 +1,5 @@
 use Rattle.std.proofs.Common.{◌≡◌, ◌⊎◌, sym, ◌∙◌, None, Some, inl, inr}
 use Rattle.std.proofs.lemmas.Result.{err_from_is_err_and}
-use Rattle.std.specs.BTreeMap.{get}
 use Rattle.cedar_below.specs.EntityType.{type_name}
 use Rattle.cedar_below.specs.contracts.entity_type.EntityTypeOrd.TheImpl as entity_type_ord
 use Rattle.cedar_below.specs.declared.entity_type.EntityType.{EntityType}
@@ -8,6 +7,7 @@ use Rattle.cedar_declarations.specs.Fault.{out_of_memory}
 use Rattle.cedar_declarations.specs.SchemaError.{fault_of}
 use Rattle.cedar_schema_elements.specs.ValidatorEntityType.{entity_type_of}
 use Rattle.cedar_schema_elements.specs.declared.entity_type.ValidatorEntityType.{ValidatorEntityType}
+use Rattle.cedar_table.specs.Entries.{get_by}
 use Rattle.cedar_validation.proofs.Checking.{checking_all, checking_here, checking_more, checking_none}
 use Rattle.cedar_validation.specs.Hierarchy.{IsBelowFault, IsKindSound, StandsAt}
 use Rattle.cedar_validation.specs.declared.parts.Parts.{Parts}
@@ -32,7 +32,7 @@ pub loop-lower-preserved : goal.loop-lower-preserved
 loop-lower-preserved c =
     let parts = c.args.parts.now in
     let lower = c.in-Some.lower.now in
-    let none : get (entity_type_ord.ghosts).cmp parts.entity_types lower ≡ None = sym c.in-None-get.ensures.value in
+    let none : get_by ((entity_type_ord.ghosts).cmp lower) parts.entity_types ≡ None = sym c.in-None-get.ensures.value in
     checking_more (IsChecked parts c.args.above.now) c.args.above.now.descendants.keys _ _ lower c.in-Some.ensures.steps
     c.loop-lower.invariant (λ below stands. let e : None ≡ Some below = sym none ∙ stands in absurd cc)
 
@@ -40,7 +40,7 @@ pub loop-lower-preserved-in-Continue-1 : goal.loop-lower-preserved-in-Continue-1
 loop-lower-preserved-in-Continue-1 c =
     let parts = c.args.parts.now in
     let lower = c.in-Some.lower.now in
-    let found : get (entity_type_ord.ghosts).cmp parts.entity_types lower ≡ Some c.in-Some-get.below.now = sym c.in-Some-get.ensures.value in
+    let found : get_by ((entity_type_ord.ghosts).cmp lower) parts.entity_types ≡ Some c.in-Some-get.below.now = sym c.in-Some-get.ensures.value in
     checking_more (IsChecked parts c.args.above.now) c.args.above.now.descendants.keys _ _ lower c.in-Some.ensures.steps
     c.loop-lower.invariant
     (λ below stands.

@@ -44,6 +44,6 @@ returns-in_err-check_below-clause-fault c =
 
 pub returns-clause-sound : goal.returns-clause-sound
 returns-clause-sound c =
-    pair_sound c.args.parts.now c.into_iter-upper-iterator.ensures.into_iter_gives.5
+    pair_sound c.args.parts.now c.into_iter-upper-iterator.ensures.into_iter_gives.1
     (checking_all (IsCheckedBelow c.args.parts.now) c.args.parts.now.entity_types.entries _ c.in-None.ensures.steps.0
     c.loop-upper.invariant)

@@ -1,4 +1,4 @@
-use Rattle.std.proofs.Common.{◌≡◌, ap, sym, ◌∙◌}
+use Rattle.std.proofs.Common.{◌≡◌, Contains, ap, subst, sym, ◌∙◌}
 use Rattle.std.proofs.IntoIterSteps.{All-taken}
 use Rattle.std.specs.BTreeMap.{get_by, is_at}
 use Rattle.std.specs.Map.{lookup}
@@ -42,6 +42,15 @@ returns-clause-last g c = λ name.
     All-taken c.into_iter-node-iterator.result c.loop-node.yielded
     (c.next.new.self, (c.loop-node.node-iterator, c.loop-node.yielded_by, c.in-None.ensures.steps))
     ∙ c.into_iter-node-iterator.ensures.into_iter_gives.0 in
-    sym (ap (λ compare. get_by compare c.loop-node.named) (λ i key. g.met.V.SchemaNode.key_order name key i))
+    ap (λ entries. lookup (is_at (λ key. node.name_order (node.key_name name) (node.key_name key))) entries) c.in_ok-from_map.ensures
+    ∙ (sym (ap (λ compare. get_by compare c.loop-node.named) (λ i key. g.met.V.SchemaNode.key_order name key i))
     ∙ (c.loop-node.invariant.last name
-    ∙ ap (last_that (λ it. is_eq (node.name_order (node.key_name name) (node.node_name it)))) all)
+    ∙ ap (last_that (λ it. is_eq (node.name_order (node.key_name name) (node.node_name it)))) all))
+
+pub returns-clause-under_names : goal.returns-clause-under_names
+returns-clause-under_names g c = λ it among.
+    (c.loop-node.invariant.each it (subst (λ entries. Contains entries it) c.in_ok-from_map.ensures among)).0
+
+pub returns-clause-located : goal.returns-clause-located
+returns-clause-located g c = λ it among.
+    (c.loop-node.invariant.each it (subst (λ entries. Contains entries it) c.in_ok-from_map.ensures among)).1

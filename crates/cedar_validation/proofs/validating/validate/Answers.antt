@@ -1,14 +1,25 @@
-use Rattle.std.proofs.Common.{◌≡◌, ◌⊎◌, List, map, inl, inr, subst, sym}
+use Rattle.std.proofs.Common.{◌≡◌, ◌⊎◌, List, map, inl, inr}
 use Rattle.std.proofs.lemmas.Result.{err_from_is_err_and}
 use Rattle.cedar_below.specs.Entities.{entities_of}
 use Rattle.cedar_below.specs.declared.entity.Entity.{Entity}
-use Rattle.cedar_declarations.specs.Fault.{Fault, out_of_memory}
+use Rattle.cedar_declarations.specs.Fault.{out_of_memory}
 use Rattle.cedar_declarations.specs.SchemaError.{fault_of}
 use Rattle.cedar_declarations.specs.ValidSchema.{IsSchemaFault}
 use Rattle.cedar_schema_elements.specs.ValidatorEntityType.{plain_entry}
 use Rattle.cedar_validation.proofs.Validation.{closes_before, fault_before, valid_before}
 use Rattle.cedar_validation.specs.Parts.{plain_schema}
 use Rattle.cedar_validation.proofs.validating.validate.Goals as goal
+
+pub returns-in_err-closed_types-clause-fault : goal.returns-in_err-closed_types-clause-fault
+returns-in_err-closed_types-clause-fault c =
+    let actions = c.args.actions.entries in
+    let extensions = c.args.extensions.now in
+    let fault = fault_of c.in_err-closed_types.field-0.0 in
+    let at_fault : (entities : List Entity) → (fault ≡ out_of_memory)
+    ⊎ IsSchemaFault extensions (plain_schema c.args.entity_types.entries actions entities) fault =
+    λ entities. elim (c.in_err-closed_types.ensures.fault actions entities) [ inl wanting ↦ inl wanting | inr of ↦ inr (of extensions) ] in
+    let p = err_from_is_err_and c.from_residual.result c.from_residual.ensures.1 in
+    rw (p.1, p.2) at_fault
 
 pub returns-in_err-closed_actions-clause-fault : goal.returns-in_err-closed_actions-clause-fault
 returns-in_err-closed_actions-clause-fault c =
@@ -18,8 +29,7 @@ returns-in_err-closed_actions-clause-fault c =
     let fault = fault_of c.in_err-closed_actions.field-0.0 in
     let at_fault : (entities : List Entity) → (fault ≡ out_of_memory)
     ⊎ IsSchemaFault extensions (plain_schema types actions entities) fault =
-    λ entities. let P : Fault → Type 0 = IsSchemaFault extensions (plain_schema types actions entities) in
-    elim (c.in_err-closed_actions.ensures.fault types entities) [ inl wanting ↦ inl wanting | inr of ↦ inr (subst P (sym of.1) of.2) ] in
+    λ entities. elim (c.in_err-closed_actions.ensures.fault types entities) [ inl wanting ↦ inl wanting | inr of ↦ inr (of extensions) ] in
     let p = err_from_is_err_and c.from_residual-in_err-closed_actions.result c.from_residual-in_err-closed_actions.ensures.1 in
     rw (p.1, p.2) at_fault
 

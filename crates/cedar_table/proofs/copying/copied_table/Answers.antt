@@ -1,11 +1,11 @@
-use Rattle.std.proofs.Common.{◌≡◌, Result, refl, subst}
+use Rattle.std.proofs.Common.{◌≡◌, Result, refl, subst, sym}
 use Rattle.std.proofs.lemmas.Fn.{says_at}
 use Rattle.std.proofs.lemmas.Result.{IfOk-at_ok}
 use Rattle.std.specs.Fn.{FnReturnsAt}
 use Rattle.std.specs.declared.cmp.Ordering.TheVariants.{Equal}
 use Rattle.cedar_below.specs.declared.memory.Memory.{Memory}
 use Rattle.cedar_table.proofs.CopiedLemmas.{copied_all, copied_more, copied_none}
-use Rattle.cedar_table.proofs.copying.copied_entries.Goals as goal
+use Rattle.cedar_table.proofs.copying.copied_table.Goals as goal
 
 pub loop-key-init : goal.loop-key-init
 loop-key-init g c =
@@ -44,6 +44,6 @@ loop-key-preserved g c =
     c.loop-key.invariant
 
 pub returns : goal.returns
-returns g c =
-    copied_all g.K.Ord.cmp g.met.K.Ord.total (FnReturnsAt g.F.Fn c.args.copy_key) (FnReturnsAt g.G.Fn c.args.copy_value)
-    c.args.table.now.entries c.loop-key.copies.entries c.loop-key.key-iterator c.in-None.ensures.steps.0 c.loop-key.invariant
+returns g c = rw (sym c.in_ok-from_map.ensures) at
+    (copied_all g.K.Ord.cmp g.met.K.Ord.total (FnReturnsAt g.F.Fn c.args.copy_key) (FnReturnsAt g.G.Fn c.args.copy_value)
+    c.args.table.now.entries c.loop-key.copies.entries c.loop-key.key-iterator c.in-None.ensures.steps.0 c.loop-key.invariant)

@@ -1,6 +1,6 @@
 use Rattle.std.specs.Fn.{FnReturnsAt}
 use Rattle.cedar_table.proofs.CopiedLemmas.{CopiedSoFar}
-use Rattle.cedar_table.proofs.copying.copied_entries.Given as goal
+use Rattle.cedar_table.proofs.copying.copied_table.Given as goal
 
 abbrev pub invariant-loop-key : goal.invariant-loop-key
 invariant-loop-key g l =
