@@ -3,7 +3,7 @@ use Rattle.std.proofs.Common.{◌≡◌, ◌⊎◌, ◌↔◌, List, Option, Non
 use Rattle.std.proofs.lemmas.List.Elements.{Contains-append_cases}
 use Rattle.std.proofs.lemmas.List.Folds.{flat_map-map}
 use Rattle.std.proofs.lemmas.Simd.{map-map}
-use Rattle.cedar_table.specs.Entries.{Entries}
+use Rattle.cedar_table.specs.Entries.{Entries as TableEntries}
 use Rattle.std.specs.List.{flat_map}
 use Rattle.cedar_schema_elements.proofs.SetLemmas.{list_any-uids}
 use Rattle.cedar_schema_elements.specs.ValidatorActionId.{action_of, plain_action_entry}
@@ -117,7 +117,7 @@ AreCollected scope entries nodes =
     (key : EntityUID) → IsCollectedAt is_action_definition IsExternal uid_in (GivesAction scope) entries (uid_of key) (node_at nodes key)
 
 module _ (bag : Bag) (extensions : Extensions) (declared : List (EntityUID × ActionFragment InternalName EntityType))
-    (types : Entries EntityType ValidatorEntityType) (scope : TypeScope)
+    (types : TableEntries EntityType ValidatorEntityType) (scope : TypeScope)
     (ready : AreActionsOf bag extensions declared types scope) where
   abbrev Entries : List Entry
   Entries = map (λ it. (uid_of it.0, fragment_requests InternalName resolved_reference it.1.requests)) declared

@@ -1,4 +1,4 @@
-use Rattle.std.proofs.Common.{map, ap, sym, ◌∙◌}
+use Rattle.std.proofs.Common.{map, ap, subst, sym, ◌∙◌}
 use Rattle.cedar_below.specs.EntityUID.{uid_of}
 use Rattle.cedar_below.proofs.Uids.{entity_uid_eq-same, entity_uid_ord-Equal}
 use Rattle.cedar_below.specs.contracts.entity_uid.EntityUIDEq.TheImpl as uid_equal
@@ -9,6 +9,7 @@ use Rattle.cedar_declarations.specs.SchemaError.{fault_of}
 use Rattle.cedar_builder.proofs.ActionParents.{AreEdges, listed}
 use Rattle.cedar_builder.proofs.NodesLinked.{entry_at_node, node_has_entry}
 use Rattle.cedar_builder.proofs.ActionsReady.{certain, declared_at, collecting_fault, linking_fault, ready_to_link, stands_after}
+use Rattle.cedar_builder.specs.DeclaredActions.{AreDeclaredActions}
 use Rattle.cedar_builder.specs.DeclaredNodes.{parents_in}
 use Rattle.cedar_fragments.proofs.FragmentLemmas.{exit_holds}
 use Rattle.cedar_builder.proofs.action_building.actions.Goals as goal
@@ -31,7 +32,7 @@ returns-clause-declared c = λ bag extensions ready.
     c.in_ok-edges.ensures.edges ∙ ap (λ items. parents_in (map listed items)) c.deref.ensures.value in
     let linked =
     c.in_ok-linked.ensures.linked (ready_to_link bag extensions declared types scope ready before collected once edges are) in
-    rw (sym c.in_ok-from_map.ensures) at record {
+    let built : AreDeclaredActions bag extensions actions.entries = record {
       each = λ uid it among.
           declared_at bag extensions declared types scope ready before collected once edges are after linked uid it
           (entry_at_node (uid_ord.ghosts).cmp uid_equal.Laws.laws-law uid_of entity_uid_eq-same entity_uid_ord-Equal after unique actions made
@@ -40,7 +41,8 @@ returns-clause-declared c = λ bag extensions ready.
           let found = stands_after bag extensions declared types scope ready before collected once edges are after linked uid among in
           rw found.1 at (node_has_entry (uid_ord.ghosts).cmp uid_equal.Laws.laws-law uid_of entity_uid_eq-same entity_uid_ord-Equal
           after unique actions made found.0 found.2);
-    }
+    } in
+    subst (AreDeclaredActions bag extensions) (sym c.in_ok-from_map.ensures) built
 
 -- the same steps tell what is certain of the declarations
 pub returns-clause-sound : goal.returns-clause-sound

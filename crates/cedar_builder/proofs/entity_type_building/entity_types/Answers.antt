@@ -1,4 +1,4 @@
-use Rattle.std.proofs.Common.{map, ap, sym, ◌∙◌}
+use Rattle.std.proofs.Common.{map, ap, subst, sym, ◌∙◌}
 use Rattle.cedar_below.specs.EntityType.{type_name}
 use Rattle.cedar_below.proofs.Names.{entity_type_eq-same, entity_type_ord-Equal}
 use Rattle.cedar_below.specs.contracts.entity_type.EntityTypeEq.TheImpl as entity_type_equal
@@ -10,6 +10,7 @@ use Rattle.cedar_builder.proofs.EntityTypeParents.{AreEdges, listed}
 use Rattle.cedar_builder.proofs.EntityTypesReady.{certain, declared_at, collecting_fault, linking_fault, no_edges, parent_fault, stands_after}
 use Rattle.cedar_builder.proofs.NodesLinked.{entry_at_node, node_has_entry}
 use Rattle.cedar_resolution.specs.Collected.{collected_entities}
+use Rattle.cedar_builder.specs.DeclaredEntityTypes.{AreDeclaredEntityTypes}
 use Rattle.cedar_builder.specs.DeclaredNodes.{parents_in}
 use Rattle.cedar_fragments.proofs.FragmentLemmas.{exit_holds}
 use Rattle.cedar_builder.proofs.entity_type_building.entity_types.Goals as goal
@@ -30,7 +31,7 @@ returns-clause-declared c = λ bag extensions ready.
     let are : AreEdges declared edges =
     c.in_ok-edges.ensures.edges ∙ ap (λ items. parents_in (map listed items)) c.deref.ensures.value in
     let linked = c.in_ok-linked.ensures.linked (no_edges scope (collected_entities declared) before collected) in
-    rw (sym c.in_ok-from_map.ensures) at record {
+    let built : AreDeclaredEntityTypes bag extensions types.entries = record {
       each = λ ty it among. declared_at bag extensions declared scope ready before collected once edges are after linked ty it
           (entry_at_node (entity_type_ord.ghosts).cmp entity_type_equal.Laws.laws-law type_name entity_type_eq-same entity_type_ord-Equal
           after unique types made ty it among);
@@ -38,7 +39,8 @@ returns-clause-declared c = λ bag extensions ready.
           let found = stands_after bag extensions declared scope ready before collected once edges are after linked name among in
           rw found.1 at (node_has_entry (entity_type_ord.ghosts).cmp entity_type_equal.Laws.laws-law type_name entity_type_eq-same
           entity_type_ord-Equal after unique types made found.0 found.2);
-    }
+    } in
+    subst (AreDeclaredEntityTypes bag extensions) (sym c.in_ok-from_map.ensures) built
 
 -- the same steps tell what is certain of the declarations
 pub returns-clause-sound : goal.returns-clause-sound
