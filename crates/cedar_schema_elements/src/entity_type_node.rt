@@ -27,8 +27,9 @@ impl TCNode<EntityType> for ValidatorEntityType {
 
     ghost is_alike = { λ a b. (a.name ≡ b.name) × (a.kind ≡ b.kind) × (a.loc ≡ b.loc) };
 
+    // Shared, so that each further copy costs a count.
     fn copy_key(key: &EntityType) -> M<EntityType> {
-        key.clone()
+        key.clone()?.into_shared()
     }
 
     fn get_key(&self) -> &EntityType {

@@ -1,4 +1,5 @@
-use Rattle.std.proofs.Common.{◌≡◌, IsTrue, IfOk, Result, Ok, Err, sym}
+use Rattle.std.proofs.Common.{◌≡◌, IsTrue, IfOk, Result, Ok, Err, sym, ◌∙◌}
+use Rattle.std.proofs.lemmas.Result.{IfOk-weaker}
 use Rattle.cedar_below.proofs.Uids.{entity_uid_eq-same}
 use Rattle.cedar_below.specs.EntityUID.{uid_of}
 use Rattle.cedar_below.specs.contracts.entity_uid.EntityUIDPartialEq.TheImpl as uid_eq
@@ -12,4 +13,7 @@ equal_copy key (Ok copy) same = (entity_uid_eq-same key copy).1 (sym same)
 equal_copy key (Err refused) same = tt
 
 pub returns : goal.returns
-returns c = equal_copy c.args.key.now c.clone.result c.clone.ensures.uid
+returns c =
+    equal_copy c.args.key.now c.into_shared.result
+    (IfOk-weaker c.into_shared.result (λ shared. uid_of shared ≡ uid_of c.in_ok-clone.field-0)
+    (λ shared. uid_of shared ≡ uid_of c.args.key.now) (λ shared same. same ∙ c.in_ok-clone.ensures.uid) c.into_shared.ensures.uid)

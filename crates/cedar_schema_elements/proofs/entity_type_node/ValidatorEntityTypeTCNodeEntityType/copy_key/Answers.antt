@@ -1,4 +1,5 @@
-use Rattle.std.proofs.Common.{◌≡◌, IsTrue, IfOk, Result, Ok, Err, sym}
+use Rattle.std.proofs.Common.{◌≡◌, IsTrue, IfOk, Result, Ok, Err, sym, ◌∙◌}
+use Rattle.std.proofs.lemmas.Result.{IfOk-weaker}
 use Rattle.cedar_below.proofs.Names.{entity_type_eq-same}
 use Rattle.cedar_below.specs.EntityType.{type_name}
 use Rattle.cedar_below.specs.contracts.entity_type.EntityTypePartialEq.TheImpl as entity_type_eq
@@ -12,4 +13,7 @@ equal_copy key (Ok copy) same = (entity_type_eq-same key copy).1 (sym same)
 equal_copy key (Err refused) same = tt
 
 pub returns : goal.returns
-returns c = equal_copy c.args.key.now c.clone.result c.clone.ensures.name
+returns c =
+    equal_copy c.args.key.now c.into_shared.result
+    (IfOk-weaker c.into_shared.result (λ shared. type_name shared ≡ type_name c.in_ok-clone.field-0)
+    (λ shared. type_name shared ≡ type_name c.args.key.now) (λ shared same. same ∙ c.in_ok-clone.ensures.name) c.into_shared.ensures.name)
