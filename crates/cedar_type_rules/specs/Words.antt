@@ -1,4 +1,6 @@
 -- The words of clauses, from one place.
+pub use Rattle.std.specs.List.{AllByRecursion}
+pub use Rattle.std.specs.Prelude.{Err, IsTrue, Ok, Result, Some, ◌↔◌, ◌∷◌, ◌≡◌}
 pub use Rattle.cedar_below.specs.Words.{AreEntries, CoreFields, CoreTy, EachTree, Entries, EntryFits, FeedsVariantFirst, Gives, HoldsPairwise, Included, IsName, IsText, IsValue, NamesListed, PlainName, Text, Tree, Trees, call_value, core_end, core_entity, core_extension, core_field, core_fields_from, core_names, core_record, core_set, entry, entry_at, entry_names, last_named, map_value, name_cmp, no_entry, no_tree, number_value, plain_name, result_type, set_value, text_cmp, text_value, tree, truth_value, uid_value}
 pub use Rattle.cedar_below.specs.declared.extension.Extensions.{Extensions}
 pub use Rattle.cedar_below.specs.declared.name.Name.{Name}
@@ -6,6 +8,7 @@ pub use Rattle.cedar_below.specs.declared.validation_mode.ValidationMode.{Valida
 pub use Rattle.cedar_below.specs.declared.validation_mode.ValidationMode.TheVariants.{Permissive, Strict}
 pub use Rattle.cedar_type_rules.specs.Agree.{Agree, FieldsAgree}
 pub use Rattle.cedar_type_rules.specs.Below.{AttributeBelow, Below, FieldsBelow, FlagsBelow, HasField, NamesBelow, OpennessBelow}
+pub use Rattle.cedar_type_rules.specs.BoolType.{bool_text}
 pub use Rattle.cedar_type_rules.specs.Bound.{IsBound, IsCleanBound, IsLeast}
 pub use Rattle.cedar_type_rules.specs.Clean.{AreClean, CleanIsWithoutAnySet, IsAnySet, IsClean}
 pub use Rattle.cedar_type_rules.specs.CompareLaws.{ComparesBy}
@@ -23,6 +26,7 @@ pub use Rattle.cedar_type_rules.specs.InclusionLaws.{FieldsListNames, ListsNames
 pub use Rattle.cedar_type_rules.specs.JoinAnswer.{IsAnswerOrMemory, IsJoinAnswer, IsLeastAnswer, IsReduceAnswer, JoinAnswer}
 pub use Rattle.cedar_type_rules.specs.JoinLaws.{CleanBoundsAreOwn, JoinsAreAnswered, JoinsAreBelowCleanBounds, JoinsAreCommutative, JoinsAreGivenExactly, JoinsAreUnique, JoinsOfCleanAreLeastClean, OwnBoundsOfCleanAreClean, StrictJoinsArePermissive, UpperTypesAreJoins}
 pub use Rattle.cedar_type_rules.specs.Joining.{AnswersJoinOf, IsCleanAbove, IsFoldOfJoins, IsGivenOrMemory, IsLeastClean}
+pub use Rattle.cedar_type_rules.specs.LubHelp.{help_text, join_error_text}
 pub use Rattle.cedar_type_rules.specs.OpenTag.{either_open, is_open}
 pub use Rattle.cedar_type_rules.specs.Order.{attribute_cmp, fields_cmp, kind_rank, openness_cmp, truth_cmp, ty_cmp, union_cmp}
 pub use Rattle.cedar_type_rules.specs.OwnBound.{FieldsLieWithin, HaveOwnBound, IsEither, IsElementOf, IsLeastOwnBound, IsNamedIn, IsOwnBound, LiesWithin}

@@ -10,8 +10,7 @@ pub enum OpenTag {
 }
 
 impl Default for OpenTag {
-    ghost use Rattle.std.specs.Prelude.{◌≡◌};
-    ghost use Rattle.cedar_type_rules.specs.declared.open_tag.OpenTag.TheVariants.{ClosedAttributes};
+    ghost use Rattle.cedar_type_rules.specs.Words.{ClosedAttributes, ◌≡◌};
 
     ghost is_default = { λ openness. openness ≡ ClosedAttributes };
 
