@@ -1,8 +1,7 @@
 //! Names as they were written.
 
-ghost use Rattle.std.specs.Prelude.{◌≡◌, IfOk, IfErr, None};
+ghost use Rattle.std.specs.Prelude.{◌≡◌, IfOk, IfErr, None, map};
 ghost use Rattle.cedar_names.specs.Words.{IsNameFault, IsNameText, conditional_reference, name_loc, name_of, name_text, name_within, namespace_name, possibilities_of, possibility_locs, qualified_name, raw_loc, raw_name, reference_to};
-ghost use Rattle.std.specs.Prelude.{map};
 
 use crate::json_schema::conditional_name::ConditionalName;
 use crate::json_schema::reference_type::ReferenceType;
