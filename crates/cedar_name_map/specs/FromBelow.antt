@@ -3,10 +3,4 @@ pub use Rattle.std.specs.Cmp.{and_equiv, and_per, both_tied, on_equiv, on_per, o
 pub use Rattle.std.specs.Cmp.Lexicographic.{lists_agrees, lists_equiv, lists_per, lists_po, lists_ties, lists_total, nat_list_cmp_total, nat_list_eq_equiv, pointwise, slice_cmp, slice_partial_cmp, texts_po, texts_ties}
 pub use Rattle.std.specs.Cmp.Rules.{hashing}
 pub use Rattle.std.specs.Hash.{and-Alike, items_Alike, on_Alike}
-pub use Rattle.std.specs.Option.{option_copied}
 pub use Rattle.std.specs.Ordering.{ordering_then, partial_ordering_then}
-pub use Rattle.std.specs.Prelude.{◌&&◌, ◌++◌, ◌<◌, IfOk, IsTrue, Some, ◌^◌, get_or, length, refl, string_bytes, string_cmp, string_eq, ℕ, ◌↔◌, ◌≡◌, ◌≢◌, ◌≤◌}
-pub use Rattle.std.specs.declared.alloc.Global.{Global}
-pub use Rattle.std.specs.declared.cmp.Ordering.TheVariants.{Less}
-pub use Rattle.std.specs.declared.string.String.{String}
-pub use Rattle.cedar_below.specs.Words.{Text, last_named, text_cmp}

@@ -1,6 +1,7 @@
 //! Values by name, in one list in the order of the names.
 
-ghost use Rattle.cedar_name_map.specs.FromBelow.{◌&&◌, ◌++◌, Some, and-Alike, and_equiv, and_per, both_tied, hashing, items_Alike, lists_agrees, lists_equiv, lists_per, lists_po, lists_ties, lists_total, nat_list_cmp_total, nat_list_eq_equiv, on_Alike, on_equiv, on_per, on_po, on_total, ordering_then, partial_equiv_from_equiv, partial_ordering_then, pointwise, refl, slice_cmp, slice_partial_cmp, string_bytes, string_cmp, string_eq, texts_po, texts_ties, then_agrees, then_po, then_total, ◌≡◌};
+ghost use Rattle.std.specs.Prelude.{◌&&◌, ◌++◌, Some, refl, string_bytes, string_cmp, string_eq, ◌≡◌};
+ghost use Rattle.cedar_name_map.specs.FromBelow.{and-Alike, and_equiv, and_per, both_tied, hashing, items_Alike, lists_agrees, lists_equiv, lists_per, lists_po, lists_ties, lists_total, nat_list_cmp_total, nat_list_eq_equiv, on_Alike, on_equiv, on_per, on_po, on_total, ordering_then, partial_equiv_from_equiv, partial_ordering_then, pointwise, slice_cmp, slice_partial_cmp, texts_po, texts_ties, then_agrees, then_po, then_total};
 ghost use Rattle.std.specs.Hash as fed;
 ghost use Rattle.std.proofs.Common.{rules};
 ghost use Rattle.cedar_name_map.specs.ByName.{AreSortedByName, AreSortedByName-prop};
@@ -90,9 +91,8 @@ impl<V: Hash> Hash for ByName<V> {
 }
 
 impl<V> ByName<V> {
-    ghost use Rattle.cedar_name_map.specs.FromBelow.{◌<◌, Global, IfOk, IsTrue, Less, String, Text, ◌^◌, get_or, last_named, length, option_copied, string_bytes, text_cmp, ℕ, ◌↔◌, ◌≡◌, ◌≢◌, ◌≤◌};
-    ghost use Rattle.cedar_name_map.specs.ByName.{value_at, with_texts};
-    ghost use Rattle.cedar_name_map.specs.Entries.{entries_by_name};
+    ghost use Rattle.std.specs.Prelude.{◌<◌, IfOk, IsTrue, ◌^◌, get_or, length, string_bytes, ℕ, ◌↔◌, ◌≡◌, ◌≢◌, ◌≤◌};
+    ghost use Rattle.cedar_name_map.specs.Words.{Global, Less, String, Text, entries_by_name, last_named, option_copied, text_cmp, value_at, with_texts};
 
     /// The values of these names. Of repeated names the last wins. Out of memory is the only
     /// refusal.

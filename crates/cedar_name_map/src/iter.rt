@@ -1,6 +1,7 @@
 //! The iterators over values by name. Each is seen as the list of what it has left.
 
-ghost use Rattle.cedar_name_map.specs.Words.{TakesFirst, at_most, deref, deref_pair, keys_of, length, ◌≡◌};
+ghost use Rattle.std.specs.Prelude.{length, ◌≡◌};
+ghost use Rattle.cedar_name_map.specs.Words.{TakesFirst, at_most, deref, deref_pair, keys_of};
 
 use std::iter::FusedIterator;
 use std::marker::Model;

@@ -1,6 +1,6 @@
 -- The words of clauses, from one place.
 pub use Rattle.std.specs.List.{AllByRecursion}
-pub use Rattle.std.specs.Prelude.{Err, IsTrue, Ok, Result, Some, ◌↔◌, ◌∷◌, ◌≡◌}
+pub use Rattle.std.specs.Prelude.{Some}
 pub use Rattle.cedar_below.specs.Words.{AreEntries, CoreFields, CoreTy, EachTree, Entries, EntryFits, FeedsVariantFirst, Gives, HoldsPairwise, Included, IsName, IsText, IsValue, NamesListed, PlainName, Text, Tree, Trees, call_value, core_end, core_entity, core_extension, core_field, core_fields_from, core_names, core_record, core_set, entry, entry_at, entry_names, last_named, map_value, name_cmp, no_entry, no_tree, number_value, plain_name, result_type, set_value, text_cmp, text_value, tree, truth_value, uid_value}
 pub use Rattle.cedar_below.specs.declared.extension.Extensions.{Extensions}
 pub use Rattle.cedar_below.specs.declared.name.Name.{Name}

@@ -1,6 +1,7 @@
 //! What is ordered in each mode and can be joined, with the laws of joins.
 
-ghost use Rattle.cedar_type_rules.specs.Words.{AllByRecursion, Err, IsFoldOfJoins, IsGivenOrMemory, IsLeastClean, IsTrue, LubHelp, Ok, Result, ValidationMode, ◌↔◌, ◌∷◌};
+ghost use Rattle.std.specs.Prelude.{Err, IsTrue, Ok, Result, ◌↔◌, ◌∷◌};
+ghost use Rattle.cedar_type_rules.specs.Words.{AllByRecursion, IsFoldOfJoins, IsGivenOrMemory, IsLeastClean, LubHelp, ValidationMode};
 
 use crate::join_error::JoinError;
 use cedar_below::ValidationMode;

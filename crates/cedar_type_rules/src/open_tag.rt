@@ -10,7 +10,8 @@ pub enum OpenTag {
 }
 
 impl Default for OpenTag {
-    ghost use Rattle.cedar_type_rules.specs.Words.{ClosedAttributes, ◌≡◌};
+    ghost use Rattle.std.specs.Prelude.{◌≡◌};
+    ghost use Rattle.cedar_type_rules.specs.declared.open_tag.OpenTag.TheVariants.{ClosedAttributes};
 
     ghost is_default = { λ openness. openness ≡ ClosedAttributes };
 
