@@ -11,13 +11,8 @@ use Rattle.std.specs.Map.{keys_of, lookup, values_of}
 use Rattle.std.specs.Ordering.{is_eq, match_ordering}
 use Rattle.std.specs.declared.cmp.Ordering.{Ordering}
 use Rattle.std.specs.declared.cmp.Ordering.TheVariants.{Less, Equal, Greater}
-use Rattle.cedar_below.specs.Entity.{entity_uid}
-use Rattle.cedar_below.specs.EntityUID.{uid_of}
-use Rattle.cedar_below.specs.KeyedEntities.{IsKeyed}
-use Rattle.cedar_below.specs.PlainUid.{PlainUid, uid_cmp}
+use Rattle.cedar_below.specs.Words.{Entity, EntityUID, IsKeyed, PlainUid, entity_uid, uid_cmp, uid_of}
 use Rattle.cedar_below.specs.contracts.entity_uid.EntityUIDOrd.TheImpl as entity_uid_ord
-use Rattle.cedar_below.specs.declared.entity.Entity.{Entity}
-use Rattle.cedar_below.specs.declared.entity_uid.EntityUID.{EntityUID}
 use Rattle.cedar_below.proofs.Ordered.{IsStrictlySortedBy-map}
 use Rattle.cedar_below.proofs.PlainNames.{uid_cmp-Equal}
 use Rattle.cedar_below.proofs.Uids.{entity_uid_ord-uid_cmp, entity_uid_ord-Equal}

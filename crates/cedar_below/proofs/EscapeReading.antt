@@ -16,12 +16,7 @@ use Rattle.std.specs.Int.{is_in_range}
 use Rattle.std.specs.List.{cons_option, flat_map}
 use Rattle.std.specs.Option.{option_and_then}
 use Rattle.std.specs.Str.{IsUtf8, chars}
-use Rattle.cedar_below.specs.declared.escape.Escape.{Escape}
-use Rattle.cedar_below.specs.declared.escape.Escape.TheVariants.{Whole, Backslash, Unicode, Open, Code, Closed}
-use Rattle.cedar_below.specs.Escapes.{is_coded, begins_code, code_digit, first_digit, second_digit, after_backslash, escape_then, last_whole}
-use Rattle.cedar_below.specs.Stops.{Begins, StopsAt}
-use Rattle.cedar_below.specs.Text.{Text}
-use Rattle.cedar_below.specs.UidText.{IsQuoted, escaped, escaped_text}
+use Rattle.cedar_below.specs.Words.{Backslash, Begins, Closed, Code, Escape, IsQuoted, Open, StopsAt, Text, Unicode, Whole, after_backslash, begins_code, code_digit, escape_then, escaped, escaped_text, first_digit, is_coded, last_whole, second_digit}
 use Rattle.cedar_below.proofs.NameReading.{both_true, either}
 use Rattle.cedar_below.proofs.TextsOfNames.{cons_head, cons_rest}
 use Rattle.cedar_below.proofs.Texts.{text_eq-Decides}

@@ -1,10 +1,7 @@
 -- The names of extension types.
 use Rattle.std.proofs.Common.{◌≢◌, ◌↔◌, List, map, All, AllPairs, Contains}
 use Rattle.std.proofs.lemmas.List.Elements.{All-map}
-use Rattle.cedar_below.specs.Name.{plain_name}
-use Rattle.cedar_below.specs.PlainName.{PlainName, IsUnqualified}
-use Rattle.cedar_below.specs.TypeNames.{TypeNamesFit, primitive_words}
-use Rattle.cedar_below.specs.declared.name.Name.{Name}
+use Rattle.cedar_below.specs.Words.{IsUnqualified, Name, PlainName, TypeNamesFit, plain_name, primitive_words}
 use Rattle.cedar_below.proofs.Lists.{All-from_map}
 
 -- the parts of `TypeNamesFit`, over the names as they are declared

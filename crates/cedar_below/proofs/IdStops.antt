@@ -6,9 +6,7 @@ use Rattle.std.proofs.lemmas.Bool.{false≢true}
 use Rattle.std.proofs.lemmas.List.Folds.{list_all_at}
 use Rattle.std.proofs.lemmas.Str.{IsUtf8-nil}
 use Rattle.std.specs.List.{list_all}
-use Rattle.cedar_below.specs.Identifier.{IsIdentifier, begins_identifier, is_identifier_byte}
-use Rattle.cedar_below.specs.Stops.{Begins, StopsAt}
-use Rattle.cedar_below.specs.Text.{Text}
+use Rattle.cedar_below.specs.Words.{Begins, IsIdentifier, StopsAt, Text, begins_identifier, is_identifier_byte}
 use Rattle.cedar_below.proofs.NameReading.{both_true, word_text}
 
 -- the first byte of an identifier may begin one

@@ -1,10 +1,7 @@
 -- Comparisons of identifiers and of entity ids, by their texts.
 use Rattle.std.proofs.Common.{◌≡◌, ◌↔◌, IsTrue, refl}
 use Rattle.std.specs.declared.cmp.Ordering.TheVariants.{Equal}
-use Rattle.cedar_below.specs.Eid.{eid_text}
-use Rattle.cedar_below.specs.Id.{id_text}
-use Rattle.cedar_below.specs.Text.{text_cmp}
-use Rattle.cedar_below.specs.UnreservedId.{unreserved_id_text}
+use Rattle.cedar_below.specs.Words.{Eid, Id, UnreservedId, eid_text, id_text, text_cmp, unreserved_id_text}
 use Rattle.cedar_below.specs.contracts.eid.EidHash.TheImpl as eid_hash
 use Rattle.cedar_below.specs.contracts.eid.EidOrd.TheImpl as eid_ord
 use Rattle.cedar_below.specs.contracts.eid.EidPartialEq.TheImpl as eid_eq
@@ -14,9 +11,6 @@ use Rattle.cedar_below.specs.contracts.id.IdPartialEq.TheImpl as id_eq
 use Rattle.cedar_below.specs.contracts.unreserved_id.UnreservedIdHash.TheImpl as unreserved_id_hash
 use Rattle.cedar_below.specs.contracts.unreserved_id.UnreservedIdOrd.TheImpl as unreserved_id_ord
 use Rattle.cedar_below.specs.contracts.unreserved_id.UnreservedIdPartialEq.TheImpl as unreserved_id_eq
-use Rattle.cedar_below.specs.declared.eid.Eid.{Eid}
-use Rattle.cedar_below.specs.declared.id.Id.{Id}
-use Rattle.cedar_below.specs.declared.unreserved_id.UnreservedId.{UnreservedId}
 use Rattle.cedar_below.proofs.Texts.{text_cmp-Equal, text_eq-Decides}
 
 -- identifiers are equal exactly where their texts are

@@ -2,9 +2,8 @@
 use Rattle.std.proofs.Common.{◌≡◌, ◌↔◌, Option, Some, None, Bor, IsOk, IsSome, IfOk, refl}
 use Rattle.std.specs.BTreeMap.{BTreeMap, get_by}
 use Rattle.std.specs.Option.{option_copied, ok_or}
-use Rattle.cedar_below.specs.Name.{plain_name, at_name}
+use Rattle.cedar_below.specs.Words.{Name, at_name, plain_name}
 use Rattle.cedar_below.specs.contracts.name.NameOrd.TheImpl as name_ord
-use Rattle.cedar_below.specs.declared.name.Name.{Name}
 use Rattle.cedar_below.proofs.Names.{name_ord-name_cmp}
 
 -- a look-up at a name finds what the map holds at what the name stands for

@@ -11,16 +11,7 @@ use Rattle.std.specs.Char.{is_ascii_alphabetic, is_ascii_digit}
 use Rattle.std.specs.Int.{is_in_range}
 use Rattle.std.specs.Str.{IsAscii, IsUtf8}
 use Rattle.std.specs.List.{flat_map, list_all}
-use Rattle.cedar_below.specs.declared.reading.Reading.{Reading}
-use Rattle.cedar_below.specs.declared.reading.Reading.TheVariants.{Start, Inside, Colon}
-use Rattle.cedar_below.specs.declared.id.Id.{Id}
-use Rattle.cedar_below.specs.Id.{id_text}
-use Rattle.cedar_below.specs.Identifier.{IsIdentifier, is_identifier_start, is_identifier_byte}
-use Rattle.cedar_below.specs.NameText.{IsOfIdentifiers, IsNameText}
-use Rattle.cedar_below.specs.PlainName.{PlainName, name_text}
-use Rattle.cedar_below.specs.Reading.{reading_then}
-use Rattle.cedar_below.specs.Stops.{Begins, StopsAt}
-use Rattle.cedar_below.specs.Text.{Text}
+use Rattle.cedar_below.specs.Words.{Begins, Colon, Id, Inside, IsIdentifier, IsNameText, IsOfIdentifiers, PlainName, Reading, Start, StopsAt, Text, id_text, is_identifier_byte, is_identifier_start, name_text, reading_then}
 
 -- what is read of a name after more bytes
 abbrev pub run : Option Reading → Text → Option Reading

@@ -9,12 +9,7 @@ use Rattle.std.specs.Cmp.Lexicographic.{pointwise}
 use Rattle.std.specs.Ordering.{ordering_then}
 use Rattle.std.specs.Prelude.{nat_eq}
 use Rattle.std.specs.declared.cmp.Ordering.TheVariants.{Equal}
-use Rattle.cedar_below.specs.EntityType.{type_name}
-use Rattle.cedar_below.specs.Id.{id_text}
-use Rattle.cedar_below.specs.InternalName.{name_of, parts_of}
-use Rattle.cedar_below.specs.Name.{plain_name}
-use Rattle.cedar_below.specs.PlainName.{PlainName, name_cmp}
-use Rattle.cedar_below.specs.Text.{text_cmp}
+use Rattle.cedar_below.specs.Words.{EntityType, InternalName, Name, NameParts, PlainName, id_text, name_cmp, name_of, parts_of, plain_name, text_cmp, type_name}
 use Rattle.cedar_below.specs.contracts.entity_type.EntityTypeEq.TheImpl as entity_type_equal
 use Rattle.cedar_below.specs.contracts.entity_type.EntityTypeHash.TheImpl as entity_type_hash
 use Rattle.cedar_below.specs.contracts.entity_type.EntityTypeOrd.TheImpl as entity_type_ord
@@ -27,10 +22,6 @@ use Rattle.cedar_below.specs.contracts.internal_name.NamePartsPartialEq.TheImpl 
 use Rattle.cedar_below.specs.contracts.name.NameHash.TheImpl as name_hash
 use Rattle.cedar_below.specs.contracts.name.NameOrd.TheImpl as name_ord
 use Rattle.cedar_below.specs.contracts.name.NamePartialEq.TheImpl as name_eq
-use Rattle.cedar_below.specs.declared.entity_type.EntityType.{EntityType}
-use Rattle.cedar_below.specs.declared.internal_name.InternalName.{InternalName}
-use Rattle.cedar_below.specs.declared.internal_name.NameParts.{NameParts}
-use Rattle.cedar_below.specs.declared.name.Name.{Name}
 use Rattle.cedar_below.proofs.PlainNames.{name_cmp-Equal}
 use Rattle.cedar_below.proofs.Texts.{text_eq-Decides, texts_eq-Decides}
 

@@ -5,8 +5,7 @@ use Rattle.std.specs.FinMap.{IsAntisymmetric}
 use Rattle.std.specs.Ordering.{ordering_then}
 use Rattle.std.specs.declared.cmp.Ordering.{Ordering}
 use Rattle.std.specs.declared.cmp.Ordering.TheVariants.{Less, Equal, Greater}
-use Rattle.cedar_below.specs.PlainName.{PlainName, name_cmp}
-use Rattle.cedar_below.specs.PlainUid.{PlainUid, uid_cmp}
+use Rattle.cedar_below.specs.Words.{PlainName, PlainUid, name_cmp, uid_cmp}
 use Rattle.cedar_below.proofs.Texts.{text_cmp-total, texts_cmp-total, text_cmp-IsAntisymmetric, texts_cmp-IsAntisymmetric, Equal_is_same}
 
 -- an order by two keys in turn ties only where both do

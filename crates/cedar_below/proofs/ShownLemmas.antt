@@ -3,8 +3,7 @@ use Rattle.std.proofs.Common.{◌≡◌, ◌↔◌, IfOk, List, [], ◌∷◌, R
 use Rattle.std.proofs.lemmas.Result.{IfOk-weaker}
 use Rattle.std.specs.declared.cmp.Ordering.{Ordering}
 use Rattle.std.specs.declared.cmp.Ordering.TheVariants.{Equal}
-use Rattle.cedar_below.specs.Lists.{HoldsPairwise}
-use Rattle.cedar_below.specs.declared.memory.Memory.{Memory}
+use Rattle.cedar_below.specs.Words.{HoldsPairwise, Memory}
 
 -- lists stand for the same where each item stands for the same as that of the other in turn
 pub same_shown : {A P : Type 0} (R : A → A → Type 0) (shown : A → P) → ((x y : A) → R x y → shown y ≡ shown x) → (xs ys : List A)

@@ -3,12 +3,7 @@ use Rattle.std.proofs.Common.{◌≡◌, ◌≢◌, ℕ, suc, Bool, true, false,
 use Rattle.std.proofs.lemmas.Bool.{false≢true}
 use Rattle.std.proofs.lemmas.List.{append_assoc}
 use Rattle.std.specs.List.{list_all}
-use Rattle.cedar_below.specs.declared.internal_name.InternalName.{InternalName}
-use Rattle.cedar_below.specs.Identifier.{IsIdentifier, is_identifier_byte}
-use Rattle.cedar_below.specs.InternalName.{name_of}
-use Rattle.cedar_below.specs.NameText.{IsOfIdentifiers}
-use Rattle.cedar_below.specs.PlainName.{PlainName, name_text}
-use Rattle.cedar_below.specs.Text.{Text}
+use Rattle.cedar_below.specs.Words.{InternalName, IsIdentifier, IsOfIdentifiers, PlainName, Text, is_identifier_byte, name_of, name_text}
 use Rattle.cedar_below.proofs.NameReading.{both_true, ids_are_identifiers, path_text}
 
 -- each byte of the text may stand in an identifier

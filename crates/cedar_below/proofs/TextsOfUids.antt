@@ -7,14 +7,7 @@ use Rattle.std.specs.Char.{is_control}
 use Rattle.std.specs.Fmt.{digits}
 use Rattle.std.specs.List.{cons_option}
 use Rattle.std.specs.Str.{IsUtf8, chars}
-use Rattle.cedar_below.specs.declared.escape.Escape.{Escape}
-use Rattle.cedar_below.specs.declared.escape.Escape.TheVariants.{Whole}
-use Rattle.cedar_below.specs.Escapes.{escape_then, last_whole}
-use Rattle.cedar_below.specs.NameText.{IsOfIdentifiers}
-use Rattle.cedar_below.specs.PlainName.{name_text}
-use Rattle.cedar_below.specs.PlainUid.{PlainUid}
-use Rattle.cedar_below.specs.Text.{Text}
-use Rattle.cedar_below.specs.UidText.{escaped_text, uid_text}
+use Rattle.cedar_below.specs.Words.{Escape, IsOfIdentifiers, PlainUid, Text, Whole, escape_then, escaped_text, last_whole, name_text, uid_text}
 use Rattle.cedar_below.proofs.EscapeReading.{all_spelled, alike, below_or_not, cond_false, every, every-at, no_control, other, quoted, run, run-spelled, spelled, spelled-wide}
 use Rattle.cedar_below.proofs.Texts.{text_eq-Decides}
 use Rattle.cedar_below.proofs.TextsOfNames.{cut, names_by_text}

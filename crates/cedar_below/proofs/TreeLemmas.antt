@@ -3,14 +3,7 @@ use Rattle.std.proofs.Common.{◌≡◌, ◌⊎◌, inl, inr, Bool, true, false,
 use Rattle.std.proofs.lemmas.Slice.Eq.{bytes_eq-Decides}
 use Rattle.cedar_below.proofs.Inclusion.{chosen}
 use Rattle.cedar_below.proofs.Lists.{Contains-cons, Contains-cons_cases}
-use Rattle.cedar_below.specs.CoreSchemaType.{core_ty_of, core_step, core_attribute_step, core_attribute_of, core_fields_of}
-use Rattle.cedar_below.specs.CoreTy.{CoreTy, core_set, core_empty_set, core_record, core_extension, core_names, core_fields_from}
-use Rattle.cedar_below.specs.EntityUID.{uid_of}
-use Rattle.cedar_below.specs.declared.entity_uid.EntityUID.{EntityUID}
-use Rattle.cedar_below.specs.Name.{plain_name}
-use Rattle.cedar_below.specs.declared.name.Name.{Name}
-use Rattle.cedar_below.specs.declared.core_schema_type.CoreAttributeType.{CoreAttributeType, fold_out-CoreAttributeType}
-use Rattle.cedar_below.specs.declared.core_schema_type.CoreSchemaType.{CoreSchemaType, roll-CoreSchemaType, fold-roll-CoreSchemaType}
+use Rattle.cedar_below.specs.Words.{ArgumentsFit, CoreAttributeType, CoreSchemaType, CoreTy, EntityUID, EntryFits, Extensions, Name, RestrictedExpr, Text, Tree, Trees, call_value, core_attribute_of, core_attribute_step, core_empty_set, core_extension, core_fields_from, core_fields_of, core_names, core_record, core_set, core_step, core_ty_of, entries_from, entries_of, entry_at, entry_names, fold-roll-CoreSchemaType, fold-roll-RestrictedExpr, fold_out-CoreAttributeType, map_value, no_tree, plain_name, roll-CoreSchemaType, roll-RestrictedExpr, set_value, text_cmp, tree, tree_of, tree_step, trees_of, uid_of, uid_value}
 use Rattle.cedar_below.specs.declared.core_schema_type.CoreSchemaType.TheOpen as core_layer
 use Rattle.cedar_below.specs.declared.core_schema_type.CoreSchemaType.TheVariants as core
 use Rattle.std.proofs.lemmas.Bool.Decides.{Decides-eqb}
@@ -23,12 +16,6 @@ use Rattle.std.specs.Option.{option_map, option_copied, is_some}
 use Rattle.std.specs.Str.{bytes_eq}
 use Rattle.std.specs.declared.alloc.Global.{Global}
 use Rattle.std.specs.declared.string.String.{String}
-use Rattle.cedar_below.specs.RestrictedExpr.{tree_of, tree_step, trees_of, entries_of}
-use Rattle.cedar_below.specs.Text.{Text, text_cmp}
-use Rattle.cedar_below.specs.Tree.{Tree, uid_value, set_value, map_value, call_value, Trees, no_tree, tree, entries_from, entry_at, entry_names}
-use Rattle.cedar_below.specs.Fits.{EntryFits, ArgumentsFit}
-use Rattle.cedar_below.specs.declared.extension.Extensions.{Extensions}
-use Rattle.cedar_below.specs.declared.value.RestrictedExpr.{RestrictedExpr, fold-roll-RestrictedExpr, roll-RestrictedExpr}
 use Rattle.cedar_below.specs.declared.value.RestrictedExpr.TheOpen as layer
 use Rattle.cedar_below.specs.declared.value.RestrictedExpr.TheVariants as expr
 

@@ -9,17 +9,8 @@ use Rattle.std.proofs.lemmas.List.Elements.{All-push}
 use Rattle.std.proofs.lemmas.Str.{IsUtf8-append, IsUtf8-nil, chars-nil}
 use Rattle.std.specs.List.{flat_map, list_all}
 use Rattle.std.specs.Str.{IsUtf8}
-use Rattle.cedar_below.specs.Identifier.{IsIdentifier}
-use Rattle.cedar_below.specs.declared.name_fault.NameFault.{NameFault}
-use Rattle.cedar_below.specs.declared.name_fault.NameFault.TheVariants.{NotAName, Memory}
-use Rattle.cedar_below.specs.NameFault.{IsNameFault}
-use Rattle.cedar_below.specs.NameText.{IsNameText, IsOfIdentifiers}
-use Rattle.cedar_below.specs.PlainName.{PlainName, name_text}
-use Rattle.cedar_below.specs.PlainUid.{PlainUid}
-use Rattle.cedar_below.specs.Stops.{Begins, IsLongestBeginning, StopsAt}
-use Rattle.cedar_below.specs.Text.{Text}
-use Rattle.cedar_below.specs.UidReading.{IsTypeFault}
-use Rattle.cedar_below.specs.UidText.{IsQuoted, IsReservedUidText, IsUidText, escaped, escaped_text, uid_text}
+use Rattle.cedar_below.specs.Words.{Begins, IsIdentifier, IsLongestBeginning, IsNameFault, IsNameText, IsOfIdentifiers, IsQuoted, IsReservedUidText, IsTypeFault, IsUidText, NameFault, NotAName, PlainName, PlainUid, StopsAt, Text, escaped, escaped_text, name_text, uid_text}
+use Rattle.cedar_below.specs.declared.name_fault.NameFault.TheVariants.{Memory}
 use Rattle.cedar_below.proofs.EscapeReading.{below_or_not, utf8_rest}
 use Rattle.cedar_below.proofs.NameReading.{begins_text, bytes-append, both_true, is_name_byte, path_text, name_bytes}
 use Rattle.cedar_below.proofs.TextsOfNames.{cons_head, cons_rest, cut}

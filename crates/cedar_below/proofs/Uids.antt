@@ -5,15 +5,11 @@ use Rattle.std.proofs.lemmas.Map.Steps.{list_any_congr}
 use Rattle.std.specs.List.{list_any}
 use Rattle.std.specs.Ordering.{ordering_then}
 use Rattle.std.specs.declared.cmp.Ordering.TheVariants.{Equal}
-use Rattle.cedar_below.specs.Eid.{eid_text}
-use Rattle.cedar_below.specs.EntityUID.{uid_of}
-use Rattle.cedar_below.specs.PlainUid.{PlainUid, uid_cmp}
-use Rattle.cedar_below.specs.Text.{text_cmp}
+use Rattle.cedar_below.specs.Words.{EntityUID, PlainUid, eid_text, text_cmp, uid_cmp, uid_of}
 use Rattle.cedar_below.specs.contracts.entity_uid.EntityUIDEq.TheImpl as entity_uid_equal
 use Rattle.cedar_below.specs.contracts.entity_uid.EntityUIDHash.TheImpl as entity_uid_hash
 use Rattle.cedar_below.specs.contracts.entity_uid.EntityUIDOrd.TheImpl as entity_uid_ord
 use Rattle.cedar_below.specs.contracts.entity_uid.EntityUIDPartialEq.TheImpl as entity_uid_eq
-use Rattle.cedar_below.specs.declared.entity_uid.EntityUID.{EntityUID}
 use Rattle.cedar_below.proofs.Ids.{eid_eq-same}
 use Rattle.cedar_below.proofs.Names.{entity_type_eq-same, entity_type_ord-name_cmp}
 use Rattle.cedar_below.proofs.PlainNames.{uid_cmp-Equal}

@@ -13,16 +13,9 @@ use Rattle.cedar_below.proofs.Ordered.{IsStrictlySortedBy-map, above_front, inse
 use Rattle.cedar_below.proofs.Texts.{text_cmp-total}
 use Rattle.cedar_below.proofs.TreeLemmas.{entry_names-entries}
 use Rattle.cedar_below.proofs.ValueLemmas.{IsName-type_name}
-use Rattle.cedar_below.specs.EntityUID.{uid_of}
-use Rattle.cedar_below.specs.IsValue.{AreEntries, AreValues, IsValue}
-use Rattle.cedar_below.specs.RestrictedExpr.{entries_of, tree_of, tree_step, trees_of}
-use Rattle.cedar_below.specs.Text.{Text, text_cmp}
-use Rattle.cedar_below.specs.Tree.{Tree, entries_from, no_entry, text_value, trees_from, truth_value, uid_value}
-use Rattle.cedar_below.specs.declared.entity_uid.EntityUID.{EntityUID}
-use Rattle.cedar_below.specs.declared.value.RestrictedExpr.{RestrictedExpr, fold-roll-RestrictedExpr, roll-RestrictedExpr}
+use Rattle.cedar_below.specs.Words.{AreCopies, AreEntries, AreEntryCopies, AreValues, EntityUID, IsCopy, IsValue, RestrictedExpr, Text, Tree, entries_from, entries_of, fold-roll-RestrictedExpr, no_entry, roll-RestrictedExpr, text_cmp, text_value, tree_of, tree_step, trees_from, trees_of, truth_value, uid_of, uid_value}
 use Rattle.cedar_below.specs.declared.value.RestrictedExpr.TheOpen as layer
 use Rattle.cedar_below.specs.declared.value.RestrictedExpr.TheVariants as expr
-use Rattle.cedar_below.specs.Copies.{AreCopies, AreEntryCopies, IsCopy}
 
 -- the values of a record, by name
 abbrev pub Pairs : Type 0

@@ -4,15 +4,7 @@ use Rattle.std.proofs.lemmas.Bool.{false≢true}
 use Rattle.std.proofs.lemmas.List.Elements.{All-nil, All-map}
 use Rattle.std.proofs.lemmas.Str.{IsUtf8-from_ascii, IsUtf8-nil}
 use Rattle.std.specs.List.{list_all}
-use Rattle.cedar_below.specs.Identifier.{IsIdentifier, is_identifier_byte, reserved_word}
-use Rattle.cedar_below.specs.IsValue.{IsText, IsName}
-use Rattle.cedar_below.specs.Id.{id_text}
-use Rattle.cedar_below.specs.EntityType.{type_name}
-use Rattle.cedar_below.specs.Name.{plain_name}
-use Rattle.cedar_below.specs.PlainName.{PlainName}
-use Rattle.cedar_below.specs.Text.{Text}
-use Rattle.cedar_below.specs.declared.entity_type.EntityType.{EntityType}
-use Rattle.cedar_below.specs.declared.name.Name.{Name}
+use Rattle.cedar_below.specs.Words.{EntityType, IsIdentifier, IsName, IsText, Name, PlainName, Text, id_text, is_identifier_byte, plain_name, reserved_word, type_name}
 
 -- a text of that many `_`
 abbrev pub stretch : ℕ → Text

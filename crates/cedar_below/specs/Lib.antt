@@ -40,3 +40,4 @@ pub mod UidText
 pub mod UnknownFunction
 pub mod UnreservedId
 pub mod Value
+pub mod Words

@@ -3,8 +3,7 @@
 ghost use Rattle.std.specs.Prelude.{◌≡◌, IfOk, Ok, Result};
 ghost use Rattle.std.specs.Fn.{FnReturnsAt};
 ghost use Rattle.std.specs.declared.cmp.Ordering.TheVariants.{Equal};
-ghost use Rattle.cedar_below.specs.Lists.{HoldsOfBoth, HoldsPairwise};
-ghost use Rattle.cedar_below.specs.declared.memory.Memory.{Memory};
+ghost use Rattle.cedar_below.specs.Words.{HoldsOfBoth, HoldsPairwise, Memory};
 
 use crate::memory::M;
 use std::collections::BTreeMap;

@@ -30,10 +30,7 @@ impl Entities {
     ghost use Rattle.std.specs.List.Sorted.{IsStrictlySortedBy};
     ghost use Rattle.std.specs.Map.Iter.{ShowsInOrder, deref};
     ghost use Rattle.std.specs.Option.{option_copied};
-    ghost use Rattle.cedar_below.specs.Entities.{entities_of, entity_at};
-    ghost use Rattle.cedar_below.specs.Entity.{entity_uid};
-    ghost use Rattle.cedar_below.specs.EntityUID.{uid_of};
-    ghost use Rattle.cedar_below.specs.PlainUid.{PlainUid, uid_cmp};
+    ghost use Rattle.cedar_below.specs.Words.{PlainUid, entities_of, entity_at, entity_uid, uid_cmp, uid_of};
 
     /// No entities.
     pub fn new(alloc: Global) -> Self

@@ -3,9 +3,7 @@
 ghost use Rattle.std.specs.Prelude.{◌≡◌, map};
 ghost use Rattle.std.specs.List.Sorted.{IsStrictlySortedBy};
 ghost use Rattle.std.specs.Map.Iter.{ShowsInOrder, deref};
-ghost use Rattle.cedar_below.specs.Entity.{entity_ancestors, entity_attrs, entity_tags, entity_uid, entity_uid_loc, entity_uid_type_loc};
-ghost use Rattle.cedar_below.specs.EntityUID.{uid_loc, uid_of, uid_type_loc};
-ghost use Rattle.cedar_below.specs.PlainUid.{uid_cmp};
+ghost use Rattle.cedar_below.specs.Words.{entity_ancestors, entity_attrs, entity_tags, entity_uid, entity_uid_loc, entity_uid_type_loc, uid_cmp, uid_loc, uid_of, uid_type_loc};
 
 use crate::entity_uid::EntityUID;
 use crate::value::Value;

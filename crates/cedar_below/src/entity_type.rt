@@ -1,12 +1,7 @@
 //! Names of entity types, which are never reserved.
 
 ghost use Rattle.std.specs.Prelude.{◌≡◌, ◌↔◌, IsTrue, IfErr, IfOk, OnOk, None};
-ghost use Rattle.cedar_below.specs.EntityType.{type_name, type_loc, is_type_shared};
-ghost use Rattle.cedar_below.specs.InternalName.{name_of, name_loc};
-ghost use Rattle.cedar_below.specs.Name.{plain_name, plain_loc};
-ghost use Rattle.cedar_below.specs.NameFault.{IsNameFault};
-ghost use Rattle.cedar_below.specs.NameText.{IsNameText, IsReservedNameText};
-ghost use Rattle.cedar_below.specs.PlainName.{IsActionType, IsReserved, name_text};
+ghost use Rattle.cedar_below.specs.Words.{IsActionType, IsNameFault, IsNameText, IsReserved, IsReservedNameText, is_type_shared, name_loc, name_of, name_text, plain_loc, plain_name, type_loc, type_name};
 
 use crate::internal_name::InternalName;
 use crate::loc::Loc;
@@ -121,8 +116,7 @@ impl EntityType {
 
 impl fmt::Display for EntityType {
     ghost use Rattle.std.specs.Prelude.{Some};
-    ghost use Rattle.cedar_below.specs.EntityType.{type_name};
-    ghost use Rattle.cedar_below.specs.PlainName.{name_text};
+    ghost use Rattle.cedar_below.specs.Words.{name_text, type_name};
 
     ghost output = { λ ty. Some (name_text (type_name ty)) };
 

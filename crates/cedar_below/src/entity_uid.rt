@@ -1,13 +1,7 @@
 //! Uids of entities: a type and an id.
 
 ghost use Rattle.std.specs.Prelude.{◌≡◌, ◌↔◌, IsTrue, IfOk, IfErr, None};
-ghost use Rattle.cedar_below.specs.Eid.{eid_text};
-ghost use Rattle.cedar_below.specs.EntityType.{type_loc, type_name};
-ghost use Rattle.cedar_below.specs.EntityUID.{uid_of, uid_loc, uid_type_loc, is_uid_shared};
-ghost use Rattle.cedar_below.specs.PlainName.{IsActionType};
-ghost use Rattle.cedar_below.specs.NameFault.{IsNameFault};
-ghost use Rattle.cedar_below.specs.UidReading.{IsTypeBefore, IsTypeFault};
-ghost use Rattle.cedar_below.specs.UidText.{IsReservedUidText, IsUidText, uid_text};
+ghost use Rattle.cedar_below.specs.Words.{IsActionType, IsNameFault, IsReservedUidText, IsTypeBefore, IsTypeFault, IsUidText, eid_text, is_uid_shared, type_loc, type_name, uid_loc, uid_of, uid_text, uid_type_loc};
 
 use crate::eid::Eid;
 use crate::entity_type::EntityType;
@@ -181,8 +175,7 @@ impl EntityUID {
 /// Prints the type, `::`, and the id as [`Quoted`] does.
 impl fmt::Display for EntityUID {
     ghost use Rattle.std.specs.Prelude.{Some};
-    ghost use Rattle.cedar_below.specs.EntityUID.{uid_of};
-    ghost use Rattle.cedar_below.specs.UidText.{uid_text};
+    ghost use Rattle.cedar_below.specs.Words.{uid_of, uid_text};
 
     ghost output = { λ uid. Some (uid_text (uid_of uid)) };
 

@@ -1,9 +1,7 @@
 //! Ids of entities, read as they stand in quotes.
 
 ghost use Rattle.std.specs.Prelude.{◌≡◌, ◌<◌, ◌++◌, IfOk, IfErr, codes, string_bytes};
-ghost use Rattle.cedar_below.specs.Escapes.{after_backslash, code_digit, escape_then, first_digit, is_coded, last_whole, second_digit};
-ghost use Rattle.cedar_below.specs.NameFault.{IsNameFault};
-ghost use Rattle.cedar_below.specs.UidText.{IsQuoted, escaped_text};
+ghost use Rattle.cedar_below.specs.Words.{IsNameFault, IsQuoted, after_backslash, code_digit, escape_then, escaped_text, first_digit, is_coded, last_whole, second_digit};
 
 use crate::name_fault::NameFault;
 use std::alloc::Global;

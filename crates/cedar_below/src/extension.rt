@@ -1,11 +1,7 @@
 //! Extension types and functions: what a schema may name beside Cedar's own types.
 
 ghost use Rattle.std.specs.Prelude.{◌≡◌, ◌↔◌, IsTrue, IsOk, IsSome, IfOk, IfErr, OnErr, OnOk, Contains, map};
-ghost use Rattle.cedar_below.specs.Extensions.{extension_types, function_named};
-ghost use Rattle.cedar_below.specs.ExtensionsFault.{IsExtensionsFault};
-ghost use Rattle.cedar_below.specs.Name.{plain_name, at_name};
-ghost use Rattle.cedar_below.specs.PlainName.{PlainName};
-ghost use Rattle.cedar_below.specs.TypeNames.{TypeNamesFit};
+ghost use Rattle.cedar_below.specs.Words.{IsExtensionsFault, PlainName, TypeNamesFit, at_name, extension_types, function_named, plain_name};
 
 use crate::core_schema_type::CoreSchemaType;
 use crate::name::Name;
@@ -34,8 +30,7 @@ impl Error for ExtensionFunctionLookupError<'_> {}
 
 impl fmt::Display for ExtensionFunctionLookupError<'_> {
     ghost use Rattle.std.specs.Prelude.{Some};
-    ghost use Rattle.cedar_below.specs.Name.{plain_name};
-    ghost use Rattle.cedar_below.specs.UnknownFunction.{unknown_function_text};
+    ghost use Rattle.cedar_below.specs.Words.{plain_name, unknown_function_text};
 
     ghost output = { λ error. Some (unknown_function_text (plain_name error.name.now)) };
 

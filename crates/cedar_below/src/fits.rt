@@ -1,13 +1,7 @@
 //! Fitting of arguments to the core types of an extension function.
 
 ghost use Rattle.std.specs.Prelude.{◌≡◌, ◌↔◌, IsTrue, Some, map};
-ghost use Rattle.cedar_below.specs.CoreSchemaType.{core_ty_of, core_fields_of, argument_types, result_type};
-ghost use Rattle.cedar_below.specs.CoreTy.{core_extension, core_names};
-ghost use Rattle.cedar_below.specs.EntityType.{type_name};
-ghost use Rattle.cedar_below.specs.Fits.{Fits, FieldsFit, ArgumentsFit, Returns, NamesListed};
-ghost use Rattle.cedar_below.specs.Name.{plain_name};
-ghost use Rattle.cedar_below.specs.RestrictedExpr.{tree_of, trees_of, entries_of};
-ghost use Rattle.cedar_below.specs.Tree.{EachTree, entry_names};
+ghost use Rattle.cedar_below.specs.Words.{ArgumentsFit, EachTree, FieldsFit, Fits, NamesListed, Returns, argument_types, core_extension, core_fields_of, core_names, core_ty_of, entries_of, entry_names, plain_name, result_type, tree_of, trees_of, type_name};
 
 use crate::core_schema_type::{CoreAttributeType, CoreSchemaType};
 use crate::entity_type::EntityType;

@@ -1,10 +1,7 @@
 //! Names that may be reserved.
 
 ghost use Rattle.std.specs.Prelude.{◌≡◌, ◌↔◌, IsTrue, IfOk, Contains, map};
-ghost use Rattle.cedar_below.specs.Identifier.{reserved_word};
-ghost use Rattle.cedar_below.specs.Id.{id_text};
-ghost use Rattle.cedar_below.specs.InternalName.{name_of, name_loc, is_name_shared, parts_of};
-ghost use Rattle.cedar_below.specs.PlainName.{IsUnqualified, IsReserved};
+ghost use Rattle.cedar_below.specs.Words.{IsReserved, IsUnqualified, id_text, is_name_shared, name_loc, name_of, parts_of, reserved_word};
 
 use crate::held::Held;
 use crate::id::Id;
@@ -179,8 +176,7 @@ impl fmt::Debug for InternalName {
 
 impl fmt::Display for InternalName {
     ghost use Rattle.std.specs.Prelude.{Some};
-    ghost use Rattle.cedar_below.specs.InternalName.{name_of};
-    ghost use Rattle.cedar_below.specs.PlainName.{name_text};
+    ghost use Rattle.cedar_below.specs.Words.{name_of, name_text};
 
     ghost output = { λ name. Some (name_text (name_of name)) };
 

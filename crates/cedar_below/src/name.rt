@@ -22,12 +22,7 @@ pub struct Name {
 
 impl Name {
     ghost use Rattle.std.specs.Prelude.{◌≡◌, ◌↔◌, IsTrue, IsSome, IfSome, IfOk, IfErr, None, map};
-    ghost use Rattle.cedar_below.specs.Id.{id_text};
-    ghost use Rattle.cedar_below.specs.InternalName.{name_of, name_loc};
-    ghost use Rattle.cedar_below.specs.NameFault.{IsNameFault};
-    ghost use Rattle.cedar_below.specs.NameText.{IsNameText, IsReservedNameText};
-    ghost use Rattle.cedar_below.specs.PlainName.{IsUnqualified, IsReserved, name_text};
-    ghost use Rattle.cedar_below.specs.Name.{plain_name, plain_loc, is_plain_shared};
+    ghost use Rattle.cedar_below.specs.Words.{IsNameFault, IsNameText, IsReserved, IsReservedNameText, IsUnqualified, id_text, is_plain_shared, name_loc, name_of, name_text, plain_loc, plain_name};
 
     /// The name, or None where it is reserved.
     pub fn new(name: InternalName) -> Option<Self>
@@ -148,8 +143,7 @@ impl Name {
 
 impl fmt::Display for Name {
     ghost use Rattle.std.specs.Prelude.{Some};
-    ghost use Rattle.cedar_below.specs.Name.{plain_name};
-    ghost use Rattle.cedar_below.specs.PlainName.{name_text};
+    ghost use Rattle.cedar_below.specs.Words.{name_text, plain_name};
 
     ghost output = { λ name. Some (name_text (plain_name name)) };
 

@@ -1,8 +1,7 @@
 //! Lists that are not empty.
 
 ghost use Rattle.std.specs.Prelude.{◌≡◌, IfOk, map};
-ghost use Rattle.cedar_below.specs.Eid.{eid_text};
-ghost use Rattle.cedar_below.specs.NonEmpty.{items_of};
+ghost use Rattle.cedar_below.specs.Words.{eid_text, items_of};
 
 use crate::eid::Eid;
 use crate::memory::M;

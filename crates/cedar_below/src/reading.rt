@@ -1,11 +1,7 @@
 //! Names read from text, byte by byte.
 
 ghost use Rattle.std.specs.Prelude.{◌≡◌, IfOk, IfErr, None};
-ghost use Rattle.cedar_below.specs.InternalName.{name_loc, name_of};
-ghost use Rattle.cedar_below.specs.NameFault.{IsNameFault};
-ghost use Rattle.cedar_below.specs.NameText.{IsNameText};
-ghost use Rattle.cedar_below.specs.PlainName.{name_text};
-ghost use Rattle.cedar_below.specs.Reading.{reading_then};
+ghost use Rattle.cedar_below.specs.Words.{IsNameFault, IsNameText, name_loc, name_of, name_text, reading_then};
 
 use crate::id::{is_inner, is_start};
 use crate::internal_name::InternalName;

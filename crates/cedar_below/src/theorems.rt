@@ -4,19 +4,7 @@
 ghost use Rattle.std.specs.Prelude.{◌≡◌, ◌↔◌, IsTrue};
 ghost use Rattle.std.specs.Cmp.{IsTotalOrder};
 ghost use Rattle.std.specs.Str.{IsUtf8};
-ghost use Rattle.cedar_below.specs.Eid.{eid_text};
-ghost use Rattle.cedar_below.specs.EntityType.{type_name};
-ghost use Rattle.cedar_below.specs.EntityUID.{uid_of};
-ghost use Rattle.cedar_below.specs.Id.{id_text};
-ghost use Rattle.cedar_below.specs.InternalName.{name_of};
-ghost use Rattle.cedar_below.specs.IsValue.{IsName};
-ghost use Rattle.cedar_below.specs.Name.{plain_name};
-ghost use Rattle.cedar_below.specs.NameText.{IsOfIdentifiers};
-ghost use Rattle.cedar_below.specs.PlainName.{PlainName, name_cmp, name_text};
-ghost use Rattle.cedar_below.specs.PlainUid.{PlainUid, uid_cmp};
-ghost use Rattle.cedar_below.specs.Text.{text_cmp};
-ghost use Rattle.cedar_below.specs.UidText.{uid_text};
-ghost use Rattle.cedar_below.specs.UnreservedId.{unreserved_id_text};
+ghost use Rattle.cedar_below.specs.Words.{IsName, IsOfIdentifiers, PlainName, PlainUid, eid_text, id_text, name_cmp, name_of, name_text, plain_name, text_cmp, type_name, uid_cmp, uid_of, uid_text, unreserved_id_text};
 
 use crate::eid::Eid;
 use crate::entity_type::EntityType;

@@ -1,9 +1,7 @@
 //! Whether names of extension types fit.
 
 ghost use Rattle.std.specs.Prelude.{◌≡◌, ◌≢◌, ◌↔◌, IsTrue, All, AllPairs, Contains, map};
-ghost use Rattle.cedar_below.specs.Name.{plain_name};
-ghost use Rattle.cedar_below.specs.PlainName.{IsUnqualified};
-ghost use Rattle.cedar_below.specs.TypeNames.{TypeNamesFit, primitive_words};
+ghost use Rattle.cedar_below.specs.Words.{IsUnqualified, TypeNamesFit, plain_name, primitive_words};
 
 use crate::name::Name;
 

@@ -1,9 +1,7 @@
 //! Values and the expressions that they are given by.
 
 ghost use Rattle.std.specs.Prelude.{◌≡◌, IfOk};
-ghost use Rattle.cedar_below.specs.Copies.{IsCopy};
-ghost use Rattle.cedar_below.specs.RestrictedExpr.{tree_of};
-ghost use Rattle.cedar_below.specs.Value.{value_expr};
+ghost use Rattle.cedar_below.specs.Words.{IsCopy, tree_of, value_expr};
 
 use crate::entity_uid::EntityUID;
 use crate::memory::M;

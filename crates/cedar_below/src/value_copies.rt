@@ -1,8 +1,7 @@
 //! Copies of values.
 
 ghost use Rattle.std.specs.Prelude.{IfOk, List};
-ghost use Rattle.cedar_below.specs.RestrictedExpr.{entries_of, tree_of, trees_of};
-ghost use Rattle.cedar_below.specs.Copies.{AreCopies, AreEntryCopies, IsCopy};
+ghost use Rattle.cedar_below.specs.Words.{AreCopies, AreEntryCopies, IsCopy, entries_of, tree_of, trees_of};
 
 use crate::maps::put;
 use crate::memory::M;

@@ -1,8 +1,7 @@
 //! Identifiers of words that are known to be identifiers.
 
 ghost use Rattle.std.specs.Prelude.{◌≡◌, IfOk, string_bytes};
-ghost use Rattle.cedar_below.specs.Id.{id_text};
-ghost use Rattle.cedar_below.specs.Identifier.{IsIdentifier};
+ghost use Rattle.cedar_below.specs.Words.{IsIdentifier, id_text};
 
 use crate::id::Id;
 use crate::memory::M;

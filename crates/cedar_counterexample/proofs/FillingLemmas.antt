@@ -10,32 +10,12 @@ use Rattle.cedar_below.proofs.Inclusion.{Included-none}
 use Rattle.cedar_below.proofs.Lists.{Contains-cons_cases}
 use Rattle.cedar_below.proofs.TreeLemmas.{entry_at-entries}
 use Rattle.cedar_below.proofs.ValueLemmas.{IsName-type_name}
-use Rattle.cedar_below.specs.EntityType.{type_name}
-use Rattle.cedar_below.specs.Fits.{EntryFits, Gives, NamesListed}
-use Rattle.cedar_below.specs.IsValue.{AreEntries}
-use Rattle.cedar_below.specs.PlainName.{PlainName}
-use Rattle.cedar_below.specs.RestrictedExpr.{entries_of, tree_of}
-use Rattle.cedar_below.specs.Text.{Text}
-use Rattle.cedar_below.specs.Tree.{Entries, Tree, entry, entry_at, entry_names, map_value, no_entry, uid_value}
-use Rattle.cedar_below.specs.declared.entity_type.EntityType.{EntityType}
-use Rattle.cedar_below.specs.declared.value.RestrictedExpr.{RestrictedExpr}
-use Rattle.cedar_below.specs.declared.extension.Extensions.{Extensions}
+use Rattle.cedar_counterexample.specs.Words.{AreEntries, ClosedAttributes, EntityKind, EntityType, Entries, EntryFits, Extensions, Fields, Gives, Has, HasField, HasUid, IsFilled, IsPut, IsSortedByName, IsValueOf, NamesListed, OpenAttributes, OpenTag, PlainName, RestrictedExpr, Text, Tree, Ty, entries_of, entry, entry_at, entry_names, field, field_names, is_open, kind_ty, map_value, no_entry, record_of, tree_of, type_name, uid_value}
 use Rattle.cedar_type_rules.proofs.AgreeLaws.{HasField-once}
 use Rattle.cedar_type_rules.proofs.RecordAnswers.{decide_texts}
 use Rattle.cedar_type_rules.proofs.SampleValues.{HasFields-from, entry_here, entry_named, entry_there, fits_some, only_listed, uid_is_value}
 use Rattle.cedar_type_rules.proofs.SubtypeLaws.{FieldsWithin, HasField-name}
 use Rattle.cedar_type_rules.proofs.SubtypeLemmas.{chosen_first, unchosen}
-use Rattle.cedar_type_rules.specs.Below.{HasField}
-use Rattle.cedar_type_rules.specs.Fields.{IsSortedByName, field_names}
-use Rattle.cedar_type_rules.specs.Has.{Has, HasUid}
-use Rattle.cedar_type_rules.specs.OpenTag.{is_open}
-use Rattle.cedar_type_rules.specs.Ty.{Fields, Ty, field, record_of}
-use Rattle.cedar_type_rules.specs.declared.open_tag.OpenTag.{OpenTag}
-use Rattle.cedar_type_rules.specs.declared.open_tag.OpenTag.TheVariants.{ClosedAttributes, OpenAttributes}
-use Rattle.cedar_counterexample.specs.Filling.{IsFilled, IsPut}
-use Rattle.cedar_counterexample.specs.Counterexample.{IsValueOf}
-use Rattle.cedar_types.specs.EntityKind.{kind_ty}
-use Rattle.cedar_types.specs.declared.entity_kind.EntityKind.{EntityKind}
 
 -- what is found is nothing or a value
 pub nothing_or : (found : Option Tree) → (found ≡ None) ⊎ ((value : Tree) × (found ≡ Some value))

@@ -8,13 +8,7 @@ use Rattle.std.specs.String.{string_cmp_total}
 use Rattle.std.specs.declared.string.String.{String}
 use Rattle.cedar_below.proofs.Ordered.{above_front, insert_entry-end}
 use Rattle.cedar_below.proofs.ValueCopies.{Pairs, plain_pairs}
-use Rattle.cedar_below.specs.RestrictedExpr.{entries_of, tree_of}
-use Rattle.cedar_below.specs.Text.{Text}
-use Rattle.cedar_below.specs.Tree.{Tree, entries_from}
-use Rattle.cedar_below.specs.Value.{value_expr}
-use Rattle.cedar_below.specs.declared.value.RestrictedExpr.{RestrictedExpr}
-use Rattle.cedar_below.specs.declared.value.Value.{Value}
-use Rattle.cedar_counterexample.specs.ValueEntries.{value_entries}
+use Rattle.cedar_counterexample.specs.Words.{RestrictedExpr, Text, Tree, Value, entries_from, entries_of, tree_of, value_entries, value_expr}
 
 -- the values of a map, each under its name
 abbrev pub Named : Type 0

@@ -9,11 +9,7 @@ use Rattle.std.specs.declared.cmp.Ordering.TheVariants.{Less, Equal, Greater}
 use Rattle.std.specs.declared.string.String.{String}
 use Rattle.cedar_below.proofs.Texts.{text_cmp-Equal}
 use Rattle.cedar_below.proofs.ValueCopies.{AreReal, Pairs, plain_pairs}
-use Rattle.cedar_below.specs.IsValue.{IsValue}
-use Rattle.cedar_below.specs.RestrictedExpr.{tree_of}
-use Rattle.cedar_below.specs.Text.{Text}
-use Rattle.cedar_below.specs.Tree.{entries_from, entry_at}
-use Rattle.cedar_below.specs.declared.value.RestrictedExpr.{RestrictedExpr}
+use Rattle.cedar_counterexample.specs.Words.{IsValue, RestrictedExpr, Text, entries_from, entry_at, tree_of}
 
 -- a choice under the same test
 chosen_again : {X : Type 0} (b : Bool) (x y z : X) → (if b then x else z) ≡ (if b then x else (if b then y else z))

@@ -1,8 +1,6 @@
 -- The sizes of plain types.
 use Rattle.std.proofs.Common.{◌<◌, ◌+◌, ℕ, Bool, arith, inl, inr}
-use Rattle.cedar_below.specs.Text.{Text}
-use Rattle.cedar_type_rules.specs.Below.{HasField}
-use Rattle.cedar_type_rules.specs.Ty.{Fields, Ty, end, field, record_of, set_of}
+use Rattle.cedar_counterexample.specs.Words.{Fields, HasField, Text, Ty, end, field, record_of, set_of}
 
 abbrev mutual
   -- how many parts a type has

@@ -2,31 +2,14 @@
 use Rattle.std.proofs.Common.{◌≡◌, inl, inr, Bool, true, false, refl, sym, subst, ◌∙◌, List, [], Option, Some, None, Contains, arith, IsTrue}
 use Rattle.cedar_below.proofs.Inclusion.{Included-cons, Included-none}
 use Rattle.cedar_below.proofs.Lists.{Contains-cons_cases}
-use Rattle.cedar_below.specs.Fits.{EntryFits, Gives, NamesListed}
-use Rattle.cedar_below.specs.IsValue.{IsText, IsValue}
-use Rattle.cedar_below.specs.Lists.{Included}
-use Rattle.cedar_below.specs.Text.{Text}
-use Rattle.cedar_below.specs.Tree.{Entries, Tree, entry, entry_at, entry_names, map_value, no_entry, truth_value}
-use Rattle.cedar_below.specs.declared.extension.Extensions.{Extensions}
+use Rattle.cedar_counterexample.specs.Words.{AreInhabitedWith, ClosedAttributes, Entries, EntryFits, Extensions, Fields, FieldsIncluded, Gives, Has, HasField, Included, IsCounterexample, IsFilled, IsInhabitedWith, IsOutsideAnswer, IsOutsideAt, IsSortedByName, IsStart, IsText, IsValue, IsValueOf, NamesListed, OpenAttributes, OpenTag, PlainFound, PlainStart, Text, Tree, Ty, empty_start, end, entry, entry_at, entry_names, field, field_names, is_open, map_value, no_entry, record_of, start_through, truth_value}
 use Rattle.cedar_type_rules.proofs.AgreeLaws.{HasField-once}
 use Rattle.cedar_type_rules.proofs.MemberLaws.{HasFieldsBy-of}
 use Rattle.cedar_type_rules.proofs.RecordAnswers.{decide_texts}
 use Rattle.cedar_type_rules.proofs.SampleValues.{entry_here, entry_named, entry_there, only_listed, some_fits}
 use Rattle.cedar_type_rules.proofs.SubtypeLaws.{FieldsWithin, HasField-name}
-use Rattle.cedar_type_rules.specs.Below.{HasField}
-use Rattle.cedar_type_rules.specs.Fields.{IsSortedByName, field_names}
-use Rattle.cedar_type_rules.specs.Has.{Has}
-use Rattle.cedar_type_rules.specs.IncludedByParts.{FieldsIncluded}
-use Rattle.cedar_type_rules.specs.OpenTag.{is_open}
-use Rattle.cedar_type_rules.specs.Stated.{AreInhabitedWith, IsInhabitedWith}
-use Rattle.cedar_type_rules.specs.Ty.{Fields, Ty, end, field, record_of}
-use Rattle.cedar_type_rules.specs.declared.open_tag.OpenTag.{OpenTag}
-use Rattle.cedar_type_rules.specs.declared.open_tag.OpenTag.TheVariants.{ClosedAttributes, OpenAttributes}
 use Rattle.cedar_counterexample.proofs.FillingLemmas.{filled_has, nothing_or}
 use Rattle.cedar_counterexample.proofs.TypeCounterexamples.{separated_outside}
-use Rattle.cedar_counterexample.specs.Filling.{IsFilled, IsStart}
-use Rattle.cedar_counterexample.specs.Counterexample.{IsCounterexample, IsOutsideAnswer, IsValueOf, PlainFound, PlainStart, empty_start, start_through}
-use Rattle.cedar_counterexample.specs.Steps.{IsOutsideAt}
 
 -- the type of an attribute is inhabited where those of all are
 pub AreInhabitedWith-of : (extensions : Extensions) (samples : List Tree) (fields : Fields) (name : Text) (required : Bool) (ty : Ty)

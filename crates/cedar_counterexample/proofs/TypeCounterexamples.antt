@@ -1,14 +1,6 @@
 -- Values that separate two types.
 use Rattle.std.proofs.Common.{◌≡◌, sym, ap, ◌∙◌, Bool, None}
-use Rattle.cedar_below.specs.IsValue.{IsValue}
-use Rattle.cedar_below.specs.Tree.{Tree, no_tree, set_value, tree}
-use Rattle.cedar_below.specs.declared.extension.Extensions.{Extensions}
-use Rattle.cedar_type_rules.specs.Has.{Has}
-use Rattle.cedar_type_rules.specs.InclusionLaws.{ValuesIncluded}
-use Rattle.cedar_type_rules.specs.Ty.{Fields, Ty, any_set, set_of}
-use Rattle.cedar_counterexample.specs.Counterexample.{IsCounterexample}
-use Rattle.cedar_types.specs.Meaning.{attribute_step, attributes_step, ty_of, type_step}
-use Rattle.cedar_types.specs.declared.types.Type.{fold-roll-Type, roll-Type}
+use Rattle.cedar_counterexample.specs.Words.{Extensions, Fields, Has, IsCounterexample, IsValue, Tree, Ty, ValuesIncluded, any_set, attribute_step, attributes_step, fold-roll-Type, no_tree, roll-Type, set_of, set_value, tree, ty_of, type_step}
 use Rattle.cedar_types.specs.declared.types.Type.TheOpen as layer
 use Rattle.cedar_types.specs.declared.types.Type.TheVariants as type
 

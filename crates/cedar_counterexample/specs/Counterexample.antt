@@ -1,12 +1,7 @@
 use Rattle.std.specs.Prelude.{List, [], ◌∷◌, Option, Some, None}
-use Rattle.cedar_below.specs.IsValue.{IsValue}
-use Rattle.cedar_below.specs.RestrictedExpr.{entries_of, tree_of}
-use Rattle.cedar_below.specs.Text.{Text}
-use Rattle.cedar_below.specs.Tree.{Entries, Tree, entry, map_value, no_entry, no_tree, set_value, tree}
+use Rattle.cedar_below.specs.Words.{Entries, IsValue, Text, Tree, entries_of, entry, map_value, no_entry, no_tree, set_value, tree, tree_of}
 use Rattle.cedar_below.specs.declared.extension.Extensions.{Extensions}
-use Rattle.cedar_type_rules.specs.Has.{Has}
-use Rattle.cedar_type_rules.specs.IncludedByParts.{IncludedByParts}
-use Rattle.cedar_type_rules.specs.Ty.{Ty}
+use Rattle.cedar_type_rules.specs.Words.{Has, IncludedByParts, Ty}
 use Rattle.cedar_counterexample.specs.Steps.{IsOutsideAt, PlainStep, attribute_step, element_step, noted_steps}
 use Rattle.cedar_counterexample.specs.declared.found.Found.{Found}
 use Rattle.cedar_counterexample.specs.declared.found.Start.{Start}

@@ -1,17 +1,8 @@
 use Rattle.std.specs.Prelude.{◌≡◌, ◌⊎◌, Bool, true, if◌then◌else◌, Option, Some, None}
 use Rattle.std.specs.Str.{bytes_eq}
-use Rattle.cedar_below.specs.Fits.{NamesListed}
-use Rattle.cedar_below.specs.IsValue.{AreEntries, IsValue}
-use Rattle.cedar_below.specs.Text.{Text}
-use Rattle.cedar_below.specs.Tree.{Entries, Tree, entry_at, entry_names, map_value}
+use Rattle.cedar_below.specs.Words.{AreEntries, Entries, IsValue, NamesListed, Text, Tree, entry_at, entry_names, map_value}
 use Rattle.cedar_below.specs.declared.extension.Extensions.{Extensions}
-use Rattle.cedar_type_rules.specs.Below.{HasField}
-use Rattle.cedar_type_rules.specs.Fields.{field_names}
-use Rattle.cedar_type_rules.specs.Has.{Has}
-use Rattle.cedar_type_rules.specs.IncludedByParts.{FieldsIncluded, IncludedByParts}
-use Rattle.cedar_type_rules.specs.InclusionLaws.{ValuesIncluded}
-use Rattle.cedar_type_rules.specs.OpenTag.{is_open}
-use Rattle.cedar_type_rules.specs.Ty.{Fields, Ty, end, field, record_of}
+use Rattle.cedar_type_rules.specs.Words.{Fields, FieldsIncluded, Has, HasField, IncludedByParts, Ty, ValuesIncluded, end, field, field_names, is_open, record_of}
 use Rattle.cedar_type_rules.specs.declared.open_tag.OpenTag.{OpenTag}
 use Rattle.cedar_counterexample.specs.Counterexample.{PlainStart}
 use Rattle.cedar_counterexample.specs.Steps.{IsOutsideAt}

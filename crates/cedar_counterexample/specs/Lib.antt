@@ -3,3 +3,4 @@ pub mod Filling
 pub mod Search
 pub mod Steps
 pub mod ValueEntries
+pub mod Words

@@ -1,6 +1,5 @@
 -- Types of which a search for a value has samples.
-use Rattle.cedar_type_rules.specs.Stated.{AreInhabitedWith, IsInhabitedWith}
-use Rattle.cedar_type_rules.specs.Ty.{Fields, Ty}
+use Rattle.cedar_type_rules.specs.Words.{AreInhabitedWith, Fields, IsInhabitedWith, Ty}
 use Rattle.cedar_types.specs.Samples.{value_trees}
 use Rattle.cedar_counterexample.specs.declared.search.Search.{Search}
 

@@ -3,9 +3,7 @@ use Rattle.std.specs.Prelude.{map, string_bytes}
 use Rattle.std.specs.BTreeMap.{BTreeMap}
 use Rattle.std.specs.declared.alloc.Global.{Global}
 use Rattle.std.specs.declared.string.String.{String}
-use Rattle.cedar_below.specs.RestrictedExpr.{tree_of}
-use Rattle.cedar_below.specs.Tree.{Entries, entries_from}
-use Rattle.cedar_below.specs.Value.{value_expr}
+use Rattle.cedar_below.specs.Words.{Entries, entries_from, tree_of, value_expr}
 use Rattle.cedar_below.specs.declared.value.Value.{Value}
 
 -- the values of a map, each under its name

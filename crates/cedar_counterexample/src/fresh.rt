@@ -1,12 +1,7 @@
 //! Names that stand nowhere in a type.
 
 ghost use Rattle.std.specs.Prelude.{◌≡◌, ◌+◌, ◌≤◌, IfOk, Contains, length, replicate, string_bytes};
-ghost use Rattle.cedar_below.specs.EntityType.{type_name};
-ghost use Rattle.cedar_below.specs.PlainName.{PlainName};
-ghost use Rattle.cedar_below.specs.Text.{Text};
-ghost use Rattle.cedar_type_rules.specs.Fields.{field_names};
-ghost use Rattle.cedar_types.specs.EntityLUB.{lub_names};
-ghost use Rattle.cedar_types.specs.Meaning.{fields_of};
+ghost use Rattle.cedar_counterexample.specs.Words.{PlainName, Text, field_names, fields_of, lub_names, type_name};
 
 use cedar_below::{EntityType, Id, InternalName, M, Name};
 use cedar_types::{Attributes, EntityLUB};

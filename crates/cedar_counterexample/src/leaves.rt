@@ -2,15 +2,7 @@
 
 ghost use Rattle.std.specs.Prelude.{◌≡◌, IfOk};
 ghost use Rattle.std.specs.Option.{option_map};
-ghost use Rattle.cedar_below.specs.IsValue.{IsValue};
-ghost use Rattle.cedar_below.specs.RestrictedExpr.{tree_of};
-ghost use Rattle.cedar_below.specs.Tree.{set_value, tree, no_tree};
-ghost use Rattle.cedar_below.specs.declared.extension.Extensions.{Extensions};
-ghost use Rattle.cedar_type_rules.specs.Has.{Has};
-ghost use Rattle.cedar_counterexample.specs.Counterexample.{IsCounterexampleAnswer};
-ghost use Rattle.cedar_counterexample.specs.Search.{IsSampledIn};
-ghost use Rattle.cedar_counterexample.specs.Steps.{ShareNoParts};
-ghost use Rattle.cedar_types.specs.Meaning.{ty_of};
+ghost use Rattle.cedar_counterexample.specs.Words.{Extensions, Has, IsCounterexampleAnswer, IsSampledIn, IsValue, ShareNoParts, no_tree, set_value, tree, tree_of, ty_of};
 
 use crate::samples::sample_of;
 use crate::search::Search;

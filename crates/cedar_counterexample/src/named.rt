@@ -1,8 +1,7 @@
 //! The values of a record, by name.
 
 ghost use Rattle.std.specs.Prelude.{◌≡◌, IfOk};
-ghost use Rattle.cedar_below.specs.RestrictedExpr.{entries_of};
-ghost use Rattle.cedar_counterexample.specs.ValueEntries.{value_entries};
+ghost use Rattle.cedar_counterexample.specs.Words.{entries_of, value_entries};
 
 use cedar_below::{M, RestrictedExpr, Value};
 use std::alloc::Global;

@@ -1,18 +1,7 @@
 //! Values of one type that another hasn't.
 
 ghost use Rattle.std.specs.Prelude.{◌≡◌, ◌↔◌, IfOk, IfSome, None};
-ghost use Rattle.cedar_below.specs.IsValue.{IsValue};
-ghost use Rattle.cedar_below.specs.Tree.{map_value};
-ghost use Rattle.cedar_below.specs.declared.validation_mode.ValidationMode.TheVariants.{Permissive};
-ghost use Rattle.cedar_type_rules.specs.Below.{Below};
-ghost use Rattle.cedar_type_rules.specs.Has.{Has};
-ghost use Rattle.cedar_type_rules.specs.InclusionLaws.{ValuesIncluded};
-ghost use Rattle.cedar_type_rules.specs.Stated.{AreInhabitedWith, IsInhabitedWith, IsStatedWith};
-ghost use Rattle.cedar_type_rules.specs.Ty.{record_of};
-ghost use Rattle.cedar_counterexample.specs.Steps.{IsOutsideAt, steps_of};
-ghost use Rattle.cedar_counterexample.specs.ValueEntries.{value_entries};
-ghost use Rattle.cedar_types.specs.Meaning.{fields_of, ty_of};
-ghost use Rattle.cedar_types.specs.Samples.{value_tree, value_trees};
+ghost use Rattle.cedar_counterexample.specs.Words.{AreInhabitedWith, Below, Has, IsInhabitedWith, IsOutsideAt, IsStatedWith, IsValue, Permissive, ValuesIncluded, fields_of, map_value, record_of, steps_of, ty_of, value_entries, value_tree, value_trees};
 
 use crate::found::{AttributesOutside, Found, Outside, Start};
 use crate::named::named_values;

@@ -1,15 +1,7 @@
 //! One value of a type, with no part that it doesn't need.
 
 ghost use Rattle.std.specs.Prelude.{◌≡◌, [], IfOk};
-ghost use Rattle.cedar_below.specs.EntityType.{type_name};
-ghost use Rattle.cedar_below.specs.RestrictedExpr.{entries_of, tree_of};
-ghost use Rattle.cedar_below.specs.Tree.{uid_value};
-ghost use Rattle.cedar_below.specs.declared.extension.Extensions.{Extensions};
-ghost use Rattle.cedar_counterexample.specs.Counterexample.{IsValueOf};
-ghost use Rattle.cedar_counterexample.specs.Filling.{IsFilled};
-ghost use Rattle.cedar_counterexample.specs.Search.{AreSampledIn, IsSampledIn};
-ghost use Rattle.cedar_types.specs.EntityKind.{kind_ty};
-ghost use Rattle.cedar_types.specs.Meaning.{fields_of, ty_of};
+ghost use Rattle.cedar_counterexample.specs.Words.{AreSampledIn, Extensions, IsFilled, IsSampledIn, IsValueOf, entries_of, fields_of, kind_ty, tree_of, ty_of, type_name, uid_value};
 
 use crate::fresh::type_of_length;
 use crate::putting::put;

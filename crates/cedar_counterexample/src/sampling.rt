@@ -1,15 +1,7 @@
 //! Samples of types, and of the attributes of records.
 
 ghost use Rattle.std.specs.Prelude.{IfOk};
-ghost use Rattle.cedar_below.specs.IsValue.{IsValue};
-ghost use Rattle.cedar_below.specs.Tree.{map_value};
-ghost use Rattle.cedar_type_rules.specs.Has.{Has};
-ghost use Rattle.cedar_type_rules.specs.Stated.{AreInhabitedWith, IsInhabitedWith};
-ghost use Rattle.cedar_type_rules.specs.Ty.{record_of};
-ghost use Rattle.cedar_type_rules.specs.declared.open_tag.OpenTag.{OpenTag};
-ghost use Rattle.cedar_counterexample.specs.ValueEntries.{value_entries};
-ghost use Rattle.cedar_types.specs.Meaning.{fields_of, ty_of};
-ghost use Rattle.cedar_types.specs.Samples.{value_tree, value_trees};
+ghost use Rattle.cedar_counterexample.specs.Words.{AreInhabitedWith, Has, IsInhabitedWith, IsValue, OpenTag, fields_of, map_value, record_of, ty_of, value_entries, value_tree, value_trees};
 
 use crate::named::named_values;
 use crate::samples::{fill, sample_of};

@@ -2,17 +2,7 @@
 
 ghost use Rattle.std.specs.Prelude.{◌≡◌, [], Contains, IfOk, string_bytes};
 ghost use Rattle.std.specs.Option.{option_map};
-ghost use Rattle.cedar_below.specs.RestrictedExpr.{entries_of, tree_of};
-ghost use Rattle.cedar_below.specs.Tree.{entry, no_entry};
-ghost use Rattle.cedar_below.specs.declared.extension.Extensions.{Extensions};
-ghost use Rattle.cedar_type_rules.specs.Fields.{field_names};
-ghost use Rattle.cedar_type_rules.specs.IncludedByParts.{FieldsIncluded};
-ghost use Rattle.cedar_type_rules.specs.Ty.{Fields, Ty, record_of, set_of};
-ghost use Rattle.cedar_type_rules.specs.declared.open_tag.OpenTag.TheVariants.{ClosedAttributes};
-ghost use Rattle.cedar_counterexample.specs.Counterexample.{IsCounterexampleAnswer, IsOutsideAnswer, empty_start, found_element, found_of, record_found, start_of, start_through};
-ghost use Rattle.cedar_counterexample.specs.Filling.{IsAttributeStart, IsFieldStart, IsRecordStart};
-ghost use Rattle.cedar_counterexample.specs.Search.{AreSampledIn, IsSampledIn};
-ghost use Rattle.cedar_types.specs.Meaning.{attribute_of, fields_of, ty_of};
+ghost use Rattle.cedar_counterexample.specs.Words.{AreSampledIn, ClosedAttributes, Extensions, Fields, FieldsIncluded, IsAttributeStart, IsCounterexampleAnswer, IsFieldStart, IsOutsideAnswer, IsRecordStart, IsSampledIn, Ty, attribute_of, empty_start, entries_of, entry, field_names, fields_of, found_element, found_of, no_entry, record_found, record_of, set_of, start_of, start_through, tree_of, ty_of};
 
 use crate::found::{Found, Start};
 use crate::fresh::fresh_name;

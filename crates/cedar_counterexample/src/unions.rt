@@ -2,16 +2,7 @@
 
 ghost use Rattle.std.specs.Prelude.{◌≡◌, IfOk, IfSome, None, Contains};
 ghost use Rattle.std.specs.Option.{option_map};
-ghost use Rattle.cedar_below.specs.EntityType.{type_name};
-ghost use Rattle.cedar_below.specs.Lists.{Included};
-ghost use Rattle.cedar_below.specs.RestrictedExpr.{tree_of};
-ghost use Rattle.cedar_below.specs.declared.extension.Extensions.{Extensions};
-ghost use Rattle.cedar_type_rules.specs.Has.{HasTruth};
-ghost use Rattle.cedar_type_rules.specs.IncludedByParts.{IncludedByParts};
-ghost use Rattle.cedar_type_rules.specs.Ty.{truth};
-ghost use Rattle.cedar_counterexample.specs.Counterexample.{IsCounterexampleAnswer};
-ghost use Rattle.cedar_types.specs.EntityKind.{kind_ty};
-ghost use Rattle.cedar_types.specs.EntityLUB.{lub_names};
+ghost use Rattle.cedar_counterexample.specs.Words.{Extensions, HasTruth, Included, IncludedByParts, IsCounterexampleAnswer, kind_ty, lub_names, tree_of, truth, type_name};
 
 use crate::fresh::fresh_type;
 use crate::samples::entity_of;

@@ -1,24 +1,10 @@
 -- The entities of actions of a declared schema are those of the actions that are defined.
 use Rattle.std.proofs.Common.{List, [], ◌∷◌, map, sym, subst, Contains, inl, inr}
-use Rattle.cedar_below.specs.PlainName.{PlainName}
-use Rattle.cedar_below.specs.PlainUid.{PlainUid}
-use Rattle.cedar_below.specs.declared.extension.Extensions.{Extensions}
-use Rattle.cedar_names.specs.ActionBody.{Requests, requests, elsewhere}
-use Rattle.cedar_names.specs.Reference.{ActionReference}
+use Rattle.cedar_declaration_laws.specs.Words.{ActionEntitiesAreDeclared, ActionKind, ActionReference, ActionSays, Bag, DefinesAction, Extensions, HasParentAction, IsDeclaredActionKind, IsDeclaredSchema, IsDefinedKind, IsDescendantAction, IsFirst, ListsDescendantAction, NamesAction, PlainName, PlainSchema, PlainUid, Requests, action_uids, defined_action, defined_actions, definitions, elsewhere, external_action, requests}
 use Rattle.cedar_below.proofs.Chains.{last_step}
 use Rattle.cedar_declarations.proofs.OccurrenceLemmas.{Contains-image, Contains-entry}
 use Rattle.cedar_declarations.proofs.TogetherLemmas.{defined_action_is_declared}
 use Rattle.cedar_declaration_laws.proofs.ValidLaws.{listed_action}
-use Rattle.cedar_declarations.specs.ActionEntities.{DefinesAction, IsDefinedKind}
-use Rattle.cedar_declarations.specs.Bag.{Bag, action_uids, definitions}
-use Rattle.cedar_declarations.specs.DeclaredSchema.{IsDeclaredActionKind, IsDeclaredSchema}
-use Rattle.cedar_declarations.specs.Descent.{HasParentAction, IsDescendantAction}
-use Rattle.cedar_declaration_laws.specs.EndToEnd.{ActionEntitiesAreDeclared}
-use Rattle.cedar_declarations.specs.Names.{NamesAction}
-use Rattle.cedar_declarations.specs.Occurrences.{IsFirst}
-use Rattle.cedar_declarations.specs.PlainSchema.{ActionKind, defined_action, external_action, PlainSchema}
-use Rattle.cedar_declarations.specs.Together.{defined_actions, ActionSays}
-use Rattle.cedar_declarations.specs.ValidSchema.{ListsDescendantAction}
 
 -- of the first item of which a fact holds it holds
 first_holds : {A : Type 0} (P : A → Type 0) (xs : List A) (x : A) → IsFirst P xs x → P x

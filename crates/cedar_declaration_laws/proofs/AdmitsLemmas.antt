@@ -1,19 +1,8 @@
 -- A type has just the values that the expression admits which is elaborated as it.
 use Rattle.std.proofs.Common.{◌≡◌, Bool, false, [], ◌∷◌, Option, Some, None, ap, refl, arith, inl, inr}
 use Rattle.cedar_below.proofs.Lists.{Contains-cons_cases}
-use Rattle.cedar_below.specs.Fits.{Gives, EntryFits}
-use Rattle.cedar_below.specs.Text.{Text}
-use Rattle.cedar_below.specs.Tree.{Tree, truth_value, number_value, text_value, uid_value, set_value, map_value, call_value, Trees, no_tree, tree, Entries, entry_at, EachTree}
-use Rattle.cedar_below.specs.declared.extension.Extensions.{Extensions}
-use Rattle.cedar_names.specs.Expr.{Expr, Members, member}
+use Rattle.cedar_declaration_laws.specs.Words.{Admits, AdmitsEach, AdmitsMembers, Defined, EachTree, ElaboratesTo, Entries, EntryFits, Expr, Extensions, Fields, Gives, Has, HasFieldsBy, IsDefined, Members, MembersElaborateTo, Text, Tree, Trees, Ty, admits_common, admits_entity, admits_extension, admits_first, admits_long, admits_missing, admits_no_member, admits_none, admits_record, admits_set, admits_text, admits_there, admits_truth, as_common, as_entity, as_extension, as_long, as_member, as_no_member, as_record, as_set, as_text, as_truth, call_value, entry_at, field_names, map_value, member, member_names, names_of, no_tree, number_value, set_value, text_value, tree, truth_value, uid_value}
 use Rattle.cedar_declarations.proofs.ResolutionLemmas.{IsFirst-same, HasOneDefinition, same_definition}
-use Rattle.cedar_declarations.specs.Admits.{Admits, AdmitsEach, AdmitsMembers, member_names, admits_text, admits_long, admits_truth, admits_set, admits_record, admits_entity, admits_common, admits_extension, admits_none, admits_first, admits_no_member, admits_missing, admits_there}
-use Rattle.cedar_declarations.specs.Defined.{Defined, names_of}
-use Rattle.cedar_declarations.specs.Names.{IsDefined}
-use Rattle.cedar_declarations.specs.ElaboratesTo.{ElaboratesTo, MembersElaborateTo, as_text, as_long, as_truth, as_set, as_record, as_entity, as_common, as_extension, as_no_member, as_member}
-use Rattle.cedar_type_rules.specs.Fields.{field_names}
-use Rattle.cedar_type_rules.specs.Has.{Has, HasFieldsBy}
-use Rattle.cedar_type_rules.specs.Ty.{Ty, Fields}
 
 -- what is elaborated keeps the names of a record's attributes
 same_names : (defined : Defined) {members : Members} {fields : Fields} → MembersElaborateTo defined members fields

@@ -1,16 +1,8 @@
 -- What a builder owes follows from its refusals, and from the schema's being the declared one of a bag that isn't ill-formed.
 use Rattle.std.proofs.Common.{◌≡◌, ◌⊎◌, Result, Ok, Err, IfOk, IfErr, OnOk}
-use Rattle.cedar_below.specs.Extensions.{extension_types}
-use Rattle.cedar_below.specs.TypeNames.{TypeNamesFit}
-use Rattle.cedar_below.specs.declared.extension.Extensions.{Extensions}
-use Rattle.cedar_declarations.specs.Bag.{Bag}
-use Rattle.cedar_declarations.specs.DeclaredSchema.{IsDeclaredSchema}
-use Rattle.cedar_declarations.specs.Fault.{Fault, out_of_memory}
-use Rattle.cedar_declarations.specs.IllFormed.{IsFault, IsIllFormed}
-use Rattle.cedar_declarations.specs.PlainSchema.{PlainSchema}
+use Rattle.cedar_declaration_laws.specs.Words.{Bag, Extensions, Fault, IsBuiltFrom, IsDeclaredSchema, IsFault, IsIllFormed, PlainSchema, TypeNamesFit, extension_types, out_of_memory}
 use Rattle.cedar_declaration_laws.proofs.EnvironmentLaws.{environment_declared, declared_environment}
 use Rattle.cedar_declaration_laws.proofs.SchemaLaws.{one_schema, types_admit}
-use Rattle.cedar_declaration_laws.specs.EndToEnd.{IsBuiltFrom}
 
 -- what the builder owes
 pub built_from : (bag : Bag) (extensions : Extensions) → TypeNamesFit (extension_types extensions)

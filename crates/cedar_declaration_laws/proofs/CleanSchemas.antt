@@ -1,17 +1,6 @@
 -- The types of declared schemas are clean: what an expression is elaborated as has no any-set.
 use Rattle.std.proofs.Common.{◌≡◌, Option, None, Some, inl, inr, subst}
-use Rattle.cedar_declarations.specs.DeclaredSchema.{AreDeclaredTags, IsDeclaredActionKind, IsDeclaredKind}
-use Rattle.cedar_declarations.specs.Defined.{Defined}
-use Rattle.cedar_declarations.specs.EntityTypeKind.{EntityTypeKind, standard_kind}
-use Rattle.cedar_declarations.specs.PlainSchema.{ActionKind, defined_action}
-use Rattle.cedar_declarations.specs.ValidSchema.{IsContextOf, IsTypeOfKind}
-use Rattle.cedar_declarations.specs.ElaboratesTo.{ElaboratesTo, MembersElaborateTo, as_text, as_long, as_truth, as_set, as_record, as_entity, as_common, as_extension, as_no_member, as_member}
-use Rattle.cedar_declaration_laws.specs.EndToEnd.{DeclaredTypesAreClean}
-use Rattle.cedar_names.specs.ActionBody.{Requests, requests, elsewhere}
-use Rattle.cedar_names.specs.EntityBody.{EntityBody, standard, enumerated, external}
-use Rattle.cedar_names.specs.Expr.{Expr, Members}
-use Rattle.cedar_type_rules.specs.Clean.{AreClean, IsClean}
-use Rattle.cedar_type_rules.specs.Ty.{Ty, Fields}
+use Rattle.cedar_declaration_laws.specs.Words.{ActionKind, AreClean, AreDeclaredTags, DeclaredTypesAreClean, Defined, ElaboratesTo, EntityBody, EntityTypeKind, Expr, Fields, IsClean, IsContextOf, IsDeclaredActionKind, IsDeclaredKind, IsTypeOfKind, Members, MembersElaborateTo, Requests, Ty, as_common, as_entity, as_extension, as_long, as_member, as_no_member, as_record, as_set, as_text, as_truth, defined_action, elsewhere, enumerated, external, requests, standard, standard_kind}
 
 mutual
   -- a type that is elaborated is clean

@@ -1,26 +1,11 @@
 -- The schema that a bag declares meets what a schema has to that is converted back, so that it comes back.
 use Rattle.std.proofs.Common.{inl, inr}
-use Rattle.cedar_below.specs.Extensions.{extension_types}
-use Rattle.cedar_below.specs.PlainUid.{PlainUid}
-use Rattle.cedar_below.specs.TypeNames.{TypeNamesFit}
-use Rattle.cedar_below.specs.declared.extension.Extensions.{Extensions}
+use Rattle.cedar_declaration_laws.specs.Words.{ActionKind, ActionSays, Bag, DeclaredSchemasComeBack, Extensions, HasNoReservedName, HasRecordContexts, IsContextOf, IsDeclaredActionKind, IsDeclaredSchema, IsIllFormed, IsInOrder, IsRecordType, PlainSchema, PlainUid, PositionsFit, Requests, StandsUnderItsNames, Ty, TypeNamesFit, action_uids, context_not_record, defined_action, definitions, elsewhere, extension_types, requests, reserved_name}
 use Rattle.cedar_declarations.proofs.OccurrenceLemmas.{Contains-image}
-use Rattle.cedar_declarations.specs.Bag.{Bag, action_uids, definitions}
-use Rattle.cedar_declarations.specs.Counted.{PositionsFit}
-use Rattle.cedar_declarations.specs.DeclaredSchema.{IsDeclaredActionKind, IsDeclaredSchema}
-use Rattle.cedar_declarations.specs.Fault.{context_not_record, reserved_name}
-use Rattle.cedar_declarations.specs.IllFormed.{IsIllFormed}
-use Rattle.cedar_declarations.specs.PlainSchema.{ActionKind, PlainSchema, defined_action}
-use Rattle.cedar_declarations.specs.Together.{ActionSays}
-use Rattle.cedar_declarations.specs.ValidSchema.{IsContextOf}
-use Rattle.cedar_declarations.specs.ElaboratesTo.{IsRecordType}
 use Rattle.cedar_declaration_laws.proofs.DeclaredKinds.{decide_record}
 use Rattle.cedar_declaration_laws.proofs.FaultsConvertedBack.{converted_schemas_are_well_formed}
 use Rattle.cedar_declaration_laws.proofs.SchemasConvertedBack.{converted_schemas_are_declared}
 use Rattle.cedar_declaration_laws.proofs.ValidLaws.{declared_action_uid, declared_closed, declared_type, declared_valid}
-use Rattle.cedar_declaration_laws.specs.EndToEnd.{DeclaredSchemasComeBack, HasNoReservedName, HasRecordContexts, IsInOrder, StandsUnderItsNames}
-use Rattle.cedar_names.specs.ActionBody.{Requests, elsewhere, requests}
-use Rattle.cedar_type_rules.specs.Ty.{Ty}
 
 module _ (bag : Bag) (extensions : Extensions) (schema : PlainSchema) (declared : IsDeclaredSchema bag extensions schema) where
   -- a declared schema is in order

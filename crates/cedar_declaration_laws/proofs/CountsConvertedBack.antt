@@ -5,25 +5,12 @@ use Rattle.std.proofs.lemmas.List.Sorted.{IsPermutation-sym}
 use Rattle.std.specs.List.{flat_map}
 use Rattle.cedar_below.proofs.Lists.{Contains-cons, Contains-preimage}
 use Rattle.cedar_below.proofs.PlainNames.{name_cmp-total, uid_cmp-total}
-use Rattle.cedar_below.specs.Extensions.{extension_types}
-use Rattle.cedar_below.specs.Lists.{HoldsPairwise, Twice}
-use Rattle.cedar_below.specs.PlainName.{PlainName, name_cmp}
-use Rattle.cedar_below.specs.PlainUid.{PlainUid, uid_cmp}
-use Rattle.cedar_below.specs.TypeNames.{TypeNamesFit}
-use Rattle.cedar_below.specs.declared.extension.Extensions.{Extensions}
+use Rattle.cedar_declaration_laws.specs.Words.{ActionBody, Bag, EntityBody, Expr, Extensions, HoldsPairwise, IsActionDeclaration, IsConvertedBack, IsInOrder, IsTypeDeclaration, PlainName, PlainSchema, PlainUid, Requests, SchemaAction, SchemaEntityType, Twice, TypeNamesFit, action_definition_in, action_in, built_ins, declared_actions, declared_common, declared_entities, declared_name, declared_uid, defined_actions, defined_entities, elsewhere, entity_in, extension_types, name_cmp, requests, uid_cmp}
 use Rattle.cedar_declarations.proofs.BuiltInLemmas.{built_ins_once}
 use Rattle.cedar_declarations.proofs.OccurrenceLemmas.{Contains-flat_map, Contains-image, Contains-single, Twice-append, Twice-sorted_by_name}
 use Rattle.cedar_declarations.proofs.TogetherLemmas.{twice_declared}
-use Rattle.cedar_declarations.specs.Bag.{Bag, action_in, built_ins, declared_actions, declared_common, declared_entities, declared_name, declared_uid, entity_in}
-use Rattle.cedar_declarations.specs.PlainSchema.{PlainSchema, SchemaAction, SchemaEntityType}
-use Rattle.cedar_declarations.specs.Together.{action_definition_in, defined_actions, defined_entities}
-use Rattle.cedar_declarations.specs.ConvertedBack.{IsActionDeclaration, IsTypeDeclaration, IsConvertedBack}
 use Rattle.cedar_declaration_laws.proofs.EntriesConvertedBack.{no_common_type}
 use Rattle.cedar_declaration_laws.proofs.OrderLaws.{order_is_nothing}
-use Rattle.cedar_declaration_laws.specs.EndToEnd.{IsInOrder}
-use Rattle.cedar_names.specs.ActionBody.{ActionBody, Requests, elsewhere, requests}
-use Rattle.cedar_names.specs.EntityBody.{EntityBody}
-use Rattle.cedar_names.specs.Expr.{Expr}
 
 -- what stands twice stands in the list
 twice_among : {A : Type 0} (xs : List A) (x : A) → Twice xs x → Contains xs x

@@ -1,30 +1,13 @@
 -- What is declared in a bag that isn't ill-formed has a kind, entity types and actions alike.
 use Rattle.std.proofs.Common.{◌≡◌, [], Option, Some, None, map, inl, inr, refl, Contains}
-use Rattle.cedar_below.specs.PlainName.{PlainName}
-use Rattle.cedar_below.specs.PlainUid.{PlainUid}
-use Rattle.cedar_below.specs.declared.extension.Extensions.{Extensions}
-use Rattle.cedar_names.specs.ActionBody.{Requests, requests, elsewhere}
-use Rattle.cedar_names.specs.EntityBody.{EntityBody, standard, enumerated, external}
-use Rattle.cedar_names.specs.Expr.{Expr}
+use Rattle.cedar_declaration_laws.specs.Words.{ActionKind, ActionSays, AreDeclaredTags, Bag, ClosedAttributes, CountsInEntity, CountsInRequests, Defined, ElaboratesTo, EntityBody, EntitySays, EntityTypeKind, Expr, Extensions, Fields, IsCounted, IsDeclaredActionKind, IsDeclaredKind, IsIllFormed, IsNoRecord, IsRecordType, PlainName, PlainUid, Requests, Ty, action_uids, as_common, as_record, declared_entities, defined_action, defined_actions, defined_entities, definitions, elsewhere, enumerated, enumerated_kind, external, external_action, external_kind, names_of, record_of, requests, shape_not_record, standard, standard_kind}
 use Rattle.cedar_declarations.proofs.OccurrenceLemmas.{Contains-entry}
 use Rattle.cedar_declarations.proofs.DeclarationLemmas.{entity_declaration, action_declaration}
 use Rattle.cedar_declarations.proofs.TogetherLemmas.{action_definition_declared, action_definition_says, definition_declared, definition_says}
-use Rattle.cedar_declarations.specs.Bag.{Bag, action_uids, declared_entities, definitions}
-use Rattle.cedar_declarations.specs.Counted.{CountsInEntity, CountsInRequests, IsCounted}
-use Rattle.cedar_declarations.specs.DeclaredSchema.{AreDeclaredTags, IsDeclaredActionKind, IsDeclaredKind}
-use Rattle.cedar_declarations.specs.Defined.{Defined, names_of}
-use Rattle.cedar_declarations.specs.EntityTypeKind.{EntityTypeKind, standard_kind, enumerated_kind, external_kind}
-use Rattle.cedar_declarations.specs.Fault.{shape_not_record}
-use Rattle.cedar_declarations.specs.IllFormed.{IsIllFormed}
-use Rattle.cedar_declarations.specs.PlainSchema.{ActionKind, defined_action, external_action}
-use Rattle.cedar_declarations.specs.Together.{ActionSays, EntitySays, defined_actions, defined_entities}
-use Rattle.cedar_declarations.specs.ElaboratesTo.{ElaboratesTo, IsNoRecord, IsRecordType, as_record, as_common}
 use Rattle.cedar_declaration_laws.proofs.ReferenceDecisions.{list_named}
 use Rattle.cedar_declaration_laws.proofs.TypeDecisions.{decide_names, decide_uids}
 use Rattle.cedar_declaration_laws.proofs.ElaboratedTypes.{counted_written}
 use Rattle.cedar_type_rules.proofs.Decisions.{IsDecided, decide_among}
-use Rattle.cedar_type_rules.specs.Ty.{Ty, Fields, record_of}
-use Rattle.cedar_type_rules.specs.declared.open_tag.OpenTag.TheVariants.{ClosedAttributes}
 
 -- a record type that an expression is elaborated as is closed
 elaborated_closed : (defined : Defined) {expr : Expr} {ty : Ty} → ElaboratesTo defined expr ty → IsRecordType ty → (fields : Fields)

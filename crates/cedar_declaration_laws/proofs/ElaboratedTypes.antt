@@ -1,28 +1,14 @@
 -- Expressions that count in a bag which isn't ill-formed are elaborated.
 use Rattle.std.proofs.Common.{[], ◌∷◌, map, inl, inr, refl, Contains}
-use Rattle.cedar_below.specs.PlainName.{PlainName}
-use Rattle.cedar_below.specs.declared.extension.Extensions.{Extensions}
-use Rattle.cedar_names.specs.Expr.{Expr, text_expr, long_expr, truth_expr, set_expr, record_expr, named, extension_expr, Members, no_member, member}
-use Rattle.cedar_names.specs.Reference.{Reference}
+use Rattle.cedar_declaration_laws.specs.Words.{AnyBool, Bag, ClosedAttributes, Defined, ElaboratesTo, Expr, Extensions, Fields, HasToResolve, IsCommon, IsCounted, IsIllFormed, Members, MembersElaborateTo, MembersRefer, PlainName, Reference, Refers, RefersToCommon, ResolvesTo, Ty, as_common, as_entity, as_extension, as_long, as_member, as_no_member, as_record, as_set, as_text, as_truth, common_type_cycle, defined_names, definitions, end, extension_expr, extension_of, field, long, long_expr, member, named, names_of, no_member, record_expr, record_of, set_expr, set_of, text, text_expr, truth, truth_expr, type_not_defined, union_of}
 use Rattle.cedar_declarations.proofs.BuiltInLemmas.{refers_declared}
 use Rattle.cedar_declarations.proofs.DeclarationLemmas.{common_declaration}
 use Rattle.cedar_declarations.proofs.OccurrenceLemmas.{Contains-image, Contains-single, Contains-entry}
 use Rattle.cedar_declarations.proofs.ResolutionLemmas.{first_defined}
-use Rattle.cedar_declarations.specs.Bag.{Bag, definitions, defined_names}
-use Rattle.cedar_declarations.specs.Counted.{HasToResolve, IsCounted}
-use Rattle.cedar_declarations.specs.Defined.{Defined, IsCommon, names_of}
-use Rattle.cedar_declarations.specs.Fault.{common_type_cycle, type_not_defined}
-use Rattle.cedar_declarations.specs.IllFormed.{IsIllFormed, RefersToCommon}
-use Rattle.cedar_declarations.specs.Mentions.{Refers, MembersRefer}
-use Rattle.cedar_declarations.specs.Names.{ResolvesTo}
-use Rattle.cedar_declarations.specs.ElaboratesTo.{ElaboratesTo, MembersElaborateTo, as_text, as_long, as_truth, as_set, as_record, as_entity, as_common, as_extension, as_no_member, as_member}
 use Rattle.cedar_declaration_laws.proofs.ChainInduction.{by_steps}
 use Rattle.cedar_declaration_laws.proofs.ReferenceDecisions.{decide_may_common, resolves_or_not}
 use Rattle.cedar_declaration_laws.proofs.TypeDecisions.{decide_names}
 use Rattle.cedar_type_rules.proofs.Decisions.{decide_among, decide_both}
-use Rattle.cedar_type_rules.specs.Ty.{Ty, long, text, truth, set_of, union_of, record_of, extension_of, Fields, end, field}
-use Rattle.cedar_type_rules.specs.declared.bool_type.BoolType.TheVariants.{AnyBool}
-use Rattle.cedar_type_rules.specs.declared.open_tag.OpenTag.TheVariants.{ClosedAttributes}
 
 -- some type is what the expression is elaborated as
 abbrev pub IsWritten : Defined → Expr → Type 0

@@ -1,15 +1,8 @@
 -- An enumerated entity type has no parent, unless something is at fault.
 use Rattle.std.proofs.Common.{arith, Contains, inl, inr}
-use Rattle.cedar_below.specs.PlainName.{PlainName}
-use Rattle.cedar_below.specs.declared.extension.Extensions.{Extensions}
-use Rattle.cedar_names.specs.EntityBody.{enumerated}
+use Rattle.cedar_declaration_laws.specs.Words.{Bag, Extensions, HasParent, IsIllFormed, PlainName, declared_entities, defined_entities, duplicate_entity_type, enumerated, enumerated_below}
 use Rattle.cedar_declarations.proofs.OccurrenceLemmas.{two_values}
 use Rattle.cedar_declarations.proofs.TogetherLemmas.{declared_definition, definition_or_external}
-use Rattle.cedar_declarations.specs.Bag.{Bag, declared_entities}
-use Rattle.cedar_declarations.specs.Descent.{HasParent}
-use Rattle.cedar_declarations.specs.Fault.{duplicate_entity_type, enumerated_below}
-use Rattle.cedar_declarations.specs.IllFormed.{IsIllFormed}
-use Rattle.cedar_declarations.specs.Together.{defined_entities}
 
 -- an enumerated entity type with a parent is defined twice, or an external declaration gives it the parent
 pub enumerated_parent : (bag : Bag) (extensions : Extensions) (lower upper : PlainName) (choices : _)

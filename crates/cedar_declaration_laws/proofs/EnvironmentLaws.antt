@@ -1,22 +1,10 @@
 -- The environments of a declared schema are the declared ones.
 use Rattle.std.proofs.Common.{Contains}
-use Rattle.cedar_below.specs.Extensions.{extension_types}
-use Rattle.cedar_below.specs.PlainUid.{PlainUid}
-use Rattle.cedar_below.specs.TypeNames.{TypeNamesFit}
-use Rattle.cedar_below.specs.declared.extension.Extensions.{Extensions}
+use Rattle.cedar_declaration_laws.specs.Words.{ActionKind, ActionSays, Bag, Defined, Environment, Extensions, IsDeclaredActionKind, IsDeclaredEnvironment, IsDeclaredRequest, IsDeclaredSchema, IsEnvironmentOf, IsIllFormed, IsRequestOf, PlainSchema, PlainUid, Requests, TypeNamesFit, defined_action, defined_actions, definitions, duplicate_action, duplicate_common_type, elsewhere, extension_types, requests}
 use Rattle.cedar_declarations.proofs.BuiltInLemmas.{one_definition}
 use Rattle.cedar_declarations.proofs.OccurrenceLemmas.{Contains-image, Contains-entry}
 use Rattle.cedar_declarations.proofs.TogetherLemmas.{defined_action_is_declared, action_definition_says, action_says_once}
 use Rattle.cedar_declarations.proofs.ResolutionLemmas.{HasOneDefinition, elaborated_once}
-use Rattle.cedar_declarations.specs.Bag.{Bag, definitions}
-use Rattle.cedar_declarations.specs.DeclaredSchema.{IsDeclaredActionKind, IsDeclaredSchema}
-use Rattle.cedar_declarations.specs.Defined.{Defined}
-use Rattle.cedar_declarations.specs.Environments.{Environment, IsRequestOf, IsEnvironmentOf, IsDeclaredRequest, IsDeclaredEnvironment}
-use Rattle.cedar_declarations.specs.Fault.{duplicate_common_type, duplicate_action}
-use Rattle.cedar_declarations.specs.IllFormed.{IsIllFormed}
-use Rattle.cedar_declarations.specs.PlainSchema.{ActionKind, defined_action, PlainSchema}
-use Rattle.cedar_declarations.specs.Together.{defined_actions, ActionSays}
-use Rattle.cedar_names.specs.ActionBody.{Requests, requests, elsewhere}
 
 -- requests of a declared kind of action are declared
 declared_request : (defined : Defined) (declared : Requests) (kind : ActionKind) (it : Environment)

@@ -3,30 +3,12 @@
 use Rattle.std.proofs.Common.{◌≡◌, false, List, [], ◌∷◌, Option, Some, None, ap, ◌∙◌, refl, inl, inr, arith}
 use Rattle.std.proofs.lemmas.Bool.{false≢true}
 use Rattle.std.specs.Option.{option_zip}
-use Rattle.cedar_below.specs.PlainName.{PlainName}
-use Rattle.cedar_below.specs.Text.{Text}
-use Rattle.cedar_below.specs.declared.extension.Extensions.{Extensions}
-use Rattle.cedar_declarations.specs.Bag.{Bag, definitions}
-use Rattle.cedar_declarations.specs.Counted.{CountsInEntity, CountsInRequests, HasToResolve, IsCounted, IsAtEntityTypePosition, IsPrincipalOrResource}
-use Rattle.cedar_declarations.specs.EntityTypeKind.{EntityTypeKind, enumerated_kind, external_kind, standard_kind}
-use Rattle.cedar_declarations.specs.Mentions.{HasOpenRecord, MembersHaveOpenRecord, MembersMentionExtension, MembersRefer, MentionsExtension, Refers}
-use Rattle.cedar_declarations.specs.PlainSchema.{ActionKind, PlainSchema, defined_action, external_action}
-use Rattle.cedar_declarations.specs.TypeMentions.{FieldsMentionEntity, FieldsMentionExtensionType, MentionsEntity, MentionsExtensionType}
-use Rattle.cedar_declarations.specs.ValidSchema.{HasEntityType, IsContextOf, IsPrincipalOrResourceOf, IsTypeOfKind, IsValidSchema, ListsDescendant}
-use Rattle.cedar_declarations.specs.ConvertedBack.{AreRequestsWritten, AreTagsWritten, IsKindWritten, IsNameWrittenIn, IsTypeWrittenIn, IsWritable, IsConvertedBack, extension_written, fields_written, full_name, type_written}
+use Rattle.cedar_declaration_laws.specs.Words.{ActionKind, AnyBool, AreRequestsWritten, AreTagsWritten, Bag, ClosedAttributes, CountsInEntity, CountsInRequests, EntityBody, EntityTypeKind, Expr, Extensions, False, Fields, FieldsMentionEntity, FieldsMentionExtensionType, HasEntityType, HasOpenRecord, HasToResolve, IsAtEntityTypePosition, IsContextOf, IsConvertedBack, IsCounted, IsKindWritten, IsNameWrittenIn, IsNamedAgain, IsPrincipalOrResource, IsPrincipalOrResourceOf, IsTypeOfKind, IsTypeWrittenIn, IsValidSchema, IsWritable, ListsDescendant, Members, MembersHaveOpenRecord, MembersMentionExtension, MembersRefer, MentionsEntity, MentionsExtension, MentionsExtensionType, OpenAttributes, PlainName, PlainSchema, Reference, Refers, Requests, Text, True, Ty, any_entity, any_set, defined_action, definitions, elsewhere, end, enumerated, enumerated_kind, extension_expr, extension_of, extension_written, external, external_action, external_kind, field, fields_written, full_name, long, long_expr, member, named, never, no_member, record_expr, record_of, requests, set_expr, set_of, standard, standard_kind, text, text_expr, truth, truth_expr, type_written, union_of}
 use Rattle.cedar_declaration_laws.proofs.EntriesConvertedBack.{action_written_by, type_written_by}
 use Rattle.cedar_declaration_laws.proofs.KindsConvertedBack.{mentioned_again, request_known}
 use Rattle.cedar_declaration_laws.proofs.NamesConvertedBack.{from_schema}
 use Rattle.cedar_declaration_laws.proofs.ParentsConvertedBack.{parent_above, type_again, upper_there}
 use Rattle.cedar_declaration_laws.proofs.TypesConvertedBack.{map_some, zip_some}
-use Rattle.cedar_declaration_laws.specs.EndToEnd.{IsNamedAgain}
-use Rattle.cedar_names.specs.ActionBody.{Requests, elsewhere, requests}
-use Rattle.cedar_names.specs.EntityBody.{EntityBody, enumerated, external, standard}
-use Rattle.cedar_names.specs.Expr.{Expr, Members, extension_expr, long_expr, member, named, no_member, record_expr, set_expr, text_expr, truth_expr}
-use Rattle.cedar_names.specs.Reference.{Reference}
-use Rattle.cedar_type_rules.specs.Ty.{Fields, Ty, any_entity, any_set, end, extension_of, field, long, never, record_of, set_of, text, truth, union_of}
-use Rattle.cedar_type_rules.specs.declared.bool_type.BoolType.TheVariants.{AnyBool, False, True}
-use Rattle.cedar_type_rules.specs.declared.open_tag.OpenTag.TheVariants.{ClosedAttributes, OpenAttributes}
 
 module _ (namespace : Option PlainName) where
   -- no open record stands in the expression, it refers to entity types of the type in full, and it mentions extension types of it

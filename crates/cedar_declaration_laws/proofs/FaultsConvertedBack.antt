@@ -4,33 +4,12 @@ use Rattle.std.proofs.lemmas.Bool.{false≢true}
 use Rattle.std.proofs.lemmas.List.Elements.{Contains-append_cases}
 use Rattle.cedar_below.proofs.Chains.{first_step}
 use Rattle.cedar_below.proofs.Lists.{Contains-preimage}
-use Rattle.cedar_below.specs.Chain.{one}
-use Rattle.cedar_below.specs.Extensions.{extension_types}
-use Rattle.cedar_below.specs.Identifier.{reserved_word}
-use Rattle.cedar_below.specs.PlainName.{PlainName, IsActionType, IsUnqualified}
-use Rattle.cedar_below.specs.PlainUid.{PlainUid}
-use Rattle.cedar_below.specs.Text.{Text}
-use Rattle.cedar_below.specs.TypeNames.{TypeNamesFit}
-use Rattle.cedar_below.specs.declared.extension.Extensions.{Extensions}
+use Rattle.cedar_declaration_laws.specs.Words.{ActionKind, Bag, ClosedAttributes, ConvertedSchemasAreWellFormed, Defined, ElaboratesTo, Entity, EntityBody, EntityTypeKind, Expr, Extensions, Fault, HasAttributes, HasEntityType, HasNoReservedName, HasRecordContexts, HasToResolve, HasUnknownParent, IsActionType, IsAtEntityTypePosition, IsContextOf, IsConvertedBack, IsCounted, IsDeclaredActionKind, IsDeclaredKind, IsDefined, IsEnumerated, IsExternal, IsExternalType, IsFault, IsInOrder, IsKindWritten, IsNoRecord, IsOfKind, IsRecordType, IsUnqualified, IsUnresolved, IsValidSchema, IsWritable, ListsDescendant, MentionsExtension, PlainName, PlainSchema, PlainUid, Reference, RefersToCommon, ResolvesTo, Text, Ty, TypeNamesFit, action_attributes, action_cycle, action_entity_type, action_not_defined, action_shadowing, action_uids, common_type_cycle, context_not_record, declared_common, declared_entities, declared_types, defined_action, defined_actions, defined_names, definitions, duplicate_action, duplicate_common_type, duplicate_entity_type, enumerated, enumerated_below, enumerated_kind, extension_types, external, external_action, external_below_enumerated, full_name, one, open_record, record_of, requests, reserved_name, reserved_word, shape_not_record, standard, standard_kind, type_not_defined, type_shadowing, undeclared_entity_types, unknown_extension_type}
 use Rattle.cedar_declarations.proofs.BuiltInLemmas.{one_definition, refers_declared}
 use Rattle.cedar_declarations.proofs.DeclarationLemmas.{declares_action}
 use Rattle.cedar_declarations.proofs.OccurrenceLemmas.{Contains-image, Contains-entry}
 use Rattle.cedar_declarations.proofs.ResolutionLemmas.{HasOneDefinition, IsFirst-same, first_defined, elaborated_once}
 use Rattle.cedar_declarations.proofs.TogetherLemmas.{action_definition_declared, declared_definition, definition_or_external}
-use Rattle.cedar_declarations.specs.Bag.{Bag, action_uids, declared_common, declared_entities, declared_types, defined_names, definitions}
-use Rattle.cedar_declarations.specs.Counted.{HasToResolve, IsCounted, IsAtEntityTypePosition}
-use Rattle.cedar_declarations.specs.DeclaredSchema.{IsDeclaredActionKind, IsDeclaredKind}
-use Rattle.cedar_declarations.specs.Defined.{Defined}
-use Rattle.cedar_declarations.specs.EntityTypeKind.{EntityTypeKind, enumerated_kind, standard_kind}
-use Rattle.cedar_declarations.specs.Fault.{Fault, action_attributes, open_record, undeclared_entity_types, type_not_defined, action_not_defined, type_shadowing, action_shadowing, duplicate_entity_type, duplicate_common_type, duplicate_action, action_cycle, common_type_cycle, action_entity_type, shape_not_record, context_not_record, unknown_extension_type, reserved_name, external_below_enumerated, enumerated_below}
-use Rattle.cedar_declarations.specs.IllFormed.{HasAttributes, HasUnknownParent, IsFault, RefersToCommon}
-use Rattle.cedar_declarations.specs.Mentions.{MentionsExtension}
-use Rattle.cedar_declarations.specs.Names.{IsDefined, IsUnresolved, ResolvesTo}
-use Rattle.cedar_declarations.specs.PlainSchema.{ActionKind, PlainSchema, defined_action, external_action}
-use Rattle.cedar_declarations.specs.Together.{IsExternalType, defined_actions}
-use Rattle.cedar_declarations.specs.ValidSchema.{HasEntityType, IsContextOf, IsEnumerated, IsExternal, IsOfKind, IsValidSchema, ListsDescendant}
-use Rattle.cedar_declarations.specs.ConvertedBack.{IsKindWritten, IsWritable, IsConvertedBack, full_name}
-use Rattle.cedar_declarations.specs.ElaboratesTo.{IsNoRecord, IsRecordType, ElaboratesTo}
 use Rattle.cedar_declaration_laws.proofs.CountsConvertedBack.{actions_once, common_types_once, types_once}
 use Rattle.cedar_declaration_laws.proofs.EntriesConvertedBack.{declared_action_from, declared_type_from, no_common_type, same_types, same_uids}
 use Rattle.cedar_declaration_laws.proofs.ExpressionsConvertedBack.{counted_of, placed_of, resolves_again, type_says}
@@ -39,14 +18,6 @@ use Rattle.cedar_declaration_laws.proofs.NamesConvertedBack.{stands_for_itself}
 use Rattle.cedar_declaration_laws.proofs.ParentsConvertedBack.{parent_lists, same_action_descendants, same_descendants, type_again, upper_action_there}
 use Rattle.cedar_declaration_laws.proofs.SchemasConvertedBack.{external_written}
 use Rattle.cedar_declaration_laws.proofs.ValidLaws.{some_first}
-use Rattle.cedar_declaration_laws.specs.EndToEnd.{HasNoReservedName, HasRecordContexts, IsInOrder, ConvertedSchemasAreWellFormed}
-use Rattle.cedar_names.specs.ActionBody.{requests}
-use Rattle.cedar_names.specs.EntityBody.{EntityBody, enumerated, external, standard}
-use Rattle.cedar_names.specs.Expr.{Expr}
-use Rattle.cedar_names.specs.Reference.{Reference}
-use Rattle.cedar_names.specs.declared.json_schema.reference_type.ReferenceType.TheVariants.{Entity}
-use Rattle.cedar_type_rules.specs.Ty.{Ty, record_of}
-use Rattle.cedar_type_rules.specs.declared.open_tag.OpenTag.TheVariants.{ClosedAttributes}
 
 -- what is written as enumerated is
 enumerated_written : (namespace : Option PlainName) (IsAbove : PlainName → Type 0) (kind : EntityTypeKind) (choices : List Text)

@@ -1,18 +1,7 @@
 -- The kind that fits what is declared fits what is the same, where the same names are defined.
 use Rattle.std.proofs.Common.{◌↔◌, List, Option, Some, None, sym, ◌∙◌, Contains}
-use Rattle.cedar_below.specs.Lists.{SameItems}
-use Rattle.cedar_below.specs.PlainName.{PlainName}
-use Rattle.cedar_names.specs.ActionBody.{Requests, requests, elsewhere}
-use Rattle.cedar_names.specs.EntityBody.{EntityBody, standard, enumerated, external}
-use Rattle.cedar_names.specs.Expr.{Expr}
-use Rattle.cedar_names.specs.Reference.{Reference}
+use Rattle.cedar_declaration_laws.specs.Words.{ActionKind, AreDeclaredTags, Defined, EntityBody, EntityTypeKind, Expr, IsDeclaredActionKind, IsDeclaredKind, IsNamedBy, PlainName, Reference, Requests, SameEntityBody, SameItems, SameRequests, Ty, defined_action, elsewhere, enumerated, enumerated_kind, external, external_action, external_kind, names_of, requests, standard, standard_kind}
 use Rattle.cedar_declarations.proofs.DefinedLemmas.{SameDefined, resolves_there, elaborated_there}
-use Rattle.cedar_declarations.specs.DeclaredSchema.{IsNamedBy, IsDeclaredActionKind, IsDeclaredKind, AreDeclaredTags}
-use Rattle.cedar_declarations.specs.Defined.{Defined, names_of}
-use Rattle.cedar_declarations.specs.EntityTypeKind.{EntityTypeKind, standard_kind, enumerated_kind, external_kind}
-use Rattle.cedar_declarations.specs.PlainSchema.{ActionKind, defined_action, external_action}
-use Rattle.cedar_declarations.specs.SameBag.{SameEntityBody, SameRequests}
-use Rattle.cedar_type_rules.specs.Ty.{Ty}
 
 module _ (defined other : Defined) (same : SameDefined defined other) where
   -- tags fit alike

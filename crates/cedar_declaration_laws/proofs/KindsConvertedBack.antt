@@ -2,36 +2,15 @@
 use Rattle.std.proofs.Common.{◌≡◌, ◌↔◌, List, [], ◌∷◌, Option, Some, None, map, refl, inl, inr, Contains}
 use Rattle.std.proofs.lemmas.List.Elements.{Contains-append_left, Contains-append_right}
 use Rattle.cedar_below.proofs.Lists.{Contains-preimage}
-use Rattle.cedar_below.specs.PlainName.{PlainName}
-use Rattle.cedar_below.specs.PlainUid.{PlainUid}
-use Rattle.cedar_below.specs.declared.extension.Extensions.{Extensions}
+use Rattle.cedar_declaration_laws.specs.Words.{ActionBody, ActionKind, AreDeclaredTags, AreFullNames, AreRequestsWritten, AreTagsWritten, Bag, ClosedAttributes, Defined, ElaboratesTo, Entity, EntityBody, EntityTypeKind, Expr, Extensions, HasEntityType, IsContextOf, IsConvertedBack, IsDeclaredActionKind, IsDeclaredKind, IsDefined, IsKindWritten, IsKnownType, IsNamedAgain, IsNamedBy, IsPrincipalOrResourceOf, IsTypeIn, IsTypeOfKind, IsTypeWrittenIn, IsUnknownType, IsValidSchema, IsWritable, ListsDescendant, MentionsEntity, OpenAttributes, PlainName, PlainSchema, PlainUid, Reference, Requests, SchemaAction, SchemaEntityType, Ty, defined_action, definitions, elsewhere, enumerated, enumerated_kind, external, external_action, external_kind, full_name, names_of, record_of, requests, schema_names, standard, standard_kind, type_written, undeclared_entity_types}
 use Rattle.cedar_declarations.proofs.OccurrenceLemmas.{Contains-image, Contains-single}
 use Rattle.cedar_declarations.proofs.ResolutionLemmas.{IsFirst-same}
-use Rattle.cedar_declarations.specs.Bag.{Bag, definitions}
-use Rattle.cedar_declarations.specs.DeclaredSchema.{AreDeclaredTags, IsDeclaredActionKind, IsDeclaredKind, IsNamedBy}
-use Rattle.cedar_declarations.specs.Defined.{Defined, names_of}
-use Rattle.cedar_declarations.specs.EntityTypeKind.{EntityTypeKind, enumerated_kind, external_kind, standard_kind}
-use Rattle.cedar_declarations.specs.Fault.{undeclared_entity_types}
-use Rattle.cedar_declarations.specs.Names.{IsDefined}
-use Rattle.cedar_declarations.specs.PlainSchema.{ActionKind, PlainSchema, SchemaAction, SchemaEntityType, defined_action, external_action}
-use Rattle.cedar_declarations.specs.TypeMentions.{MentionsEntity}
-use Rattle.cedar_declarations.specs.ValidSchema.{HasEntityType, IsContextOf, IsKnownType, IsPrincipalOrResourceOf, IsTypeIn, IsTypeOfKind, IsUnknownType, IsValidSchema, ListsDescendant}
-use Rattle.cedar_declarations.specs.ConvertedBack.{AreFullNames, AreRequestsWritten, AreTagsWritten, IsKindWritten, IsTypeWrittenIn, IsWritable, IsConvertedBack, full_name, schema_names, type_written}
-use Rattle.cedar_declarations.specs.ElaboratesTo.{ElaboratesTo}
 use Rattle.cedar_declaration_laws.proofs.EntriesConvertedBack.{IsActionWritten, IsTypeWritten}
 use Rattle.cedar_declaration_laws.proofs.NamesConvertedBack.{named_again}
 use Rattle.cedar_declaration_laws.proofs.ParentsConvertedBack.{type_again}
 use Rattle.cedar_declaration_laws.proofs.TypeDecisions.{decide_names}
 use Rattle.cedar_declaration_laws.proofs.TypesConvertedBack.{type_back}
-use Rattle.cedar_declaration_laws.specs.EndToEnd.{IsNamedAgain}
-use Rattle.cedar_names.specs.ActionBody.{ActionBody, Requests, elsewhere, requests}
-use Rattle.cedar_names.specs.EntityBody.{EntityBody, enumerated, external, standard}
-use Rattle.cedar_names.specs.Expr.{Expr}
-use Rattle.cedar_names.specs.Reference.{Reference}
-use Rattle.cedar_names.specs.declared.json_schema.reference_type.ReferenceType.TheVariants.{Entity}
 use Rattle.cedar_type_rules.proofs.Decisions.{decide_among}
-use Rattle.cedar_type_rules.specs.Ty.{Ty, record_of}
-use Rattle.cedar_type_rules.specs.declared.open_tag.OpenTag.TheVariants.{ClosedAttributes, OpenAttributes}
 
 module _ (schema : PlainSchema) (extensions : Extensions) (valid : IsValidSchema extensions schema) where
   -- no name is unknown

@@ -2,12 +2,8 @@
 use Rattle.std.proofs.Common.{◌≡◌, List, [], ◌∷◌, map, inl, inr, refl, Contains}
 use Rattle.cedar_below.proofs.Lists.{Contains-preimage}
 use Rattle.cedar_below.proofs.PlainNames.{uid_cmp-Equal, uid_cmp-total}
-use Rattle.cedar_below.specs.PlainUid.{PlainUid, uid_cmp}
-use Rattle.cedar_below.specs.Tree.{no_entry}
+use Rattle.cedar_declaration_laws.specs.Words.{ActionEntity, ActionKind, AreActionEntities, DefinesAction, IsDefinedKind, ListsDescendantAction, PlainSchema, PlainUid, SchemaAction, defined_action, external_action, no_entry, uid_cmp}
 use Rattle.cedar_declarations.proofs.OccurrenceLemmas.{Contains-image}
-use Rattle.cedar_declarations.specs.ActionEntities.{AreActionEntities, DefinesAction, IsDefinedKind}
-use Rattle.cedar_declarations.specs.PlainSchema.{ActionEntity, ActionKind, defined_action, external_action, PlainSchema, SchemaAction}
-use Rattle.cedar_declarations.specs.ValidSchema.{ListsDescendantAction}
 use Rattle.cedar_declaration_laws.proofs.ListDecisions.{Listed, decide_stands, in_order, list_all}
 use Rattle.cedar_declaration_laws.proofs.TypeDecisions.{decide_uids}
 use Rattle.cedar_type_rules.proofs.Decisions.{IsDecided, decide_among}

@@ -1,16 +1,7 @@
 -- References that mean the same, and expressions that are alike but for such references.
 use Rattle.std.proofs.Common.{◌≡◌, ◌↔◌, Bool, ap, sym, refl, inl, inr, Contains}
-use Rattle.cedar_below.specs.PlainName.{PlainName}
-use Rattle.cedar_below.specs.Text.{Text}
-use Rattle.cedar_names.specs.Expr.{Expr, text_expr, long_expr, truth_expr, set_expr, record_expr, named, extension_expr, Members, no_member, member}
-use Rattle.cedar_names.specs.Reference.{Reference}
+use Rattle.cedar_declaration_laws.specs.Words.{Defined, ElaboratesTo, Expr, Fields, HasOpenRecord, IsDefined, IsNoRecord, Members, MembersElaborateTo, MembersHaveOpenRecord, MembersMentionExtension, MembersRefer, MentionsExtension, Names, PlainName, Reference, Refers, Resolves, ResolvesMembers, ResolvesReference, ResolvesTo, Text, Ty, as_common, as_entity, as_extension, as_long, as_member, as_no_member, as_record, as_set, as_text, as_truth, extension_expr, long_expr, member, named, names_of, no_member, record_expr, resolves_extension, resolves_long, resolves_member, resolves_named, resolves_no_member, resolves_record, resolves_set, resolves_text, resolves_truth, set_expr, text_expr, truth_expr}
 use Rattle.cedar_declarations.proofs.ResolutionLemmas.{IsFirst-same, first_defined}
-use Rattle.cedar_declarations.specs.Defined.{Defined, names_of}
-use Rattle.cedar_declarations.specs.Mentions.{HasOpenRecord, MembersHaveOpenRecord, Refers, MembersRefer, MentionsExtension, MembersMentionExtension}
-use Rattle.cedar_declarations.specs.Names.{Names, IsDefined, ResolvesTo}
-use Rattle.cedar_declarations.specs.Resolved.{ResolvesReference, Resolves, ResolvesMembers, resolves_text, resolves_long, resolves_truth, resolves_set, resolves_record, resolves_named, resolves_extension, resolves_no_member, resolves_member}
-use Rattle.cedar_declarations.specs.ElaboratesTo.{ElaboratesTo, MembersElaborateTo, IsNoRecord, as_text, as_long, as_truth, as_set, as_record, as_entity, as_common, as_extension, as_no_member, as_member}
-use Rattle.cedar_type_rules.specs.Ty.{Ty, Fields}
 
 -- two references mean the same, each over its names: they are of one kind, resolve to the same, and do resolve
 abbrev pub MeansTheSame : Names → Names → Reference → Reference → Type 0

@@ -6,26 +6,10 @@ use Rattle.std.specs.Bool.{Decides}
 use Rattle.std.specs.List.{list_any}
 use Rattle.std.specs.Ordering.{is_eq}
 use Rattle.cedar_below.proofs.Lists.{Contains-cons_cases, list_any-Contains, Contains-preimage}
-use Rattle.cedar_below.specs.Extensions.{extension_types}
-use Rattle.cedar_below.specs.Name.{plain_name}
-use Rattle.cedar_below.specs.PlainName.{PlainName, name_cmp, IsUnqualified}
-use Rattle.cedar_below.specs.Text.{Text}
-use Rattle.cedar_below.specs.TypeNames.{TypeNamesFit}
-use Rattle.cedar_below.specs.declared.extension.Extensions.{Extensions}
-use Rattle.cedar_below.specs.declared.name.Name.{Name}
-use Rattle.cedar_names.specs.Expr.{Expr, Members, extension_expr}
+use Rattle.cedar_declaration_laws.specs.Words.{Bag, Defined, ElaboratesTo, Expr, Extensions, Fields, FieldsMentionEntity, FieldsMentionExtensionType, IsCounted, IsIllFormed, IsUnqualified, Members, MembersElaborateTo, MembersMentionExtension, MentionsEntity, MentionsExtension, MentionsExtensionType, Name, PlainName, Text, Ty, TypeNamesFit, alias_name, as_common, as_entity, as_extension, as_member, as_no_member, as_record, as_set, built_in_name, built_in_types, built_ins, declared_common, definitions, extension_expr, extension_types, name_cmp, plain_name, unknown_extension_type}
 use Rattle.cedar_declarations.proofs.BuiltInLemmas.{alias_of, common_cases}
 use Rattle.cedar_declarations.proofs.DeclarationLemmas.{common_declaration}
 use Rattle.cedar_declarations.proofs.OccurrenceLemmas.{name_test}
-use Rattle.cedar_declarations.specs.Bag.{Bag, declared_common, definitions, built_ins, built_in_types, built_in_name, alias_name}
-use Rattle.cedar_declarations.specs.Counted.{IsCounted}
-use Rattle.cedar_declarations.specs.Defined.{Defined}
-use Rattle.cedar_declarations.specs.Fault.{unknown_extension_type}
-use Rattle.cedar_declarations.specs.IllFormed.{IsIllFormed}
-use Rattle.cedar_declarations.specs.Mentions.{MentionsExtension, MembersMentionExtension}
-use Rattle.cedar_declarations.specs.TypeMentions.{MentionsEntity, FieldsMentionEntity, MentionsExtensionType, FieldsMentionExtensionType}
-use Rattle.cedar_declarations.specs.ElaboratesTo.{ElaboratesTo, MembersElaborateTo, as_set, as_record, as_entity, as_common, as_extension, as_no_member, as_member}
-use Rattle.cedar_type_rules.specs.Ty.{Ty, Fields}
 
 mutual
   -- an entity type that stands in a type which is elaborated is one that references can name

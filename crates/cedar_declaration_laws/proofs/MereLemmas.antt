@@ -3,10 +3,7 @@ use Rattle.std.proofs.Common.{◌≡◌, List, map, ap, inl, inr, refl}
 use Rattle.std.proofs.Math.Logic.{∥∥₁_map, ∥∥₁_elim}
 use Rattle.std.proofs.Props.{props}
 use Rattle.std.proofs.lemmas.Grind.{not_there}
-use Rattle.cedar_below.specs.Tree.{Entries, no_entry, entry}
-use Rattle.cedar_declarations.specs.ActionEntities.{AreActionEntities, IsEntityOfAction}
-use Rattle.cedar_declarations.specs.PlainSchema.{ActionEntity, ActionKind, defined_action, external_action, PlainSchema}
-use Rattle.cedar_declarations.specs.Environments.{AreEnvironmentsOf, Environment, IsRequestOf}
+use Rattle.cedar_declaration_laws.specs.Words.{ActionEntity, ActionKind, AreActionEntities, AreEnvironmentsOf, Entries, Environment, IsEntityOfAction, IsRequestOf, PlainSchema, defined_action, entry, external_action, no_entry}
 use Rattle.cedar_declaration_laws.proofs.ListDecisions.{decide_stands}
 use Rattle.cedar_declaration_laws.proofs.ListedEntities.{decide_defines, decide_lists}
 use Rattle.cedar_declaration_laws.proofs.TypeDecisions.{decide_like, decide_names, decide_types, decide_uids}

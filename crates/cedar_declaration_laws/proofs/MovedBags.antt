@@ -5,25 +5,13 @@ use Rattle.std.proofs.lemmas.List.Elements.{Contains-append_left, Contains-appen
 use Rattle.std.specs.List.{flat_map, filter, list_any}
 use Rattle.std.specs.Ordering.{is_eq}
 use Rattle.cedar_below.proofs.Lists.{Contains-preimage}
-use Rattle.cedar_below.specs.Extensions.{extension_types}
-use Rattle.cedar_below.specs.Lists.{HoldsPairwise}
-use Rattle.cedar_below.specs.PlainName.{PlainName, name_cmp}
-use Rattle.cedar_below.specs.PlainUid.{PlainUid}
-use Rattle.cedar_below.specs.Text.{Text}
-use Rattle.cedar_below.specs.declared.extension.Extensions.{Extensions}
-use Rattle.cedar_names.specs.ActionBody.{ActionBody, Requests, requests, elsewhere}
-use Rattle.cedar_names.specs.Declaration.{Declaration, Body, common_type, entity_type, action}
-use Rattle.cedar_names.specs.EntityBody.{EntityBody, standard, enumerated, external}
-use Rattle.cedar_names.specs.Expr.{Expr, extension_expr}
+use Rattle.cedar_declaration_laws.specs.Words.{ActionBody, Bag, Body, Declaration, EntityBody, Expr, Extensions, HoldsPairwise, Names, PlainName, PlainUid, Requests, Text, action, action_definition_in, action_in, action_uids, alias_name, aliases, built_in_name, built_in_types, built_ins, common_in, common_type, declared_actions, declared_common, declared_entities, declared_name, declared_types, declared_uid, defined_actions, defined_entities, defined_names, definitions, elsewhere, entity_definition_in, entity_in, entity_type, enumerated, extension_expr, extension_types, external, name_cmp, requests, standard}
 use Rattle.cedar_declarations.proofs.BuiltInLemmas.{alias_of}
 use Rattle.cedar_declarations.proofs.DeclarationLemmas.{Kind, actions, common_types, declaration, declared, declares, entity_types}
 use Rattle.cedar_declaration_laws.proofs.MeaningLemmas.{AreAlike, alike_text, alike_long, alike_truth, alike_extension}
 use Rattle.cedar_declarations.proofs.TurnLemmas.{turn_forth}
 use Rattle.cedar_declaration_laws.proofs.MovedLemmas.{keys_pairwise, DeclarationsAlike, BodiesAlike, EntitiesAlike, RequestsAlike, alike_name, alike_uid, common_keys, entity_keys, action_keys}
 use Rattle.cedar_declaration_laws.proofs.OrderLaws.{nested}
-use Rattle.cedar_declarations.specs.Bag.{Bag, common_in, entity_in, action_in, declared_name, declared_uid, declared_common, declared_entities, declared_actions, declared_types, action_uids, built_in_types, built_in_name, built_ins, alias_name, aliases, definitions, defined_names}
-use Rattle.cedar_declarations.specs.Names.{Names}
-use Rattle.cedar_declarations.specs.Together.{entity_definition_in, defined_entities, action_definition_in, defined_actions}
 
 -- what is declared of entity types that are alike is defined under the same key
 entity_definition_keys : (names others : Names) (name name' : PlainName) → name ≡ name' → (body body' : EntityBody)

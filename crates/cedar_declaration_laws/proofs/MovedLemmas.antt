@@ -2,22 +2,11 @@
 use Rattle.std.proofs.Common.{◌≡◌, ◌↔◌, List, [], ◌∷◌, ◌++◌, Option, Some, None, map, ap, sym, subst, ◌∙◌, refl, inl, Contains, inr}
 use Rattle.std.proofs.lemmas.List.{map-append}
 use Rattle.std.specs.List.{flat_map}
-use Rattle.cedar_below.specs.Lists.{HoldsPairwise}
-use Rattle.cedar_below.specs.PlainName.{PlainName, action_word}
-use Rattle.cedar_below.specs.PlainUid.{PlainUid}
-use Rattle.cedar_names.specs.ActionBody.{ActionBody, Requests, requests, elsewhere}
-use Rattle.cedar_names.specs.Declaration.{Declaration, Body, common_type, entity_type, action}
-use Rattle.cedar_names.specs.EntityBody.{EntityBody, standard, enumerated, external}
-use Rattle.cedar_names.specs.Expr.{Expr}
-use Rattle.cedar_names.specs.Reference.{Reference, ActionReference, name_within}
+use Rattle.cedar_declaration_laws.specs.Words.{ActionBody, ActionReference, Body, Declaration, EntityBody, Expr, HoldsPairwise, IsFirst, Names, NamesAction, PlainName, PlainUid, Reference, Requests, ResolvesBody, ResolvesDeclaration, ResolvesEntityBody, ResolvesParent, ResolvesReference, ResolvesRequests, ResolvesTags, action, action_in, action_word, common_in, common_type, declared_name, declared_uid, elsewhere, entity_in, entity_type, enumerated, external, name_within, requests, standard}
 use Rattle.cedar_declaration_laws.proofs.MeaningLemmas.{MeansTheSame, MeansTheSame-sym, resolved_means, AreAlike, AreAlike-sym, resolved_alike}
 use Rattle.cedar_declarations.proofs.ResolutionLemmas.{IsFirst-same}
 use Rattle.cedar_declarations.proofs.TurnLemmas.{turn_back}
 use Rattle.cedar_below.proofs.TurnLemmas.{turn_weaker}
-use Rattle.cedar_declarations.specs.Bag.{common_in, entity_in, action_in, declared_name, declared_uid}
-use Rattle.cedar_declarations.specs.Names.{Names, NamesAction}
-use Rattle.cedar_declarations.specs.Occurrences.{IsFirst}
-use Rattle.cedar_declarations.specs.Resolved.{ResolvesReference, ResolvesTags, ResolvesEntityBody, ResolvesParent, ResolvesRequests, ResolvesBody, ResolvesDeclaration}
 
 -- where related items give the same keys, related lists do
 pub keys_pairwise : {A Y K : Type 0} (R : A → A → Type 0) (f : A → List Y) (key : Y → K)

@@ -3,25 +3,12 @@ use Rattle.std.proofs.Common.{◌⊎◌, ◌↔◌, ◌++◌, List, [], ◌∷�
 use Rattle.std.proofs.lemmas.List.Elements.{Contains-append_cases, Contains-append_left, Contains-append_right}
 use Rattle.std.proofs.lemmas.List.Sorted.{Contains-permutation, IsPermutation-sym}
 use Rattle.cedar_below.proofs.Lists.{Contains-preimage}
-use Rattle.cedar_below.specs.PlainName.{PlainName}
-use Rattle.cedar_below.specs.PlainUid.{PlainUid}
-use Rattle.cedar_below.specs.Text.{Text}
-use Rattle.cedar_below.specs.declared.extension.Extensions.{Extensions}
+use Rattle.cedar_declaration_laws.specs.Words.{ActionBody, Bag, ConvertedNamesAreNamedAgain, Declaration, Entity, EntityBody, Extensions, IsActionDeclaration, IsConvertedBack, IsDefined, IsNamedAgain, IsTypeDeclaration, NamesNoOther, PlainName, PlainSchema, PlainUid, SchemaAction, SchemaEntityType, Text, action_uids, declared_actions, declared_entities, declared_uid, defined_names, definitions, full_name, names_within, possible_names, schema_names}
 use Rattle.cedar_declarations.proofs.DeclarationLemmas.{action_declaration, declares_action, declares_entity, entity_declaration}
 use Rattle.cedar_declarations.proofs.OccurrenceLemmas.{Contains-image}
 use Rattle.cedar_declarations.proofs.ResolutionLemmas.{IsFirst-like}
 use Rattle.cedar_declarations.proofs.TurnLemmas.{turn_back, turn_forth}
-use Rattle.cedar_declarations.specs.Bag.{Bag, action_uids, declared_actions, declared_entities, declared_uid, defined_names, definitions}
-use Rattle.cedar_declarations.specs.Names.{IsDefined}
-use Rattle.cedar_declarations.specs.PlainSchema.{PlainSchema, SchemaAction, SchemaEntityType}
-use Rattle.cedar_declarations.specs.ConvertedBack.{IsActionDeclaration, IsTypeDeclaration, IsConvertedBack, NamesNoOther, full_name, schema_names}
 use Rattle.cedar_declaration_laws.proofs.ReferenceDecisions.{resolves_or_not}
-use Rattle.cedar_declaration_laws.specs.EndToEnd.{IsNamedAgain, ConvertedNamesAreNamedAgain}
-use Rattle.cedar_names.specs.ActionBody.{ActionBody}
-use Rattle.cedar_names.specs.Declaration.{Declaration}
-use Rattle.cedar_names.specs.EntityBody.{EntityBody}
-use Rattle.cedar_names.specs.Reference.{names_within, possible_names}
-use Rattle.cedar_names.specs.declared.json_schema.reference_type.ReferenceType.TheVariants.{Entity}
 
 -- a name is one of those that it may stand for
 pub stands_for_itself : (namespace : Option PlainName) (name : PlainName) → Contains (possible_names namespace name) name

@@ -6,20 +6,10 @@ use Rattle.std.specs.List.{flat_map}
 use Rattle.std.specs.List.Sorted.{IsPermutation}
 use Rattle.std.specs.Ordering.{is_eq}
 use Rattle.cedar_below.proofs.Lists.{Contains-preimage}
-use Rattle.cedar_below.specs.PlainName.{PlainName, name_cmp}
-use Rattle.cedar_below.specs.PlainUid.{PlainUid, uid_cmp}
-use Rattle.cedar_names.specs.ActionBody.{ActionBody, Requests}
-use Rattle.cedar_names.specs.Declaration.{Declaration}
-use Rattle.cedar_names.specs.EntityBody.{EntityBody}
-use Rattle.cedar_names.specs.Expr.{Expr}
+use Rattle.cedar_declaration_laws.specs.Words.{ActionBody, Bag, Declaration, EntityBody, Expr, OrderIsNothing, PlainName, PlainUid, Requests, SaysAll, Twice, action_definition_in, action_in, common_in, declared_actions, declared_entities, declared_name, declared_uid, defined_actions, defined_entities, entity_definition_in, entity_in, name_cmp, uid_cmp}
 use Rattle.cedar_declaration_laws.proofs.CountLemmas.{hits, hits_of_twice, twice_of_hits, hits-flat_map}
 use Rattle.cedar_declarations.proofs.OccurrenceLemmas.{Contains-flat_map, Contains-given, Contains-image, name_test, uid_test}
 use Rattle.cedar_declarations.proofs.TogetherLemmas.{SameEntityBody-itself, SameRequests-itself}
-use Rattle.cedar_declarations.specs.Bag.{Bag, common_in, entity_in, action_in, declared_name, declared_uid, declared_entities, declared_actions}
-use Rattle.cedar_declaration_laws.specs.EndToEnd.{OrderIsNothing}
-use Rattle.cedar_below.specs.Lists.{Twice}
-use Rattle.cedar_declarations.specs.SameBag.{SaysAll}
-use Rattle.cedar_declarations.specs.Together.{entity_definition_in, defined_entities, action_definition_in, defined_actions}
 
 -- what the items of a list give in turn, those of what another gives give
 pub nested : {A B C : Type 0} (f : A → List B) (g : B → List C) (xs : List A)

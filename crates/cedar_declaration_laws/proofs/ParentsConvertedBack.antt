@@ -2,28 +2,13 @@
 use Rattle.std.proofs.Common.{◌≡◌, ◌↔◌, Option, map, ap, sym, refl, inl, inr, arith, Contains}
 use Rattle.std.proofs.lemmas.List.Elements.{Contains-append_left}
 use Rattle.cedar_below.proofs.Chains.{refined}
-use Rattle.cedar_below.specs.Chain.{Chain, one}
-use Rattle.cedar_below.specs.PlainName.{PlainName}
-use Rattle.cedar_below.specs.PlainUid.{PlainUid}
-use Rattle.cedar_below.specs.declared.extension.Extensions.{Extensions}
+use Rattle.cedar_declaration_laws.specs.Words.{Bag, Chain, Entity, EntityBody, EntityTypeKind, Extensions, HasAction, HasEntityType, HasParent, HasParentAction, IsConvertedBack, IsDefined, IsDescendant, IsDescendantAction, IsEnumerated, IsKindWritten, IsNameWrittenIn, IsNamedAgain, IsUidWrittenIn, IsWritable, ListsDescendant, ListsDescendantAction, NamesAction, PlainName, PlainSchema, PlainUid, Reference, SchemaAction, SchemaEntityType, action_uids, defined_names, definitions, entity_parents, enumerated, enumerated_kind, external, external_kind, full_name, full_uid, one, standard, standard_kind}
 use Rattle.cedar_declarations.proofs.OccurrenceLemmas.{Contains-image, Contains-entry}
 use Rattle.cedar_declarations.proofs.ResolutionLemmas.{IsFirst-like, IsFirst-same}
-use Rattle.cedar_declarations.specs.Bag.{Bag, action_uids, defined_names, definitions}
-use Rattle.cedar_declarations.specs.Counted.{entity_parents}
-use Rattle.cedar_declarations.specs.Descent.{HasParent, HasParentAction, IsDescendant, IsDescendantAction}
-use Rattle.cedar_declarations.specs.EntityTypeKind.{EntityTypeKind, enumerated_kind, external_kind, standard_kind}
-use Rattle.cedar_declarations.specs.Names.{IsDefined, NamesAction}
-use Rattle.cedar_declarations.specs.PlainSchema.{PlainSchema, SchemaAction, SchemaEntityType}
-use Rattle.cedar_declarations.specs.ValidSchema.{HasAction, HasEntityType, IsEnumerated, ListsDescendant, ListsDescendantAction}
-use Rattle.cedar_declarations.specs.ConvertedBack.{IsKindWritten, IsNameWrittenIn, IsUidWrittenIn, IsWritable, IsConvertedBack, full_name, full_uid}
 use Rattle.cedar_declaration_laws.proofs.EntriesConvertedBack.{action_declared, declared_action_from, declared_type_from, same_uids, type_declared}
 use Rattle.cedar_declaration_laws.proofs.ListDecisions.{find_first}
 use Rattle.cedar_declaration_laws.proofs.NamesConvertedBack.{named_again, stands_for_itself}
 use Rattle.cedar_declaration_laws.proofs.TypeDecisions.{decide_uids}
-use Rattle.cedar_declaration_laws.specs.EndToEnd.{IsNamedAgain}
-use Rattle.cedar_names.specs.EntityBody.{EntityBody, enumerated, external, standard}
-use Rattle.cedar_names.specs.Reference.{Reference}
-use Rattle.cedar_names.specs.declared.json_schema.reference_type.ReferenceType.TheVariants.{Entity}
 use Rattle.cedar_type_rules.proofs.Decisions.{decide_among}
 
 module _ (namespace : Option PlainName) (IsAbove : PlainName → Type 0) where

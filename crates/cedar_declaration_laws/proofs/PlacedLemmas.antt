@@ -3,22 +3,10 @@ use Rattle.std.proofs.Common.{◌≡◌, Bool, true, false, List, ◌++◌, Opti
 use Rattle.std.proofs.lemmas.List.Elements.{Contains-append_cases}
 use Rattle.std.specs.Option.{option_map}
 use Rattle.cedar_below.proofs.Lists.{Contains-preimage}
-use Rattle.cedar_below.specs.Name.{plain_name}
-use Rattle.cedar_below.specs.PlainName.{PlainName}
-use Rattle.cedar_names.specs.ActionBody.{requests_by}
-use Rattle.cedar_names.specs.Declaration.{Declaration, common_declarations, entity_declarations, action_declarations, raw_declarations, raw_fragment, raw_bag}
-use Rattle.cedar_names.specs.EntityBody.{kind_body}
-use Rattle.cedar_names.specs.RawExpr.{raw_reference}
-use Rattle.cedar_names.specs.Reference.{Reference}
-use Rattle.cedar_names.specs.declared.json_schema.action_type.ApplySpec.{ApplySpec}
+use Rattle.cedar_declaration_laws.specs.Words.{ApplySpec, Declaration, Entity, Fragment, IsEntityTypePosition, IsPrincipalOrResource, NamespaceDefinition, PlainName, PositionsFit, RawName, Reference, action_declarations, common_declarations, entity_declarations, entity_parents, kind_body, plain_name, raw_bag, raw_declarations, raw_fragment, raw_reference, requests_by}
 use Rattle.cedar_names.specs.declared.json_schema.entity_type.EntityTypeKind.{EntityTypeKind}
 use Rattle.cedar_names.specs.declared.json_schema.entity_type.EntityTypeKind.TheVariants as variant
-use Rattle.cedar_names.specs.declared.json_schema.fragment.Fragment.{Fragment}
-use Rattle.cedar_names.specs.declared.json_schema.fragment.NamespaceDefinition.{NamespaceDefinition}
-use Rattle.cedar_names.specs.declared.json_schema.raw_name.RawName.{RawName}
-use Rattle.cedar_names.specs.declared.json_schema.reference_type.ReferenceType.TheVariants.{Entity}
 use Rattle.cedar_declarations.proofs.OccurrenceLemmas.{Contains-flat_map}
-use Rattle.cedar_declarations.specs.Counted.{IsEntityTypePosition, entity_parents, IsPrincipalOrResource, PositionsFit}
 
 module _ (namespace : Option PlainName) where
   -- each of some names at places of entity types refers to one

@@ -1,21 +1,9 @@
 -- What references resolve to is decided, and so is which entity types and actions are below which.
 use Rattle.std.proofs.Common.{◌⊎◌, ◌++◌, List, inl, inr, map, Contains}
 use Rattle.std.proofs.lemmas.List.Elements.{Contains-append_left, Contains-append_right}
-use Rattle.cedar_below.specs.PlainName.{PlainName}
-use Rattle.cedar_below.specs.PlainUid.{PlainUid}
-use Rattle.cedar_below.specs.declared.extension.Extensions.{Extensions}
-use Rattle.cedar_names.specs.ActionBody.{ActionBody}
-use Rattle.cedar_names.specs.EntityBody.{EntityBody}
-use Rattle.cedar_names.specs.Reference.{Reference, ActionReference}
-use Rattle.cedar_names.specs.declared.json_schema.reference_type.ReferenceType.{ReferenceType}
-use Rattle.cedar_names.specs.declared.json_schema.reference_type.ReferenceType.TheVariants.{Common, Entity, CommonOrEntity}
+use Rattle.cedar_declaration_laws.specs.Words.{ActionBody, ActionReference, Bag, Common, CommonOrEntity, Entity, EntityBody, Extensions, HasParent, HasParentAction, IsDefined, IsDescendant, IsDescendantAction, IsNamedBy, IsUnresolved, MayNameCommon, MayNameEntity, Names, NamesAction, PlainName, PlainUid, Reference, ReferenceType, ResolvesTo, action_uids, declared_actions, declared_entities, defined_names, entity_parents}
 use Rattle.cedar_declarations.proofs.OccurrenceLemmas.{Contains-image}
 use Rattle.cedar_declarations.proofs.ResolutionLemmas.{first_defined}
-use Rattle.cedar_declarations.specs.Bag.{Bag, action_uids, declared_actions, declared_entities, defined_names}
-use Rattle.cedar_declarations.specs.Counted.{entity_parents}
-use Rattle.cedar_declarations.specs.DeclaredSchema.{IsNamedBy}
-use Rattle.cedar_declarations.specs.Descent.{HasParent, HasParentAction, IsDescendant, IsDescendantAction}
-use Rattle.cedar_declarations.specs.Names.{Names, IsDefined, IsUnresolved, MayNameCommon, MayNameEntity, NamesAction, ResolvesTo}
 use Rattle.cedar_declaration_laws.proofs.ChainDecisions.{list_below}
 use Rattle.cedar_declaration_laws.proofs.ListDecisions.{Listed, decide_either, decide_first, decide_some, decide_stands, find_first, list_all}
 use Rattle.cedar_declaration_laws.proofs.TypeDecisions.{decide_like, decide_names, decide_texts, decide_uids}

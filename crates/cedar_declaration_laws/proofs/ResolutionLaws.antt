@@ -3,17 +3,7 @@ use Rattle.std.proofs.Common.{◌≡◌, ◌≢◌, ◌⊎◌, List, [], ◌∷�
 use Rattle.std.proofs.lemmas.List.{map-append}
 use Rattle.cedar_below.proofs.Chains.{refined}
 use Rattle.cedar_below.proofs.Lists.{Contains-cons}
-use Rattle.cedar_below.specs.Chain.{one}
-use Rattle.cedar_below.specs.Lists.{HoldsPairwise}
-use Rattle.cedar_below.specs.PlainName.{PlainName}
-use Rattle.cedar_below.specs.PlainUid.{PlainUid}
-use Rattle.cedar_below.specs.Text.{Text}
-use Rattle.cedar_below.specs.declared.extension.Extensions.{Extensions}
-use Rattle.cedar_names.specs.ActionBody.{Requests, requests, elsewhere}
-use Rattle.cedar_names.specs.Declaration.{Declaration, Body, common_type, entity_type, action}
-use Rattle.cedar_names.specs.EntityBody.{EntityBody, standard, enumerated, external}
-use Rattle.cedar_names.specs.Expr.{Expr}
-use Rattle.cedar_names.specs.Reference.{Reference, ActionReference}
+use Rattle.cedar_declaration_laws.specs.Words.{ActionKind, ActionReference, ActionSays, AreDeclaredTags, Bag, Body, CountsIn, CountsInEntity, CountsInRequests, Declaration, EntityBody, EntitySays, EntityTypeKind, Expr, Extensions, Fault, HasAttributes, HasParent, HasParentAction, HasToResolve, HoldsPairwise, IsActionParent, IsAtEntityTypePosition, IsCounted, IsDeclaredAction, IsDeclaredActionKind, IsDeclaredEntityType, IsDeclaredKind, IsDeclaredSchema, IsDescendant, IsDescendantAction, IsEntityTypePosition, IsExternalType, IsFault, IsFirst, IsNamedBy, IsParent, IsPrincipalOrResource, IsUnresolved, Names, NamesAction, NamesNoAction, PlainName, PlainSchema, PlainUid, Reference, RefersToCommon, Requests, ResolutionChangesNothing, ResolvesBag, ResolvesDeclaration, ResolvesTo, SchemaAction, SchemaEntityType, Text, Ty, action, action_attributes, action_cycle, action_entity_type, action_not_defined, action_shadowing, action_uids, aliases, built_ins, common_type, common_type_cycle, context_not_record, declared_common, declared_entities, defined_action, defined_actions, defined_names, definitions, duplicate_action, duplicate_common_type, duplicate_entity_type, elsewhere, entity_parents, entity_type, enumerated, enumerated_below, enumerated_kind, external, external_action, external_below_enumerated, external_kind, one, open_record, requests, reserved_name, shape_not_record, standard, standard_kind, type_not_defined, type_shadowing, undeclared_entity_types, unknown_extension_type}
 use Rattle.cedar_declaration_laws.proofs.MeaningLemmas.{MeansTheSame, MeansTheSame-sym, AreAlike, open_alike, extension_alike, refers_alike, MovesTo, elaborated_alike, no_record_alike}
 use Rattle.cedar_declaration_laws.proofs.MovedBags.{common_same, entity_same, action_same, defined_entity_same, defined_action_same, types_same, aliases_same, names_same, entity_moved, action_moved, definition_moved}
 use Rattle.cedar_declaration_laws.proofs.MovedLemmas.{NamesTheSame, TagsAlike, EntitiesAlike, RequestsAlike, BodiesAlike, DeclarationsAlike, declarations-sym, resolved_declaration}
@@ -21,20 +11,6 @@ use Rattle.cedar_declarations.proofs.ResolutionLemmas.{first_defined}
 use Rattle.cedar_declarations.proofs.TurnLemmas.{turn_forth, turn_back}
 use Rattle.cedar_below.proofs.TurnLemmas.{turn_weaker}
 use Rattle.cedar_declarations.proofs.TogetherLemmas.{AreRequests, declared_definition, definition_declared, declared_action_definition, action_definition_declared}
-use Rattle.cedar_declarations.specs.Bag.{Bag, action_uids, aliases, declared_common, declared_entities, built_ins, definitions, defined_names}
-use Rattle.cedar_declarations.specs.Counted.{CountsInEntity, CountsInRequests, CountsIn, IsCounted, entity_parents, IsPrincipalOrResource, IsEntityTypePosition, IsAtEntityTypePosition, HasToResolve}
-use Rattle.cedar_declarations.specs.DeclaredSchema.{AreDeclaredTags, IsDeclaredKind, IsDeclaredEntityType, IsNamedBy, IsDeclaredActionKind, IsDeclaredAction, IsDeclaredSchema}
-use Rattle.cedar_declarations.specs.Descent.{HasParent, HasParentAction, IsDescendant, IsDescendantAction}
-use Rattle.cedar_declaration_laws.specs.EndToEnd.{ResolutionChangesNothing}
-use Rattle.cedar_declarations.specs.EntityTypeKind.{EntityTypeKind, standard_kind, enumerated_kind, external_kind}
-use Rattle.cedar_declarations.specs.Fault.{Fault, action_attributes, open_record, undeclared_entity_types, type_not_defined, action_not_defined, type_shadowing, action_shadowing, duplicate_entity_type, duplicate_common_type, duplicate_action, action_cycle, common_type_cycle, action_entity_type, shape_not_record, context_not_record, unknown_extension_type, reserved_name, external_below_enumerated, enumerated_below}
-use Rattle.cedar_declarations.specs.IllFormed.{HasAttributes, RefersToCommon, IsFault}
-use Rattle.cedar_declarations.specs.Names.{Names, ResolvesTo, IsUnresolved, NamesAction, NamesNoAction}
-use Rattle.cedar_declarations.specs.Occurrences.{IsFirst}
-use Rattle.cedar_declarations.specs.PlainSchema.{SchemaEntityType, ActionKind, defined_action, external_action, SchemaAction, PlainSchema}
-use Rattle.cedar_declarations.specs.Resolved.{ResolvesBag, ResolvesDeclaration}
-use Rattle.cedar_declarations.specs.Together.{defined_actions, IsExternalType, IsParent, IsActionParent, EntitySays, ActionSays}
-use Rattle.cedar_type_rules.specs.Ty.{Ty}
 
 -- some list isn't none
 pub some_first : {A : Type 0} (items : List A) → items ≢ [] → (item : A) × Contains items item

@@ -2,16 +2,7 @@
 use Rattle.std.proofs.Common.{◌≡◌, List, ◌++◌, Option, map, ap, sym, ◌∙◌, refl, inl, inr, Contains}
 use Rattle.std.proofs.lemmas.List.{map-append}
 use Rattle.cedar_below.proofs.Lists.{Contains-preimage}
-use Rattle.cedar_below.specs.Chain.{one}
-use Rattle.cedar_below.specs.PlainName.{PlainName}
-use Rattle.cedar_below.specs.PlainUid.{PlainUid}
-use Rattle.cedar_below.specs.Text.{Text}
-use Rattle.cedar_below.specs.declared.extension.Extensions.{Extensions}
-use Rattle.cedar_names.specs.ActionBody.{ActionBody, Requests, requests, elsewhere}
-use Rattle.cedar_names.specs.Declaration.{Body, common_type, entity_type, action}
-use Rattle.cedar_names.specs.EntityBody.{EntityBody, standard, enumerated, external}
-use Rattle.cedar_names.specs.Expr.{Expr}
-use Rattle.cedar_names.specs.Reference.{Reference, ActionReference}
+use Rattle.cedar_declaration_laws.specs.Words.{ActionBody, ActionReference, Bag, Body, CountsIn, CountsInEntity, CountsInRequests, EntityBody, Expr, Extensions, Fault, HasParent, HasParentAction, HasToResolve, HasUnknownParent, IsAtEntityTypePosition, IsCounted, IsDescendant, IsDescendantAction, IsEntityTypePosition, IsExternalType, IsFault, IsIllFormed, IsPrincipalOrResource, NamesAction, PlainName, PlainUid, Reference, RefersToCommon, Requests, ResolvesTo, SameEntityBody, SameRequests, SaysAll, Text, Twice, action, action_attributes, action_cycle, action_entity_type, action_not_defined, action_shadowing, action_uids, built_ins, common_type, common_type_cycle, context_not_record, declared_actions, declared_common, declared_entities, declared_name, declared_uid, defined_actions, defined_entities, defined_names, definitions, duplicate_action, duplicate_common_type, duplicate_entity_type, elsewhere, entity_type, enumerated, enumerated_below, external, external_below_enumerated, one, open_record, requests, reserved_name, shape_not_record, standard, type_not_defined, type_shadowing, undeclared_entity_types, unknown_extension_type}
 use Rattle.cedar_below.proofs.Chains.{refined}
 use Rattle.cedar_declarations.proofs.DeclarationLemmas.{entity_declaration, action_declaration, common_declaration, declares_entity, declares_action, declares_common}
 use Rattle.cedar_declarations.proofs.DefinedLemmas.{resolves_there, unresolved_there, no_record_there}
@@ -20,15 +11,6 @@ use Rattle.cedar_declarations.proofs.ResolutionLemmas.{IsFirst-like}
 use Rattle.cedar_declaration_laws.proofs.EnumeratedLemmas.{enumerated_parent}
 use Rattle.cedar_declaration_laws.proofs.SaidLemmas.{common_name_said, type_said, action_type_said, same_defined}
 use Rattle.cedar_declarations.proofs.TogetherLemmas.{IsDefinition, AreRequests, entity_counted, requests_counted, request_placed, definition_declared, declared_definition, action_definition_declared, declared_action_definition}
-use Rattle.cedar_declarations.specs.Bag.{Bag, declared_name, declared_uid, declared_common, declared_entities, declared_actions, action_uids, built_ins, definitions, defined_names}
-use Rattle.cedar_declarations.specs.Counted.{CountsInEntity, CountsInRequests, CountsIn, IsCounted, IsPrincipalOrResource, IsEntityTypePosition, IsAtEntityTypePosition, HasToResolve}
-use Rattle.cedar_declarations.specs.Descent.{HasParent, HasParentAction, IsDescendant, IsDescendantAction}
-use Rattle.cedar_declarations.specs.Fault.{Fault, action_attributes, open_record, undeclared_entity_types, type_not_defined, action_not_defined, type_shadowing, action_shadowing, duplicate_entity_type, duplicate_common_type, duplicate_action, action_cycle, common_type_cycle, action_entity_type, shape_not_record, context_not_record, unknown_extension_type, reserved_name, external_below_enumerated, enumerated_below}
-use Rattle.cedar_declarations.specs.IllFormed.{HasUnknownParent, RefersToCommon, IsFault, IsIllFormed}
-use Rattle.cedar_declarations.specs.Names.{NamesAction, ResolvesTo}
-use Rattle.cedar_below.specs.Lists.{Twice}
-use Rattle.cedar_declarations.specs.SameBag.{SameEntityBody, SameRequests, SaysAll}
-use Rattle.cedar_declarations.specs.Together.{defined_entities, defined_actions, IsExternalType}
 
 -- what counts in what is declared of an entity type counts in the same
 entity_counts : (body other : EntityBody) (expr : Expr) → SameEntityBody body other → CountsInEntity body expr → CountsInEntity other expr

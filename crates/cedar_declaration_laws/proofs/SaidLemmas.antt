@@ -3,15 +3,9 @@ use Rattle.std.proofs.Common.{◌≡◌, Bool, true, false, not, ◌++◌, map, 
 use Rattle.std.proofs.lemmas.List.Elements.{Contains-append_left, Contains-append_right, Contains-append_cases, filter_agree}
 use Rattle.std.specs.Ordering.{is_eq}
 use Rattle.cedar_below.proofs.Lists.{Contains-preimage}
-use Rattle.cedar_below.specs.PlainName.{PlainName, name_cmp}
-use Rattle.cedar_below.specs.PlainUid.{PlainUid}
-use Rattle.cedar_below.specs.Text.{Text}
-use Rattle.cedar_below.specs.declared.extension.Extensions.{Extensions}
-use Rattle.cedar_names.specs.Expr.{Expr}
+use Rattle.cedar_declaration_laws.specs.Words.{Bag, Expr, Extensions, PlainName, PlainUid, SaysAll, Text, action_uids, alias_name, aliases, built_in_types, built_ins, declared_common, declared_entities, declared_types, definitions, is_declared_here, name_cmp}
 use Rattle.cedar_declarations.proofs.DefinedLemmas.{SameDefined}
 use Rattle.cedar_declarations.proofs.OccurrenceLemmas.{Contains-image, any_of, some_of}
-use Rattle.cedar_declarations.specs.Bag.{Bag, declared_common, declared_entities, declared_types, action_uids, is_declared_here, built_in_types, built_ins, alias_name, aliases, definitions}
-use Rattle.cedar_declarations.specs.SameBag.{SaysAll}
 
 module _ (bag other : Bag) (said : SaysAll bag other) where
   -- the name of a common type that the one declares the other does

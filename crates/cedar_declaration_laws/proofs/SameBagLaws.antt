@@ -1,21 +1,11 @@
 -- Bags that are the same are ill-formed both or neither, and declare the same schemas.
-use Rattle.cedar_below.specs.PlainName.{PlainName}
-use Rattle.cedar_below.specs.PlainUid.{PlainUid}
-use Rattle.cedar_below.specs.declared.extension.Extensions.{Extensions}
-use Rattle.cedar_names.specs.ActionBody.{Requests, requests, elsewhere}
-use Rattle.cedar_names.specs.EntityBody.{EntityBody, standard, enumerated, external}
+use Rattle.cedar_declaration_laws.specs.Words.{ActionSays, Bag, EntityBody, EntitySays, Extensions, IsDeclaredAction, IsDeclaredEntityType, IsDeclaredSchema, IsExternalAction, PlainName, PlainSchema, PlainUid, Requests, SameBagsDeclareTheSame, SameEntityBody, SameRequests, SaysAll, SchemaAction, SchemaEntityType, defined_actions, definitions, elsewhere, enumerated, external, requests, standard}
 use Rattle.cedar_declaration_laws.proofs.KindLemmas.{kind_there, action_kind_there}
 use Rattle.cedar_declarations.proofs.OccurrenceLemmas.{Contains-image}
 use Rattle.cedar_declaration_laws.proofs.SaidFaults.{descendant_said, descendant_action_said, external_said, fault_said}
 use Rattle.cedar_declaration_laws.proofs.SaidLemmas.{same_defined}
 use Rattle.cedar_declarations.proofs.TogetherLemmas.{definition_says, action_definition_says}
 use Rattle.cedar_below.proofs.Lists.{Contains-preimage}
-use Rattle.cedar_declarations.specs.Bag.{Bag, definitions}
-use Rattle.cedar_declarations.specs.DeclaredSchema.{IsDeclaredEntityType, IsDeclaredAction, IsDeclaredSchema}
-use Rattle.cedar_declaration_laws.specs.EndToEnd.{SameBagsDeclareTheSame}
-use Rattle.cedar_declarations.specs.PlainSchema.{SchemaEntityType, SchemaAction, PlainSchema}
-use Rattle.cedar_declarations.specs.SameBag.{SameEntityBody, SameRequests, SaysAll}
-use Rattle.cedar_declarations.specs.Together.{defined_actions, EntitySays, ActionSays, IsExternalAction}
 
 module _ (bag other : Bag) (said : SaysAll bag other) (back : SaysAll other bag) where
   -- what the declarations of an entity type say in the one they say in the other

@@ -1,13 +1,8 @@
 -- Schemas with the same actions have the same entities of actions.
 use Rattle.std.proofs.Common.{◌≡◌, subst, sym, ◌∙◌, map, Contains}
 use Rattle.cedar_below.proofs.PlainNames.{uid_cmp-total}
-use Rattle.cedar_below.specs.Lists.{HoldsPairwise}
-use Rattle.cedar_below.specs.PlainUid.{PlainUid, uid_cmp}
+use Rattle.cedar_declaration_laws.specs.Words.{ActionEntity, ActionKind, AreActionEntities, DefinesAction, HoldsPairwise, IsDefinedKind, IsEntityOfAction, ListsDescendantAction, PlainSchema, PlainUid, SameAction, SameActionEntity, SameActionKind, SchemaAction, defined_action, external_action, uid_cmp}
 use Rattle.cedar_declarations.proofs.TurnLemmas.{turn_forth, turn_back}
-use Rattle.cedar_declarations.specs.ActionEntities.{AreActionEntities, DefinesAction, IsDefinedKind, IsEntityOfAction}
-use Rattle.cedar_declarations.specs.PlainSchema.{ActionEntity, ActionKind, defined_action, external_action, PlainSchema, SchemaAction}
-use Rattle.cedar_declarations.specs.SameSchema.{SameAction, SameActionEntity, SameActionKind}
-use Rattle.cedar_declarations.specs.ValidSchema.{ListsDescendantAction}
 use Rattle.cedar_declaration_laws.proofs.SchemaLaws.{keys_included, same_pairwise, same_items}
 use Rattle.cedar_type_rules.proofs.AntisymmetryLaws.{Included-same}
 

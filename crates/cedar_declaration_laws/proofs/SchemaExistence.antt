@@ -6,18 +6,11 @@ use Rattle.std.specs.declared.cmp.Ordering.{Ordering}
 use Rattle.std.specs.declared.cmp.Ordering.TheVariants.{Equal}
 use Rattle.cedar_below.proofs.Lists.{Contains-cons, Contains-cons_cases}
 use Rattle.cedar_below.proofs.PlainNames.{name_cmp-Equal, name_cmp-total, uid_cmp-Equal, uid_cmp-total}
-use Rattle.cedar_below.specs.PlainName.{PlainName, name_cmp}
-use Rattle.cedar_below.specs.PlainUid.{PlainUid, uid_cmp}
-use Rattle.cedar_below.specs.declared.extension.Extensions.{Extensions}
-use Rattle.cedar_declarations.specs.Bag.{Bag, action_uids, declared_entities}
-use Rattle.cedar_declarations.specs.DeclaredSchema.{IsDeclaredAction, IsDeclaredEntityType}
-use Rattle.cedar_declarations.specs.IllFormed.{IsIllFormed}
-use Rattle.cedar_declarations.specs.PlainSchema.{PlainSchema, SchemaAction, SchemaEntityType}
+use Rattle.cedar_declaration_laws.specs.Words.{Bag, BagsDeclareASchema, Extensions, IsDeclaredAction, IsDeclaredEntityType, IsIllFormed, PlainName, PlainSchema, PlainUid, SchemaAction, SchemaEntityType, action_uids, declared_entities, name_cmp, uid_cmp}
 use Rattle.cedar_declaration_laws.proofs.DeclaredKinds.{action_kind, action_says, entity_kind, entity_says}
 use Rattle.cedar_declaration_laws.proofs.ListDecisions.{in_order}
 use Rattle.cedar_declaration_laws.proofs.ListedEntities.{list_entities}
 use Rattle.cedar_declaration_laws.proofs.ReferenceDecisions.{list_descendant_actions, list_descendants}
-use Rattle.cedar_declaration_laws.specs.EndToEnd.{BagsDeclareASchema}
 
 -- each key has a value that fits it, so that the keys are those of entries that fit
 entries_of : {K V : Type 0} (Fits : K × V → Type 0) (keys : List K)

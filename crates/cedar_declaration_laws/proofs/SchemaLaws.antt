@@ -2,14 +2,7 @@
 use Rattle.std.proofs.Common.{◌≡◌, ◌↔◌, List, [], ◌∷◌, Option, Some, None, map, ap, sym, ◌∙◌, refl, inl, inr, Contains}
 use Rattle.cedar_below.proofs.Lists.{Contains-cons, Contains-preimage}
 use Rattle.cedar_below.proofs.PlainNames.{name_cmp-total, uid_cmp-total}
-use Rattle.cedar_below.specs.Extensions.{extension_types}
-use Rattle.cedar_below.specs.PlainName.{PlainName, name_cmp}
-use Rattle.cedar_below.specs.PlainUid.{PlainUid, uid_cmp}
-use Rattle.cedar_below.specs.TypeNames.{TypeNamesFit}
-use Rattle.cedar_below.specs.declared.extension.Extensions.{Extensions}
-use Rattle.cedar_names.specs.ActionBody.{Requests, requests, elsewhere}
-use Rattle.cedar_names.specs.EntityBody.{EntityBody, standard, enumerated, external}
-use Rattle.cedar_names.specs.Expr.{Expr}
+use Rattle.cedar_declaration_laws.specs.Words.{ActionEntity, ActionKind, AdmitsTheSame, AreDeclaredTags, Bag, ClosedAttributes, Defined, ElaboratesTo, EntityBody, EntityTypeKind, Expr, Extensions, Fields, HoldsPairwise, IsDeclaredAction, IsDeclaredActionKind, IsDeclaredEntityType, IsDeclaredKind, IsDeclaredSchema, IsDescendant, IsDescendantAction, IsEntityOfDefinition, IsIllFormed, IsNamedBy, PlainName, PlainSchema, PlainUid, Requests, SameAction, SameActionEntity, SameActionKind, SameEntityType, SameItems, SameSchema, SchemaAction, SchemaEntityType, Ty, TypeNamesFit, TypesAdmitTheDeclared, action_uids, declared_entities, defined_action, defined_actions, definitions, duplicate_action, duplicate_common_type, duplicate_entity_type, elsewhere, end, enumerated, enumerated_kind, extension_types, external, external_action, external_kind, name_cmp, names_of, record_of, requests, standard, standard_kind, uid_cmp}
 use Rattle.cedar_declaration_laws.proofs.AdmitsLemmas.{has_admitted, admitted_of}
 use Rattle.cedar_declarations.proofs.BuiltInLemmas.{one_definition}
 use Rattle.cedar_declaration_laws.proofs.ActionEntityLaws.{entities_declared}
@@ -17,22 +10,7 @@ use Rattle.cedar_declarations.proofs.DefinedLemmas.{SameDefined-itself}
 use Rattle.cedar_declaration_laws.proofs.KindLemmas.{kind_there}
 use Rattle.cedar_declarations.proofs.TogetherLemmas.{IsDefinition, declared_definition, definition_says, entity_says_once, action_says_once, said_is_declared, said_action_is_declared}
 use Rattle.cedar_declarations.proofs.ResolutionLemmas.{HasOneDefinition, elaborated_once}
-use Rattle.cedar_declarations.specs.Bag.{Bag, declared_entities, action_uids, definitions}
-use Rattle.cedar_declarations.specs.DeclaredSchema.{IsDeclaredEntityType, IsNamedBy, IsDeclaredActionKind, IsDeclaredAction, IsDeclaredSchema, IsDeclaredKind, AreDeclaredTags}
-use Rattle.cedar_declarations.specs.Defined.{Defined, names_of}
-use Rattle.cedar_declarations.specs.Descent.{IsDescendant, IsDescendantAction}
-use Rattle.cedar_declaration_laws.specs.EndToEnd.{AdmitsTheSame, IsEntityOfDefinition, TypesAdmitTheDeclared}
-use Rattle.cedar_declarations.specs.Fault.{duplicate_entity_type, duplicate_common_type, duplicate_action}
-use Rattle.cedar_declarations.specs.IllFormed.{IsIllFormed}
-use Rattle.cedar_declarations.specs.PlainSchema.{SchemaEntityType, ActionKind, defined_action, external_action, SchemaAction, ActionEntity, PlainSchema}
-use Rattle.cedar_below.specs.Lists.{SameItems, HoldsPairwise}
-use Rattle.cedar_declarations.specs.SameSchema.{SameEntityType, SameActionKind, SameAction, SameActionEntity, SameSchema}
-use Rattle.cedar_declarations.specs.Together.{defined_actions}
-use Rattle.cedar_declarations.specs.ElaboratesTo.{ElaboratesTo}
 use Rattle.cedar_type_rules.proofs.AntisymmetryLaws.{Included-same}
-use Rattle.cedar_declarations.specs.EntityTypeKind.{EntityTypeKind, standard_kind, enumerated_kind, external_kind}
-use Rattle.cedar_type_rules.specs.Ty.{Ty, Fields, end, record_of}
-use Rattle.cedar_type_rules.specs.declared.open_tag.OpenTag.TheVariants.{ClosedAttributes}
 
 -- in a bag that isn't ill-formed each common name has one definition
 pub one_of_well_formed : (bag : Bag) (extensions : Extensions) → TypeNamesFit (extension_types extensions)

@@ -1,27 +1,13 @@
 -- The bag of a valid schema that is converted back declares the schema with its descendants closed.
 use Rattle.std.proofs.Common.{◌≡◌, List, [], ◌∷◌, Option, map, sym, ◌∙◌, refl, Contains, inl, inr}
 use Rattle.cedar_below.proofs.PlainNames.{name_cmp-total, uid_cmp-total}
-use Rattle.cedar_below.specs.Lists.{HoldsPairwise}
-use Rattle.cedar_below.specs.PlainName.{PlainName, name_cmp}
-use Rattle.cedar_below.specs.PlainUid.{PlainUid, uid_cmp}
-use Rattle.cedar_below.specs.declared.extension.Extensions.{Extensions}
+use Rattle.cedar_declaration_laws.specs.Words.{ActionBody, ActionKind, ActionSays, AreRequestsWritten, Bag, ClosesAction, ClosesType, ConvertedDescendantsAreReached, ConvertedSchemasAreDeclared, EntityBody, EntitySays, EntityTypeKind, Extensions, HoldsPairwise, IsConvertedBack, IsDeclaredAction, IsDeclaredEntityType, IsExternal, IsInOrder, IsKindWritten, IsValidSchema, IsWritable, ListsDescendant, PlainName, PlainSchema, PlainUid, Requests, SchemaAction, SchemaEntityType, declared_actions, declared_entities, defined_action, defined_actions, defined_entities, elsewhere, enumerated, enumerated_kind, external, external_action, external_kind, name_cmp, requests, standard, standard_kind, uid_cmp}
 use Rattle.cedar_declarations.proofs.OccurrenceLemmas.{Contains-image, Twice-sorted_by_name, value_once, Contains-entry}
 use Rattle.cedar_declarations.proofs.TogetherLemmas.{AreRequests, IsDefinition, action_definition_declared, action_definition_says, declared_action_definition, declared_definition, definition_declared, definition_or_external, definition_says, requests_or_elsewhere}
 use Rattle.cedar_declarations.proofs.TurnLemmas.{turn_back, turn_forth}
-use Rattle.cedar_declarations.specs.Bag.{Bag, declared_actions, declared_entities}
-use Rattle.cedar_declarations.specs.ClosedSchema.{ClosesAction, ClosesType}
-use Rattle.cedar_declarations.specs.DeclaredSchema.{IsDeclaredAction, IsDeclaredEntityType}
-use Rattle.cedar_declarations.specs.EntityTypeKind.{EntityTypeKind, enumerated_kind, external_kind, standard_kind}
-use Rattle.cedar_declarations.specs.PlainSchema.{ActionKind, PlainSchema, SchemaAction, SchemaEntityType, defined_action, external_action}
-use Rattle.cedar_declarations.specs.Together.{ActionSays, EntitySays, defined_actions, defined_entities}
-use Rattle.cedar_declarations.specs.ValidSchema.{IsExternal, IsValidSchema, ListsDescendant}
-use Rattle.cedar_declarations.specs.ConvertedBack.{AreRequestsWritten, IsKindWritten, IsWritable, IsConvertedBack}
 use Rattle.cedar_declaration_laws.proofs.EntriesConvertedBack.{IsActionWritten, IsTypeWritten, action_declared, declared_action_from, declared_type_from, same_types, same_uids, type_declared}
 use Rattle.cedar_declaration_laws.proofs.KindsConvertedBack.{action_kind_declared, kind_declared}
 use Rattle.cedar_declaration_laws.proofs.ParentsConvertedBack.{same_action_descendants, same_descendants}
-use Rattle.cedar_declaration_laws.specs.EndToEnd.{IsInOrder, ConvertedDescendantsAreReached, ConvertedSchemasAreDeclared}
-use Rattle.cedar_names.specs.ActionBody.{ActionBody, Requests, elsewhere, requests}
-use Rattle.cedar_names.specs.EntityBody.{EntityBody, enumerated, external, standard}
 
 module _ (namespace : Option PlainName) where
   -- what is written as external is

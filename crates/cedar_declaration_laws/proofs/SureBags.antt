@@ -1,25 +1,9 @@
 -- Where a bag is sure to have none of the faults, kind by kind, it isn't ill-formed.
 use Rattle.std.proofs.Common.{◌≡◌, List, sym, subst, refl, Contains}
-use Rattle.cedar_below.specs.Extensions.{extension_types}
-use Rattle.cedar_below.specs.PlainName.{PlainName, IsActionType}
-use Rattle.cedar_below.specs.PlainUid.{PlainUid}
-use Rattle.cedar_below.specs.Text.{Text}
-use Rattle.cedar_below.specs.declared.extension.Extensions.{Extensions}
+use Rattle.cedar_declaration_laws.specs.Words.{ActionBody, ActionReference, Bag, Body, CountsIn, CountsInEntity, CountsInRequests, EntityBody, Expr, Extensions, Fault, HasOpenRecord, HasToResolve, IsActionParent, IsActionType, IsAtEntityTypePosition, IsCounted, IsEntityTypePosition, IsFault, IsIllFormed, IsParent, IsPrincipalOrResource, NamesAction, PlainName, PlainUid, Reference, ResolvesTo, Text, action, action_attributes, action_cycle, action_entity_type, action_not_defined, action_shadowing, action_uids, common_type, common_type_cycle, context_not_record, declared_actions, declared_common, declared_entities, declared_name, declared_uid, defined_names, duplicate_action, duplicate_common_type, duplicate_entity_type, entity_type, enumerated_below, extension_types, external_below_enumerated, open_record, reserved_name, shape_not_record, type_not_defined, type_shadowing, undeclared_entity_types, unknown_extension_type}
 use Rattle.cedar_declarations.proofs.DeclarationLemmas.{declares_common, declares_entity, declares_action}
-use Rattle.cedar_declarations.specs.Bag.{Bag, action_uids, declared_common, declared_entities, declared_actions, declared_name, declared_uid, defined_names}
-use Rattle.cedar_declarations.specs.Counted.{CountsIn, CountsInEntity, CountsInRequests, HasToResolve, IsCounted, IsEntityTypePosition, IsAtEntityTypePosition, IsPrincipalOrResource}
-use Rattle.cedar_declarations.specs.Fault.{Fault, action_attributes, open_record, undeclared_entity_types, type_not_defined, action_not_defined, type_shadowing, action_shadowing, duplicate_entity_type, duplicate_common_type, duplicate_action, action_cycle, common_type_cycle, action_entity_type, shape_not_record, context_not_record, unknown_extension_type, reserved_name, external_below_enumerated, enumerated_below}
-use Rattle.cedar_declarations.specs.IllFormed.{IsFault, IsIllFormed}
-use Rattle.cedar_declarations.specs.Mentions.{HasOpenRecord}
-use Rattle.cedar_declarations.specs.Names.{ResolvesTo, NamesAction}
-use Rattle.cedar_declarations.specs.Together.{IsActionParent, IsParent}
 use Rattle.cedar_declaration_laws.proofs.MentionLemmas.{HasKnownExtensions}
 use Rattle.cedar_declaration_laws.proofs.ResolutionLaws.{resolved, named, some_first}
-use Rattle.cedar_names.specs.ActionBody.{ActionBody}
-use Rattle.cedar_names.specs.Declaration.{Body, common_type, entity_type, action}
-use Rattle.cedar_names.specs.EntityBody.{EntityBody}
-use Rattle.cedar_names.specs.Expr.{Expr}
-use Rattle.cedar_names.specs.Reference.{Reference, ActionReference}
 
 module _ (bag : Bag) where
   -- what holds of each definition of a common type, of each expression that counts in what is declared of an entity type, and

@@ -2,14 +2,9 @@
 use Rattle.std.proofs.Common.{◌≡◌, List, [], ◌∷◌, inl, inr, refl, ap}
 use Rattle.cedar_below.proofs.PlainNames.{name_cmp-Equal, uid_cmp-Equal}
 use Rattle.cedar_below.proofs.Texts.{text_cmp-Equal}
-use Rattle.cedar_below.specs.PlainName.{PlainName, name_cmp}
-use Rattle.cedar_below.specs.PlainUid.{PlainUid, uid_cmp}
-use Rattle.cedar_below.specs.Text.{Text, text_cmp}
+use Rattle.cedar_declaration_laws.specs.Words.{BoolType, Fields, OpenTag, PlainName, PlainUid, Text, Ty, any_entity, any_set, end, extension_of, field, long, name_cmp, never, record_of, set_of, text, text_cmp, truth, uid_cmp, union_of}
 use Rattle.cedar_type_rules.proofs.Decisions.{IsDecided, decide_both, decide_flags, decide_same}
-use Rattle.cedar_type_rules.specs.Ty.{Ty, never, truth, long, text, any_entity, union_of, any_set, set_of, record_of, extension_of, Fields, end, field}
-use Rattle.cedar_type_rules.specs.declared.bool_type.BoolType.{BoolType}
 use Rattle.cedar_type_rules.specs.declared.bool_type.BoolType.TheVariants as truth_value
-use Rattle.cedar_type_rules.specs.declared.open_tag.OpenTag.{OpenTag}
 use Rattle.cedar_type_rules.specs.declared.open_tag.OpenTag.TheVariants as openness
 
 -- facts that follow of each other are decided alike

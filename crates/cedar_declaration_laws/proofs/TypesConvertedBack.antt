@@ -1,17 +1,7 @@
 -- Types that are written in a namespace are elaborated again.
 use Rattle.std.proofs.Common.{◌≡◌, false, List, [], ◌∷◌, Option, Some, None, ap, refl, inl, inr, arith}
 use Rattle.std.specs.Option.{option_map, option_zip}
-use Rattle.cedar_below.specs.PlainName.{PlainName}
-use Rattle.cedar_below.specs.Text.{Text}
-use Rattle.cedar_declarations.specs.Defined.{Defined}
-use Rattle.cedar_declarations.specs.TypeMentions.{FieldsMentionEntity, MentionsEntity}
-use Rattle.cedar_declarations.specs.ConvertedBack.{extension_written, fields_written, full_name, type_written}
-use Rattle.cedar_declarations.specs.ElaboratesTo.{ElaboratesTo, MembersElaborateTo, as_text, as_long, as_truth, as_set, as_record, as_entity, as_extension, as_no_member, as_member}
-use Rattle.cedar_declaration_laws.specs.EndToEnd.{IsNamedAgain, ConvertedTypesElaborate}
-use Rattle.cedar_names.specs.Expr.{Expr, Members, member, no_member, record_expr, set_expr, named, extension_expr, text_expr, long_expr, truth_expr}
-use Rattle.cedar_type_rules.specs.Ty.{Ty, never, truth, long, text, any_entity, union_of, any_set, set_of, record_of, extension_of, Fields, end, field}
-use Rattle.cedar_type_rules.specs.declared.bool_type.BoolType.TheVariants.{AnyBool, True, False}
-use Rattle.cedar_type_rules.specs.declared.open_tag.OpenTag.TheVariants.{OpenAttributes, ClosedAttributes}
+use Rattle.cedar_declaration_laws.specs.Words.{AnyBool, ClosedAttributes, ConvertedTypesElaborate, Defined, ElaboratesTo, Expr, False, Fields, FieldsMentionEntity, IsNamedAgain, Members, MembersElaborateTo, MentionsEntity, OpenAttributes, PlainName, Text, True, Ty, any_entity, any_set, as_entity, as_extension, as_long, as_member, as_no_member, as_record, as_set, as_text, as_truth, end, extension_expr, extension_of, extension_written, field, fields_written, full_name, long, long_expr, member, named, never, no_member, record_expr, record_of, set_expr, set_of, text, text_expr, truth, truth_expr, type_written, union_of}
 
 -- what a function gives of something it gives of what is there
 pub map_some : {A B : Type 0} (f : A → B) (a : Option A) (b : B) → option_map f a ≡ Some b → (x : A) × (a ≡ Some x) × (f x ≡ b)

@@ -2,39 +2,14 @@
 use Rattle.std.proofs.Common.{◌≡◌, ◌≢◌, ◌⊎◌, List, [], ◌∷◌, Option, Some, None, map, ap, sym, subst, ◌∙◌, refl, inl, inr, arith, Contains}
 use Rattle.std.proofs.lemmas.List.Elements.{Contains-append_right, Contains-append_cases}
 use Rattle.cedar_below.proofs.Lists.{Contains-cons, Contains-cons_cases, Contains-preimage}
-use Rattle.cedar_below.specs.Extensions.{extension_types}
-use Rattle.cedar_below.specs.PlainName.{PlainName, IsActionType}
-use Rattle.cedar_below.specs.PlainUid.{PlainUid}
-use Rattle.cedar_below.specs.Text.{Text}
-use Rattle.cedar_below.specs.TypeNames.{TypeNamesFit}
-use Rattle.cedar_below.specs.declared.extension.Extensions.{Extensions}
-use Rattle.cedar_names.specs.ActionBody.{ActionBody, Requests, requests, elsewhere}
-use Rattle.cedar_names.specs.EntityBody.{EntityBody, standard, enumerated, external}
-use Rattle.cedar_names.specs.Expr.{Expr}
-use Rattle.cedar_names.specs.Reference.{Reference}
+use Rattle.cedar_declaration_laws.specs.Words.{ActionBody, ActionKind, AreDeclaredTags, Bag, Chain, ClosesAction, ClosesSchema, ClosesType, CountsInEntity, CountsInRequests, ElaboratesTo, EntityBody, EntitySays, EntityTypeKind, Expr, Extensions, HasAction, HasEntityType, HasParent, HasParentAction, HoldsPairwise, IsActionType, IsAtEntityTypePosition, IsContextOf, IsCounted, IsDeclaredActionKind, IsDeclaredKind, IsDeclaredSchema, IsDescendant, IsDescendantAction, IsEnumerated, IsExternal, IsExternalType, IsIllFormed, IsOfKind, IsPrincipalOrResource, IsPrincipalOrResourceOf, IsTypeIn, IsTypeOfKind, IsUnknownType, IsValidSchema, ListsDescendant, ListsDescendantAction, PlainName, PlainSchema, PlainUid, PositionsFit, Reference, Requests, ResolvesTo, SchemaAction, SchemaEntityType, Text, Ty, TypeNamesFit, action_cycle, action_entity_type, action_shadowing, action_uids, declared_actions, declared_common, declared_entities, declared_types, defined_action, defined_names, definitions, elsewhere, enumerated, enumerated_below, enumerated_kind, extension_types, external, external_below_enumerated, invalid_action_type, one, record_of, requests, standard, standard_kind, type_shadowing, undeclared_action_descendant, undeclared_entity_types, unknown_extension_type}
 use Rattle.cedar_below.proofs.Chains.{first_step, refined}
 use Rattle.cedar_declarations.proofs.DeclarationLemmas.{entity_declaration, action_declaration}
 use Rattle.cedar_declaration_laws.proofs.EnumeratedLemmas.{enumerated_parent}
 use Rattle.cedar_declaration_laws.proofs.MentionLemmas.{mentions_entity, known_written, known_counted, known_common}
 use Rattle.cedar_declarations.proofs.ResolutionLemmas.{first_defined, names_no_common}
 use Rattle.cedar_declarations.proofs.OccurrenceLemmas.{Contains-image, Contains-entry}
-use Rattle.cedar_declarations.specs.Bag.{Bag, declared_common, declared_entities, declared_actions, declared_types, action_uids, definitions, defined_names}
-use Rattle.cedar_below.specs.Chain.{Chain, one}
-use Rattle.cedar_below.specs.Lists.{HoldsPairwise}
-use Rattle.cedar_declarations.specs.ClosedSchema.{ClosesType, ClosesAction, ClosesSchema}
-use Rattle.cedar_declarations.specs.Counted.{IsCounted, IsAtEntityTypePosition, PositionsFit, CountsInEntity, CountsInRequests, IsPrincipalOrResource}
-use Rattle.cedar_declarations.specs.DeclaredSchema.{IsDeclaredSchema, IsDeclaredActionKind, IsDeclaredKind, AreDeclaredTags}
-use Rattle.cedar_declarations.specs.Names.{ResolvesTo}
-use Rattle.cedar_declarations.specs.Descent.{HasParent, HasParentAction, IsDescendant, IsDescendantAction}
-use Rattle.cedar_declarations.specs.Fault.{undeclared_entity_types, type_shadowing, action_shadowing, action_cycle, action_entity_type, unknown_extension_type, external_below_enumerated, enumerated_below, undeclared_action_descendant, invalid_action_type}
-use Rattle.cedar_declarations.specs.IllFormed.{IsIllFormed}
-use Rattle.cedar_declarations.specs.PlainSchema.{SchemaEntityType, ActionKind, defined_action, SchemaAction, PlainSchema}
 use Rattle.cedar_declarations.proofs.TogetherLemmas.{definition_declared, said_is_declared, said_action_is_declared, said_definition, said_action_definition, entity_counted, requests_counted, request_placed}
-use Rattle.cedar_declarations.specs.Together.{EntitySays, IsExternalType}
-use Rattle.cedar_declarations.specs.ValidSchema.{IsTypeOfKind, IsContextOf, IsPrincipalOrResourceOf, IsTypeIn, HasEntityType, HasAction, ListsDescendant, ListsDescendantAction, IsOfKind, IsEnumerated, IsExternal, IsUnknownType, IsValidSchema}
-use Rattle.cedar_declarations.specs.ElaboratesTo.{ElaboratesTo}
-use Rattle.cedar_declarations.specs.EntityTypeKind.{EntityTypeKind, standard_kind, enumerated_kind}
-use Rattle.cedar_type_rules.specs.Ty.{Ty, record_of}
 
 -- a relation of each item to itself holds pairwise of a list and itself
 itself_pairwise : {A : Type 0} (R : A → A → Type 0) (xs : List A) → ((x : A) → Contains xs x → R x x) → HoldsPairwise R xs xs

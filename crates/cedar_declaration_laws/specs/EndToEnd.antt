@@ -1,41 +1,10 @@
 use Rattle.std.specs.Prelude.{◌≡◌, ◌⊎◌, ◌↔◌, Result, IfOk, IfErr, OnOk, Option, Some, Contains, List, map}
 use Rattle.std.specs.List.Sorted.{IsPermutation, IsStrictlySortedBy}
-use Rattle.cedar_below.specs.Chain.{Chain}
-use Rattle.cedar_below.specs.Extensions.{extension_types}
-use Rattle.cedar_below.specs.Identifier.{reserved_word}
-use Rattle.cedar_below.specs.PlainName.{PlainName, name_cmp}
-use Rattle.cedar_below.specs.PlainUid.{PlainUid, uid_cmp}
-use Rattle.cedar_below.specs.Tree.{Tree, no_entry}
-use Rattle.cedar_below.specs.TypeNames.{TypeNamesFit}
+use Rattle.cedar_below.specs.Words.{Chain, PlainName, PlainUid, Tree, TypeNamesFit, extension_types, name_cmp, no_entry, reserved_word, uid_cmp}
 use Rattle.cedar_below.specs.declared.extension.Extensions.{Extensions}
-use Rattle.cedar_declarations.specs.Environments.{AreDeclaredEnvironments}
-use Rattle.cedar_declarations.specs.Together.{defined_actions}
-use Rattle.cedar_names.specs.ActionBody.{requests}
-use Rattle.cedar_names.specs.EntityBody.{standard}
-use Rattle.cedar_names.specs.Expr.{Expr}
-use Rattle.cedar_names.specs.Reference.{Reference}
-use Rattle.cedar_declarations.specs.Admits.{Admits}
-use Rattle.cedar_declarations.specs.Bag.{Bag, declared_entities, definitions, defined_names}
-use Rattle.cedar_declarations.specs.ClosedSchema.{ClosesSchema}
-use Rattle.cedar_declarations.specs.Counted.{PositionsFit}
-use Rattle.cedar_declarations.specs.DeclaredSchema.{IsDeclaredSchema}
-use Rattle.cedar_declarations.specs.Fault.{Fault, out_of_memory}
-use Rattle.cedar_declarations.specs.IllFormed.{IsFault, IsIllFormed}
-use Rattle.cedar_declarations.specs.PlainSchema.{SchemaEntityType, SchemaAction, defined_action, ActionEntity, PlainSchema}
-use Rattle.cedar_declarations.specs.SameBag.{SameBag}
-use Rattle.cedar_declarations.specs.SameSchema.{SameSchema}
-use Rattle.cedar_declarations.specs.Resolved.{ResolvesBag}
-use Rattle.cedar_declarations.specs.ValidSchema.{HasAction, HasEntityType, IsContextOf, IsTypeIn, IsValidSchema, ListsDescendant, ListsDescendantAction}
-use Rattle.cedar_declarations.specs.Descent.{IsDescendant, IsDescendantAction}
-use Rattle.cedar_declarations.specs.EntityTypeKind.{standard_kind}
-use Rattle.cedar_declarations.specs.Defined.{Defined, names_of}
-use Rattle.cedar_declarations.specs.Names.{ResolvesTo}
-use Rattle.cedar_declarations.specs.TypeMentions.{MentionsEntity}
-use Rattle.cedar_declarations.specs.ConvertedBack.{IsNameWrittenIn, IsWritable, IsConvertedBack, full_name, schema_names, type_written}
-use Rattle.cedar_declarations.specs.ElaboratesTo.{IsRecordType, ElaboratesTo}
-use Rattle.cedar_type_rules.specs.Clean.{IsClean}
-use Rattle.cedar_type_rules.specs.Has.{Has}
-use Rattle.cedar_type_rules.specs.Ty.{Ty, Fields, record_of}
+use Rattle.cedar_declarations.specs.Words.{ActionEntity, Admits, AreDeclaredEnvironments, Bag, ClosesSchema, Defined, ElaboratesTo, Fault, HasAction, HasEntityType, IsContextOf, IsConvertedBack, IsDeclaredSchema, IsDescendant, IsDescendantAction, IsFault, IsIllFormed, IsNameWrittenIn, IsRecordType, IsTypeIn, IsValidSchema, IsWritable, ListsDescendant, ListsDescendantAction, MentionsEntity, PlainSchema, PositionsFit, ResolvesBag, ResolvesTo, SameBag, SameSchema, SchemaAction, SchemaEntityType, declared_entities, defined_action, defined_actions, defined_names, definitions, full_name, names_of, out_of_memory, schema_names, standard_kind, type_written}
+use Rattle.cedar_names.specs.Words.{Expr, Reference, requests, standard}
+use Rattle.cedar_type_rules.specs.Words.{Fields, Has, IsClean, Ty, record_of}
 use Rattle.cedar_type_rules.specs.declared.open_tag.OpenTag.{OpenTag}
 
 -- the type has just the values that the expression admits

@@ -1,19 +1,7 @@
 //! The laws of declarations, each as a function whose contract is the law.
 
 ghost use Rattle.std.specs.Prelude.{◌≡◌, List};
-ghost use Rattle.cedar_below.specs.Extensions.{extension_types};
-ghost use Rattle.cedar_below.specs.TypeNames.{TypeNamesFit};
-ghost use Rattle.cedar_below.specs.declared.extension.Extensions.{Extensions};
-ghost use Rattle.cedar_names.specs.Declaration.{raw_bag};
-ghost use Rattle.cedar_names.specs.Expr.{Expr};
-ghost use Rattle.cedar_names.specs.declared.json_schema.fragment.Fragment.{Fragment};
-ghost use Rattle.cedar_names.specs.declared.json_schema.raw_name.RawName.{RawName};
-ghost use Rattle.cedar_declarations.specs.Bag.{Bag, definitions};
-ghost use Rattle.cedar_declarations.specs.Counted.{PositionsFit};
-ghost use Rattle.cedar_declaration_laws.specs.EndToEnd.{ActionEntitiesAreDeclared, AdmitsTheSame, BagsDeclareASchema, BagsDeclareAtMostOneSchema, DeclaredSchemasAreClosed, DeclaredSchemasAreValid, DeclaredSchemasComeBack, DeclaredTypesAreClean, DeclaredTypesHaveTheDeclaredValues, EnvironmentsAreDeclared, OrderIsNothing, SameBagsDeclareTheSame, ResolutionChangesNothing, ConvertedDescendantsAreReached, ConvertedNamesAreNamedAgain, ConvertedSchemasAreDeclared, ConvertedSchemasAreWellFormed, ConvertedTypesElaborate};
-ghost use Rattle.cedar_declarations.specs.IllFormed.{IsIllFormed};
-ghost use Rattle.cedar_declarations.specs.ElaboratesTo.{ElaboratesTo};
-ghost use Rattle.cedar_type_rules.specs.Ty.{Ty};
+ghost use Rattle.cedar_declaration_laws.specs.Words.{ActionEntitiesAreDeclared, AdmitsTheSame, Bag, BagsDeclareASchema, BagsDeclareAtMostOneSchema, ConvertedDescendantsAreReached, ConvertedNamesAreNamedAgain, ConvertedSchemasAreDeclared, ConvertedSchemasAreWellFormed, ConvertedTypesElaborate, DeclaredSchemasAreClosed, DeclaredSchemasAreValid, DeclaredSchemasComeBack, DeclaredTypesAreClean, DeclaredTypesHaveTheDeclaredValues, ElaboratesTo, EnvironmentsAreDeclared, Expr, Extensions, Fragment, IsIllFormed, OrderIsNothing, PositionsFit, RawName, ResolutionChangesNothing, SameBagsDeclareTheSame, Ty, TypeNamesFit, definitions, extension_types, raw_bag};
 
 /// In a bag that isn't ill-formed an expression is elaborated as one type at most.
 pub fn expressions_are_elaborated_as_one_type()

@@ -7,19 +7,9 @@ use Rattle.std.specs.List.{filter}
 use Rattle.std.specs.Ordering.{is_eq}
 use Rattle.std.specs.Str.{bytes_eq}
 use Rattle.cedar_below.proofs.Lists.{Contains-preimage}
-use Rattle.cedar_below.specs.Extensions.{extension_types}
-use Rattle.cedar_below.specs.Identifier.{reserved_word}
-use Rattle.cedar_below.specs.PlainName.{PlainName, name_cmp, IsUnqualified}
-use Rattle.cedar_below.specs.Text.{Text}
-use Rattle.cedar_below.specs.TypeNames.{TypeNamesFit, primitive_words}
-use Rattle.cedar_below.specs.declared.extension.Extensions.{Extensions}
-use Rattle.cedar_names.specs.Expr.{Expr, extension_expr}
-use Rattle.cedar_names.specs.Reference.{Reference}
+use Rattle.cedar_declarations.specs.Words.{Bag, Expr, Extensions, IsUnqualified, PlainName, Reference, Refers, Text, Twice, TypeNamesFit, alias_name, aliases, built_in_name, built_in_types, built_ins, declared_common, declared_entities, declared_types, definitions, extension_expr, extension_types, is_declared_here, name_cmp, primitive_words, reserved_word}
 use Rattle.cedar_declarations.proofs.OccurrenceLemmas.{Twice-distinct, Twice-append, value_once, Contains-filter, Contains-image, any_of, name_test}
 use Rattle.cedar_declarations.proofs.ResolutionLemmas.{HasOneDefinition}
-use Rattle.cedar_declarations.specs.Bag.{Bag, declared_common, declared_entities, declared_types, is_declared_here, built_in_types, built_in_name, alias_name, built_ins, aliases, definitions}
-use Rattle.cedar_declarations.specs.Mentions.{Refers}
-use Rattle.cedar_below.specs.Lists.{Twice}
 
 -- texts that are compared as unequal aren't the same
 pub unlike_texts : (a b : Text) → bytes_eq a b ≡ false → ¬ (a ≡ b)

@@ -1,14 +1,8 @@
 -- What a bag declares is so by one of its declarations.
 use Rattle.std.proofs.Common.{sym, subst, ◌≡◌, List, ◌∷◌, [], ap, refl, arith, Contains}
 use Rattle.std.specs.List.{flat_map}
-use Rattle.cedar_below.specs.PlainName.{PlainName}
-use Rattle.cedar_below.specs.PlainUid.{PlainUid}
-use Rattle.cedar_names.specs.ActionBody.{ActionBody}
-use Rattle.cedar_names.specs.Declaration.{Declaration, Body, common_type, entity_type, action}
-use Rattle.cedar_names.specs.EntityBody.{EntityBody}
-use Rattle.cedar_names.specs.Expr.{Expr}
+use Rattle.cedar_declarations.specs.Words.{ActionBody, Bag, Body, Declaration, EntityBody, Expr, PlainName, PlainUid, action, action_in, common_in, common_type, declared_actions, declared_common, declared_entities, declared_name, declared_uid, entity_in, entity_type}
 use Rattle.cedar_declarations.proofs.OccurrenceLemmas.{Contains-flat_map, Contains-given, Contains-single}
-use Rattle.cedar_declarations.specs.Bag.{Bag, common_in, entity_in, action_in, declared_name, declared_uid, declared_common, declared_entities, declared_actions}
 
 -- a kind of declarations: one of the kind gives what it declares under its key, and any other nothing
 pub record Kind (Key It : Type 0) : Type 0 where

@@ -1,16 +1,9 @@
 -- Where the same names are defined, references and expressions mean the same.
 use Rattle.std.proofs.Common.{inl, inr, Contains}
 use Rattle.cedar_below.proofs.Lists.{Contains-preimage}
-use Rattle.cedar_below.specs.PlainName.{PlainName}
-use Rattle.cedar_names.specs.Expr.{Expr, Members}
-use Rattle.cedar_names.specs.Reference.{Reference}
-use Rattle.cedar_names.specs.declared.json_schema.reference_type.ReferenceType.{ReferenceType}
+use Rattle.cedar_declarations.specs.Words.{Defined, ElaboratesTo, Expr, Fields, IsDefined, IsNoRecord, IsUnresolved, Members, MembersElaborateTo, PlainName, Reference, ReferenceType, ResolvesTo, Ty, as_common, as_entity, as_extension, as_long, as_member, as_no_member, as_record, as_set, as_text, as_truth, names_of}
 use Rattle.cedar_declarations.proofs.OccurrenceLemmas.{Contains-image}
 use Rattle.cedar_declarations.proofs.ResolutionLemmas.{IsFirst-like}
-use Rattle.cedar_declarations.specs.Defined.{Defined, names_of}
-use Rattle.cedar_declarations.specs.Names.{IsDefined, ResolvesTo, IsUnresolved}
-use Rattle.cedar_declarations.specs.ElaboratesTo.{ElaboratesTo, MembersElaborateTo, IsNoRecord, as_text, as_long, as_truth, as_set, as_record, as_entity, as_common, as_extension, as_no_member, as_member}
-use Rattle.cedar_type_rules.specs.Ty.{Ty, Fields}
 
 -- the same names are defined, with the same definitions
 pub record SameDefined (defined other : Defined) : Type 0 where

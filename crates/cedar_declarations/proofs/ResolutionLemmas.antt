@@ -1,16 +1,6 @@
 -- References resolve to one name, and an expression is elaborated as one type.
 use Rattle.std.proofs.Common.{◌≡◌, List, [], ◌∷◌, ap, sym, ◌∙◌, refl, inl, inr, Contains, suc, arith}
-use Rattle.cedar_below.specs.PlainName.{PlainName}
-use Rattle.cedar_names.specs.Expr.{Expr}
-use Rattle.cedar_names.specs.Reference.{Reference}
-use Rattle.cedar_declarations.specs.Defined.{Defined, IsCommon, names_of}
-use Rattle.cedar_declarations.specs.Names.{Names, MayNameCommon, IsDefined, ResolvesTo}
-use Rattle.cedar_declarations.specs.Occurrences.{IsFirst}
-use Rattle.cedar_declarations.specs.ElaboratesTo.{ElaboratesTo, MembersElaborateTo, as_text, as_long, as_truth, as_set, as_record, as_entity, as_common, as_extension, as_no_member, as_member}
-use Rattle.cedar_type_rules.specs.Ty.{Ty, Fields, set_of, record_of, union_of, field}
-use Rattle.cedar_type_rules.specs.declared.open_tag.OpenTag.TheVariants.{ClosedAttributes}
-use Rattle.cedar_names.specs.declared.json_schema.reference_type.ReferenceType.{ReferenceType}
-use Rattle.cedar_names.specs.declared.json_schema.reference_type.ReferenceType.TheVariants.{Common, Entity, CommonOrEntity}
+use Rattle.cedar_declarations.specs.Words.{ClosedAttributes, Common, CommonOrEntity, Defined, ElaboratesTo, Entity, Expr, Fields, IsCommon, IsDefined, IsFirst, MayNameCommon, MembersElaborateTo, Names, PlainName, Reference, ReferenceType, ResolvesTo, Ty, as_common, as_entity, as_extension, as_long, as_member, as_no_member, as_record, as_set, as_text, as_truth, field, names_of, record_of, set_of, union_of}
 
 -- there is one first item of which a fact holds
 pub IsFirst-same : {A : Type 0} (P : A → Type 0) (xs : List A) (x y : A) → IsFirst P xs x → IsFirst P xs y → x ≡ y

@@ -2,20 +2,10 @@
 use Rattle.std.proofs.Common.{◌≡◌, ◌⊎◌, ◌↔◌, List, [], ◌∷◌, ◌++◌, map, ap, ◌∙◌, refl, inl, inr, arith, Contains}
 use Rattle.std.specs.List.{flat_map}
 use Rattle.cedar_below.proofs.Lists.{Contains-preimage}
-use Rattle.cedar_below.specs.PlainName.{PlainName}
-use Rattle.cedar_below.specs.PlainUid.{PlainUid}
-use Rattle.cedar_names.specs.ActionBody.{ActionBody, Requests, requests, elsewhere}
-use Rattle.cedar_names.specs.EntityBody.{EntityBody, standard, enumerated, external}
-use Rattle.cedar_names.specs.Expr.{Expr}
-use Rattle.cedar_names.specs.Reference.{Reference}
+use Rattle.cedar_declarations.specs.Words.{ActionBody, ActionSays, Bag, CountsInEntity, CountsInRequests, EntitiesSay, EntityBody, EntitySays, Expr, IsPrincipalOrResource, PlainName, PlainUid, Reference, Requests, SameEntityBody, SameRequests, Twice, action_definition_in, action_uids, declared_actions, declared_entities, defined_actions, defined_entities, elsewhere, entity_definition_in, entity_definitions, enumerated, external, requests, standard}
 use Rattle.cedar_declarations.proofs.Definitions.{Definitions}
 use Rattle.cedar_declarations.proofs.Definitions as any
 use Rattle.cedar_declarations.proofs.OccurrenceLemmas.{Contains-flat_map, Contains-given, Contains-image, Contains-single, value_once}
-use Rattle.cedar_declarations.specs.Bag.{Bag, declared_entities, declared_actions, action_uids}
-use Rattle.cedar_declarations.specs.Counted.{CountsInEntity, CountsInRequests, IsPrincipalOrResource}
-use Rattle.cedar_below.specs.Lists.{Twice}
-use Rattle.cedar_declarations.specs.SameBag.{SameEntityBody, SameRequests}
-use Rattle.cedar_declarations.specs.Together.{entity_definition_in, entity_definitions, defined_entities, action_definition_in, defined_actions, EntitiesSay, EntitySays, ActionSays}
 
 -- what is declared of an entity type is a definition
 abbrev pub IsDefinition : EntityBody → Type 0

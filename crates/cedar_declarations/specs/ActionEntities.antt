@@ -1,7 +1,6 @@
 use Rattle.std.specs.Prelude.{◌≡◌, ◌↔◌, map, Contains}
 use Rattle.std.specs.List.Sorted.{IsStrictlySortedBy}
-use Rattle.cedar_below.specs.PlainUid.{PlainUid, uid_cmp}
-use Rattle.cedar_below.specs.Tree.{no_entry}
+use Rattle.cedar_below.specs.Words.{PlainUid, no_entry, uid_cmp}
 use Rattle.cedar_declarations.specs.PlainSchema.{ActionKind, defined_action, external_action, SchemaAction, ActionEntity, PlainSchema}
 use Rattle.cedar_declarations.specs.ValidSchema.{ListsDescendantAction}
 

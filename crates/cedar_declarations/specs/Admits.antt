@@ -1,13 +1,7 @@
 use Rattle.std.specs.Prelude.{◌≡◌, ℤ, Bool, false, List, [], ◌∷◌, Some, None}
-use Rattle.cedar_below.specs.Fits.{Gives}
-use Rattle.cedar_below.specs.Lists.{Included}
-use Rattle.cedar_below.specs.PlainName.{PlainName}
-use Rattle.cedar_below.specs.PlainUid.{PlainUid}
-use Rattle.cedar_below.specs.Text.{Text}
-use Rattle.cedar_below.specs.Tree.{Tree, truth_value, number_value, text_value, uid_value, set_value, map_value, call_value, Trees, no_tree, tree, Entries, entry_at, entry_names}
+use Rattle.cedar_below.specs.Words.{Entries, Gives, Included, PlainName, PlainUid, Text, Tree, Trees, call_value, entry_at, entry_names, map_value, no_tree, number_value, set_value, text_value, tree, truth_value, uid_value}
 use Rattle.cedar_below.specs.declared.extension.Extensions.{Extensions}
-use Rattle.cedar_names.specs.Expr.{Expr, text_expr, long_expr, truth_expr, set_expr, record_expr, named, extension_expr, Members, no_member, member}
-use Rattle.cedar_names.specs.Reference.{Reference}
+use Rattle.cedar_names.specs.Words.{Expr, Members, Reference, extension_expr, long_expr, member, named, no_member, record_expr, set_expr, text_expr, truth_expr}
 use Rattle.cedar_declarations.specs.Defined.{Defined, IsCommon, names_of}
 use Rattle.cedar_declarations.specs.Names.{ResolvesTo, IsEntity}
 

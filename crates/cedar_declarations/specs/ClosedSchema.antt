@@ -1,8 +1,5 @@
 use Rattle.std.specs.Prelude.{◌≡◌, ◌↔◌, Contains}
-use Rattle.cedar_below.specs.Chain.{Chain}
-use Rattle.cedar_below.specs.Lists.{HoldsPairwise}
-use Rattle.cedar_below.specs.PlainName.{PlainName}
-use Rattle.cedar_below.specs.PlainUid.{PlainUid}
+use Rattle.cedar_below.specs.Words.{Chain, HoldsPairwise, PlainName, PlainUid}
 use Rattle.cedar_declarations.specs.ActionEntities.{AreActionEntities}
 use Rattle.cedar_declarations.specs.PlainSchema.{SchemaEntityType, SchemaAction, PlainSchema}
 use Rattle.cedar_declarations.specs.ValidSchema.{ListsDescendant, ListsDescendantAction}

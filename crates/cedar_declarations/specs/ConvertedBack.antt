@@ -2,15 +2,8 @@
 use Rattle.std.specs.Prelude.{◌≡◌, ◌⊎◌, ◌↔◌, ◌++◌, false, List, [], ◌∷◌, map, Option, Some, None, IsSome, Contains}
 use Rattle.std.specs.List.Sorted.{IsPermutation}
 use Rattle.std.specs.Option.{option_map, option_zip}
-use Rattle.cedar_below.specs.Lists.{HoldsPairwise}
-use Rattle.cedar_below.specs.PlainName.{PlainName, IsActionType}
-use Rattle.cedar_below.specs.PlainUid.{PlainUid}
-use Rattle.cedar_below.specs.Text.{Text}
-use Rattle.cedar_names.specs.ActionBody.{Requests, requests, elsewhere}
-use Rattle.cedar_names.specs.Declaration.{Declaration, entity_type, action}
-use Rattle.cedar_names.specs.EntityBody.{EntityBody, standard, enumerated, external}
-use Rattle.cedar_names.specs.Expr.{Expr, text_expr, long_expr, truth_expr, set_expr, record_expr, named, extension_expr, Members, no_member, member}
-use Rattle.cedar_names.specs.Reference.{Reference, ActionReference, path_within, reference_to}
+use Rattle.cedar_below.specs.Words.{HoldsPairwise, IsActionType, PlainName, PlainUid, Text}
+use Rattle.cedar_names.specs.Words.{ActionReference, Declaration, EntityBody, Expr, Members, Reference, Requests, action, elsewhere, entity_type, enumerated, extension_expr, external, long_expr, member, named, no_member, path_within, record_expr, reference_to, requests, set_expr, standard, text_expr, truth_expr}
 use Rattle.cedar_names.specs.declared.json_schema.reference_type.ReferenceType.TheVariants.{Entity}
 use Rattle.cedar_declarations.specs.Bag.{Bag, declared_name, declared_uid}
 use Rattle.cedar_declarations.specs.EntityTypeKind.{EntityTypeKind, standard_kind, enumerated_kind, external_kind}
@@ -18,8 +11,7 @@ use Rattle.cedar_declarations.specs.Names.{Names, ResolvesTo, NamesAction}
 use Rattle.cedar_declarations.specs.PlainSchema.{PlainSchema, SchemaEntityType, SchemaAction, ActionKind, defined_action, external_action}
 use Rattle.cedar_declarations.specs.TypeMentions.{MentionsEntity}
 use Rattle.cedar_declarations.specs.ValidSchema.{IsTypeOfKind, IsContextOf, IsPrincipalOrResourceOf, HasEntityType, HasAction, ListsDescendant, ListsDescendantAction, IsOfKind, IsEnumerated}
-use Rattle.cedar_type_rules.specs.EntityUnion.{only_name}
-use Rattle.cedar_type_rules.specs.Ty.{Ty, never, truth, long, text, any_entity, union_of, any_set, set_of, record_of, extension_of, Fields, end, field}
+use Rattle.cedar_type_rules.specs.Words.{Fields, Ty, any_entity, any_set, end, extension_of, field, long, never, only_name, record_of, set_of, text, truth, union_of}
 use Rattle.cedar_type_rules.specs.declared.bool_type.BoolType.{BoolType}
 use Rattle.cedar_type_rules.specs.declared.bool_type.BoolType.TheVariants.{AnyBool, True, False}
 use Rattle.cedar_type_rules.specs.declared.open_tag.OpenTag.{OpenTag}

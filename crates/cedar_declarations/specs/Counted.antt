@@ -1,9 +1,5 @@
 use Rattle.std.specs.Prelude.{◌≡◌, ◌⊎◌, List, [], Some, Contains}
-use Rattle.cedar_names.specs.ActionBody.{Requests, requests, elsewhere}
-use Rattle.cedar_names.specs.Declaration.{Declaration, Body, common_type, entity_type, action}
-use Rattle.cedar_names.specs.EntityBody.{EntityBody, standard, enumerated, external}
-use Rattle.cedar_names.specs.Expr.{Expr}
-use Rattle.cedar_names.specs.Reference.{Reference}
+use Rattle.cedar_names.specs.Words.{Body, Declaration, EntityBody, Expr, Reference, Requests, action, common_type, elsewhere, entity_type, enumerated, external, requests, standard}
 use Rattle.cedar_names.specs.declared.json_schema.reference_type.ReferenceType.TheVariants.{Entity}
 use Rattle.cedar_declarations.specs.Bag.{Bag}
 use Rattle.cedar_declarations.specs.Mentions.{Refers}

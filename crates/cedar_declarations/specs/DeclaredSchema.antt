@@ -1,13 +1,8 @@
 use Rattle.std.specs.Prelude.{◌≡◌, ◌↔◌, List, map, Contains, Option}
 use Rattle.std.specs.List.Sorted.{IsStrictlySortedBy}
-use Rattle.cedar_below.specs.Lists.{HoldsOfBoth}
-use Rattle.cedar_below.specs.PlainName.{PlainName, name_cmp}
-use Rattle.cedar_below.specs.PlainUid.{PlainUid, uid_cmp}
+use Rattle.cedar_below.specs.Words.{HoldsOfBoth, PlainName, PlainUid, name_cmp, uid_cmp}
 use Rattle.cedar_below.specs.declared.extension.Extensions.{Extensions}
-use Rattle.cedar_names.specs.ActionBody.{Requests, requests, elsewhere}
-use Rattle.cedar_names.specs.EntityBody.{EntityBody, standard, enumerated, external}
-use Rattle.cedar_names.specs.Expr.{Expr}
-use Rattle.cedar_names.specs.Reference.{Reference}
+use Rattle.cedar_names.specs.Words.{EntityBody, Expr, Reference, Requests, elsewhere, enumerated, external, requests, standard}
 use Rattle.cedar_declarations.specs.Bag.{Bag, declared_entities, declared_actions, definitions}
 use Rattle.cedar_declarations.specs.Defined.{Defined, names_of}
 use Rattle.cedar_declarations.specs.Names.{Names, ResolvesTo}

@@ -1,9 +1,7 @@
-use Rattle.cedar_below.specs.PlainName.{PlainName}
-use Rattle.cedar_below.specs.PlainUid.{PlainUid}
+use Rattle.cedar_below.specs.Words.{Chain, PlainName, PlainUid}
 use Rattle.cedar_below.specs.declared.extension.Extensions.{Extensions}
 use Rattle.cedar_names.specs.Reference.{Reference, ActionReference}
 use Rattle.cedar_declarations.specs.Bag.{Bag, action_uids, defined_names}
-use Rattle.cedar_below.specs.Chain.{Chain}
 use Rattle.cedar_declarations.specs.Names.{ResolvesTo, NamesAction}
 use Rattle.cedar_declarations.specs.Together.{IsParent, IsActionParent}
 

@@ -1,8 +1,6 @@
 use Rattle.std.specs.Prelude.{Bool, [], ◌∷◌}
-use Rattle.cedar_below.specs.PlainName.{PlainName}
-use Rattle.cedar_below.specs.Text.{Text}
-use Rattle.cedar_names.specs.Expr.{Expr, text_expr, long_expr, truth_expr, set_expr, record_expr, named, extension_expr, Members, no_member, member}
-use Rattle.cedar_names.specs.Reference.{Reference}
+use Rattle.cedar_below.specs.Words.{PlainName, Text}
+use Rattle.cedar_names.specs.Words.{Expr, Members, Reference, extension_expr, long_expr, member, named, no_member, record_expr, set_expr, text_expr, truth_expr}
 use Rattle.cedar_declarations.specs.Defined.{Defined, IsCommon, names_of}
 use Rattle.cedar_declarations.specs.Names.{ResolvesTo, IsEntity}
 use Rattle.cedar_type_rules.specs.Ty.{Ty, long, text, truth, set_of, union_of, record_of, extension_of, Fields, end, field}

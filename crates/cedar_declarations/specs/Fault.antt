@@ -1,7 +1,5 @@
 use Rattle.std.specs.Prelude.{List, Option, codes}
-use Rattle.cedar_below.specs.PlainName.{PlainName}
-use Rattle.cedar_below.specs.PlainUid.{PlainUid}
-use Rattle.cedar_below.specs.Text.{Text}
+use Rattle.cedar_below.specs.Words.{PlainName, PlainUid, Text}
 use Rattle.cedar_names.specs.Reference.{Reference}
 
 -- why no schema is built, as plain data: a fault with what it names, or out of memory

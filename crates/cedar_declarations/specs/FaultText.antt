@@ -1,9 +1,5 @@
 use Rattle.std.specs.Prelude.{◌++◌, codes, map}
-use Rattle.cedar_below.specs.Joined.{joined}
-use Rattle.cedar_below.specs.PlainName.{PlainName, name_text}
-use Rattle.cedar_below.specs.PlainUid.{PlainUid}
-use Rattle.cedar_below.specs.Text.{Text}
-use Rattle.cedar_below.specs.UidText.{quoted_text, uid_text}
+use Rattle.cedar_below.specs.Words.{PlainName, PlainUid, Text, joined, name_text, quoted_text, uid_text}
 use Rattle.cedar_declarations.specs.Fault.{Fault, action_attributes, open_record, undeclared_entity_types, type_not_defined, action_not_defined, type_shadowing, action_shadowing, duplicate_entity_type, duplicate_common_type, duplicate_action, action_cycle, common_type_cycle, action_entity_type, shape_not_record, context_not_record, unknown_extension_type, reserved_name, external_below_enumerated, enumerated_below, undeclared_action_descendant, invalid_action_type, common_type_left, action_left, out_of_memory}
 use Rattle.cedar_names.specs.ReferenceText.{action_reference_text, undeclared_types_text}
 

@@ -1,25 +1,15 @@
 use Rattle.std.specs.Prelude.{◌≡◌, ◌≢◌, ◌⊎◌, true, List, [], ◌++◌, map, Option, Some, Contains}
 use Rattle.std.specs.List.Sorted.{IsStrictlySortedBy}
-use Rattle.cedar_below.specs.Extensions.{extension_types}
-use Rattle.cedar_below.specs.Identifier.{reserved_word}
-use Rattle.cedar_below.specs.PlainName.{PlainName, IsUnqualified, IsActionType}
-use Rattle.cedar_below.specs.PlainUid.{PlainUid}
-use Rattle.cedar_below.specs.Text.{Text, text_cmp}
+use Rattle.cedar_below.specs.Words.{Chain, IsActionType, IsUnqualified, PlainName, PlainUid, Text, Twice, extension_types, reserved_word, text_cmp}
 use Rattle.cedar_below.specs.declared.extension.Extensions.{Extensions}
-use Rattle.cedar_names.specs.ActionBody.{ActionBody, requests}
-use Rattle.cedar_names.specs.Declaration.{action}
-use Rattle.cedar_names.specs.EntityBody.{EntityBody, standard, enumerated, external}
-use Rattle.cedar_names.specs.Expr.{Expr}
-use Rattle.cedar_names.specs.Reference.{Reference, ActionReference}
+use Rattle.cedar_names.specs.Words.{ActionBody, ActionReference, EntityBody, Expr, Reference, action, enumerated, external, requests, standard}
 use Rattle.cedar_declarations.specs.Bag.{Bag, declared_common, declared_entities, declared_types, action_uids, built_ins, definitions, defined_names}
-use Rattle.cedar_below.specs.Chain.{Chain}
 use Rattle.cedar_declarations.specs.Counted.{IsCounted, IsAtEntityTypePosition, HasToResolve}
 use Rattle.cedar_declarations.specs.Defined.{Defined, IsCommon, names_of}
 use Rattle.cedar_declarations.specs.Names.{ResolvesTo, IsUnresolved, NamesNoAction}
 use Rattle.cedar_declarations.specs.Descent.{IsDescendant, IsDescendantAction}
 use Rattle.cedar_declarations.specs.Fault.{Fault, action_attributes, open_record, undeclared_entity_types, type_not_defined, action_not_defined, type_shadowing, action_shadowing, duplicate_entity_type, duplicate_common_type, duplicate_action, action_cycle, common_type_cycle, action_entity_type, shape_not_record, context_not_record, unknown_extension_type, reserved_name, external_below_enumerated, enumerated_below}
 use Rattle.cedar_declarations.specs.Mentions.{HasOpenRecord, MentionsExtension, Refers}
-use Rattle.cedar_below.specs.Lists.{Twice}
 use Rattle.cedar_declarations.specs.Shadowing.{ShadowsType, ShadowsAction}
 use Rattle.cedar_declarations.specs.Together.{defined_entities, defined_actions, IsExternalType, IsActionParent}
 use Rattle.cedar_declarations.specs.ElaboratesTo.{IsNoRecord}

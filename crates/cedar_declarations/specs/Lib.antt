@@ -26,3 +26,4 @@ pub mod Shadowing
 pub mod Together
 pub mod TypeMentions
 pub mod ValidSchema
+pub mod Words

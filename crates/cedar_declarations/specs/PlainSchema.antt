@@ -1,7 +1,5 @@
 use Rattle.std.specs.Prelude.{List}
-use Rattle.cedar_below.specs.PlainName.{PlainName}
-use Rattle.cedar_below.specs.PlainUid.{PlainUid}
-use Rattle.cedar_below.specs.Tree.{Entries}
+use Rattle.cedar_below.specs.Words.{Entries, PlainName, PlainUid}
 use Rattle.cedar_declarations.specs.EntityTypeKind.{EntityTypeKind}
 use Rattle.cedar_type_rules.specs.Ty.{Ty}
 

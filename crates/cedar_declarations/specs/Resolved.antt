@@ -1,13 +1,6 @@
 use Rattle.std.specs.Prelude.{◌≡◌, Bool, [], ◌∷◌, Option}
-use Rattle.cedar_below.specs.Lists.{HoldsOfBoth, HoldsPairwise}
-use Rattle.cedar_below.specs.PlainName.{PlainName}
-use Rattle.cedar_below.specs.PlainUid.{PlainUid}
-use Rattle.cedar_below.specs.Text.{Text}
-use Rattle.cedar_names.specs.ActionBody.{Requests, requests, elsewhere}
-use Rattle.cedar_names.specs.Declaration.{Declaration, Body, common_type, entity_type, action}
-use Rattle.cedar_names.specs.EntityBody.{EntityBody, standard, enumerated, external}
-use Rattle.cedar_names.specs.Expr.{Expr, text_expr, long_expr, truth_expr, set_expr, record_expr, named, extension_expr, Members, no_member, member}
-use Rattle.cedar_names.specs.Reference.{Reference, ActionReference}
+use Rattle.cedar_below.specs.Words.{HoldsOfBoth, HoldsPairwise, PlainName, PlainUid, Text}
+use Rattle.cedar_names.specs.Words.{ActionReference, Body, Declaration, EntityBody, Expr, Members, Reference, Requests, action, common_type, elsewhere, entity_type, enumerated, extension_expr, external, long_expr, member, named, no_member, record_expr, requests, set_expr, standard, text_expr, truth_expr}
 use Rattle.cedar_names.specs.declared.json_schema.reference_type.ReferenceType.{ReferenceType}
 use Rattle.cedar_names.specs.declared.json_schema.reference_type.ReferenceType.TheVariants.{Entity}
 use Rattle.cedar_declarations.specs.Bag.{Bag}

@@ -1,9 +1,7 @@
 use Rattle.cedar_below.specs.InternalName.{name_of}
 use Rattle.cedar_below.specs.declared.internal_name.InternalName.{InternalName}
 use Rattle.cedar_declarations.specs.Resolved.{reference_to_one}
-use Rattle.cedar_names.specs.Expr.{Expr}
-use Rattle.cedar_names.specs.Reference.{Reference}
-use Rattle.cedar_names.specs.TypeExpr.{type_expr, variant_expr, record_type_expr}
+use Rattle.cedar_names.specs.Words.{Expr, Reference, record_type_expr, type_expr, variant_expr}
 use Rattle.cedar_names.specs.declared.json_schema.reference_type.ReferenceType.{ReferenceType}
 use Rattle.cedar_names.specs.declared.json_schema.type_of.RecordType.{RecordType}
 use Rattle.cedar_names.specs.declared.json_schema.type_of.Type.{«Type»}

@@ -1,11 +1,6 @@
 use Rattle.std.specs.Prelude.{◌≡◌, map, Option, Contains}
-use Rattle.cedar_below.specs.Lists.{Included, SameItems, Twice}
-use Rattle.cedar_below.specs.PlainName.{PlainName}
-use Rattle.cedar_below.specs.PlainUid.{PlainUid}
-use Rattle.cedar_below.specs.Text.{Text}
-use Rattle.cedar_names.specs.ActionBody.{Requests, requests, elsewhere}
-use Rattle.cedar_names.specs.EntityBody.{EntityBody, standard, enumerated, external}
-use Rattle.cedar_names.specs.Reference.{Reference, ActionReference}
+use Rattle.cedar_below.specs.Words.{Included, PlainName, PlainUid, SameItems, Text, Twice}
+use Rattle.cedar_names.specs.Words.{ActionReference, EntityBody, Reference, Requests, elsewhere, enumerated, external, requests, standard}
 use Rattle.cedar_declarations.specs.Bag.{Bag, declared_common, declared_entities, action_uids}
 use Rattle.cedar_declarations.specs.IllFormed.{HasAttributes}
 use Rattle.cedar_declarations.specs.Together.{defined_entities, defined_actions, IsParent, IsActionParent}

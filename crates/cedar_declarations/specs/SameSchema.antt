@@ -1,7 +1,5 @@
 use Rattle.std.specs.Prelude.{◌≡◌}
-use Rattle.cedar_below.specs.Lists.{SameItems, HoldsPairwise}
-use Rattle.cedar_below.specs.PlainName.{PlainName}
-use Rattle.cedar_below.specs.PlainUid.{PlainUid}
+use Rattle.cedar_below.specs.Words.{HoldsPairwise, PlainName, PlainUid, SameItems}
 use Rattle.cedar_declarations.specs.PlainSchema.{SchemaEntityType, ActionKind, defined_action, external_action, SchemaAction, ActionEntity, PlainSchema}
 
 -- two entity types are the same: of one name, one kind and the same descendants

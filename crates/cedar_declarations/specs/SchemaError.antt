@@ -1,13 +1,7 @@
 use Rattle.std.specs.Prelude.{map, Option, string_bytes}
 use Rattle.std.specs.Option.{option_map}
-use Rattle.cedar_below.specs.EntityType.{type_name}
-use Rattle.cedar_below.specs.EntityUID.{uid_of}
-use Rattle.cedar_below.specs.InternalName.{name_of}
-use Rattle.cedar_below.specs.Name.{plain_name}
-use Rattle.cedar_below.specs.Text.{Text}
-use Rattle.cedar_below.specs.NonEmpty.{items_of}
-use Rattle.cedar_names.specs.ConditionalName.{conditional_reference}
-use Rattle.cedar_names.specs.Reference.{Reference}
+use Rattle.cedar_below.specs.Words.{Text, items_of, name_of, plain_name, type_name, uid_of}
+use Rattle.cedar_names.specs.Words.{Reference, conditional_reference}
 use Rattle.cedar_names.specs.declared.json_schema.action_type.ActionEntityUID.{ActionEntityUID}
 use Rattle.cedar_names.specs.declared.json_schema.conditional_name.ConditionalName.{ConditionalName}
 use Rattle.cedar_names.specs.declared.json_schema.qualify_error.QualifyError.{QualifyError}

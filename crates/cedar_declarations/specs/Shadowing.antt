@@ -1,6 +1,5 @@
 use Rattle.std.specs.Prelude.{◌≡◌}
-use Rattle.cedar_below.specs.PlainName.{PlainName, IsReserved, IsUnqualified}
-use Rattle.cedar_below.specs.PlainUid.{PlainUid}
+use Rattle.cedar_below.specs.Words.{IsReserved, IsUnqualified, PlainName, PlainUid}
 
 -- the one type would shadow the other: it is unqualified, and the other is qualified, isn't
 -- reserved and has its base name (RFC 70)

@@ -1,10 +1,7 @@
 use Rattle.std.specs.Prelude.{List, [], ◌∷◌, map, Contains}
 use Rattle.std.specs.List.{flat_map}
-use Rattle.cedar_below.specs.PlainName.{PlainName}
-use Rattle.cedar_below.specs.PlainUid.{PlainUid}
-use Rattle.cedar_names.specs.ActionBody.{ActionBody, Requests, elsewhere}
-use Rattle.cedar_names.specs.EntityBody.{EntityBody, external}
-use Rattle.cedar_names.specs.Reference.{Reference, ActionReference}
+use Rattle.cedar_below.specs.Words.{PlainName, PlainUid}
+use Rattle.cedar_names.specs.Words.{ActionBody, ActionReference, EntityBody, Reference, Requests, elsewhere, external}
 use Rattle.cedar_declarations.specs.Bag.{Bag, declared_entities, declared_actions, action_uids}
 use Rattle.cedar_declarations.specs.Counted.{entity_parents}
 

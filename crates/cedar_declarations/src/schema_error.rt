@@ -2,15 +2,7 @@
 
 ghost use Rattle.std.specs.Fmt.{WritesOnOk};
 ghost use Rattle.std.specs.Prelude.{◌≡◌, Some, codes, map, string_bytes};
-ghost use Rattle.cedar_below.specs.EntityType.{type_name};
-ghost use Rattle.cedar_below.specs.Joined.{each_after, joined};
-ghost use Rattle.cedar_below.specs.NonEmpty.{items_of};
-ghost use Rattle.cedar_below.specs.PlainName.{name_text};
-ghost use Rattle.cedar_below.specs.UidText.{quoted_text};
-ghost use Rattle.cedar_declarations.specs.SchemaError.{carried_action, context_or_shape_fault, fault_of, feature_fault, qualify_fault};
-ghost use Rattle.cedar_declarations.specs.Fault.{action_not_defined, kind_text, out_of_memory, undeclared_entity_types};
-ghost use Rattle.cedar_declarations.specs.FaultText.{fault_text};
-ghost use Rattle.cedar_names.specs.ReferenceText.{action_reference_text};
+ghost use Rattle.cedar_declarations.specs.Words.{action_not_defined, action_reference_text, carried_action, context_or_shape_fault, each_after, fault_of, fault_text, feature_fault, items_of, joined, kind_text, name_text, out_of_memory, qualify_fault, quoted_text, type_name, undeclared_entity_types};
 
 use cedar_below::{EntityType, EntityUID, InternalName, Memory, Name, NonEmpty, Quoted};
 use cedar_names::json_schema::{

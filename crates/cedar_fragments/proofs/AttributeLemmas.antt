@@ -15,26 +15,10 @@ use Rattle.std.proofs.lemmas.Simd.{map-map}
 use Rattle.std.specs.Map.{keys_of}
 use Rattle.std.specs.String.{string_cmp}
 use Rattle.cedar_below.proofs.Ordered.{IsStrictlySortedBy-map}
-use Rattle.cedar_declarations.specs.Fault.{Fault, action_attributes, out_of_memory}
-use Rattle.cedar_fragments.specs.DefinitionFault.{IsDefinitionFault, NamesAllWithAttributes, NamesNoAttributes}
+use Rattle.cedar_fragments.specs.Words.{ActionBody, ActionType, Bag, Body, CommonType, CommonTypeId, Declaration, EntityBody, Expr, Fault, HasAttributes, IsDefinitionFault, NamesAllWithAttributes, NamesNoAttributes, PlainName, RawName, Text, UnreservedId, action, action_attributes, action_body, action_declarations, common_declarations, common_type, entity_declarations, entity_type, id_where, out_of_memory, raw_reference, text_cmp, with_attributes}
 use Rattle.cedar_below.proofs.Lists.{Contains-cons, Contains-cons_cases, Contains-preimage}
-use Rattle.cedar_below.specs.PlainName.{PlainName}
-use Rattle.cedar_below.specs.Text.{Text, text_cmp}
 use Rattle.cedar_declarations.proofs.OccurrenceLemmas.{Contains-image}
-use Rattle.cedar_declarations.specs.IllFormed.{HasAttributes}
-use Rattle.cedar_fragments.specs.WithAttributes.{id_where, with_attributes}
-use Rattle.cedar_names.specs.ActionBody.{ActionBody, action_body}
-use Rattle.cedar_below.specs.declared.unreserved_id.UnreservedId.{UnreservedId}
-use Rattle.cedar_declarations.specs.Bag.{Bag}
-use Rattle.cedar_names.specs.Declaration.{Declaration, Body, common_type, entity_type, action, common_declarations, entity_declarations, action_declarations}
-use Rattle.cedar_names.specs.EntityBody.{EntityBody}
-use Rattle.cedar_names.specs.Expr.{Expr}
-use Rattle.cedar_names.specs.declared.json_schema.common_type_id.CommonTypeId.{CommonTypeId}
 use Rattle.cedar_names.specs.declared.json_schema.entity_type.EntityType.{EntityType}
-use Rattle.cedar_names.specs.declared.json_schema.fragment.CommonType.{CommonType}
-use Rattle.cedar_names.specs.RawExpr.{raw_reference}
-use Rattle.cedar_names.specs.declared.json_schema.action_type.ActionType.{ActionType}
-use Rattle.cedar_names.specs.declared.json_schema.raw_name.RawName.{RawName}
 
 -- the actions of a definition
 abbrev pub Actions : Type 0

@@ -2,21 +2,8 @@
 use Rattle.std.proofs.Common.{◌≡◌, ◌++◌, List, [], ◌∷◌, Option, None, Some, map, refl, ap}
 use Rattle.std.specs.List.{flat_map}
 use Rattle.std.specs.Option.{option_map}
-use Rattle.cedar_below.specs.InternalName.{name_of}
-use Rattle.cedar_below.specs.Lists.{HoldsPairwise}
-use Rattle.cedar_below.specs.declared.internal_name.InternalName.{InternalName}
+use Rattle.cedar_fragments.specs.Words.{AlikeConditional, AlikeEntity, AlikeFull, ConditionalName, EntityType, HoldsPairwise, InternalName, LocatedName, LocatesAlike, Locs, Reference, ReferenceType, RefersAlike, located_name, name_of, own_reference, positional_reference, reference_to_one, resolved_action_type, resolved_reference}
 use Rattle.cedar_below.proofs.ShownLemmas.{same_shown}
-use Rattle.cedar_fragments.specs.Located.{LocatedName, located_name}
-use Rattle.cedar_declarations.specs.Resolved.{reference_to_one}
-use Rattle.cedar_declarations.specs.ResolvedExpr.{resolved_reference}
-use Rattle.cedar_fragments.specs.FragmentDeclarations.{resolved_action_type}
-use Rattle.cedar_names.specs.ConditionalExpr.{own_reference, positional_reference}
-use Rattle.cedar_names.specs.Copies.{AlikeConditional, AlikeEntity, AlikeFull, LocatesAlike, RefersAlike}
-use Rattle.cedar_names.specs.declared.json_schema.conditional_name.ConditionalName.{ConditionalName}
-use Rattle.cedar_below.specs.declared.entity_type.EntityType.{EntityType}
-use Rattle.cedar_names.specs.Reference.{Reference}
-use Rattle.cedar_names.specs.TypeLocs.{Locs}
-use Rattle.cedar_names.specs.declared.json_schema.reference_type.ReferenceType.{ReferenceType}
 
 -- what alike names refer to is the same, of the kinds that they say themselves
 pub own_alike : RefersAlike ConditionalName AlikeConditional own_reference

@@ -1,11 +1,6 @@
 -- Full names, and the namespaces of what they name.
 use Rattle.std.proofs.Common.{◌≡◌, List, [], ◌∷◌, ◌++◌, Option, None, Some, ap, refl, ◌∙◌}
-use Rattle.cedar_below.specs.PlainName.{PlainName, action_word}
-use Rattle.cedar_below.specs.PlainUid.{PlainUid}
-use Rattle.cedar_below.specs.Text.{Text}
-use Rattle.cedar_fragments.specs.DeclaredAs.{within_part, name_of_parts, namespace_of, declared_as, declared_action}
-use Rattle.cedar_names.specs.Declaration.{Body}
-use Rattle.cedar_names.specs.Reference.{path_within, name_within}
+use Rattle.cedar_fragments.specs.Words.{Body, PlainName, PlainUid, Text, action_word, declared_action, declared_as, name_of_parts, name_within, namespace_of, path_within, within_part}
 
 -- the last of some parts is the base name
 name_of_parts-last : (part : Text) (path : List Text) (base : Text)

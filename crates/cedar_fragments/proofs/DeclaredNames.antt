@@ -3,24 +3,8 @@ use Rattle.std.proofs.Common.{◌≡◌, List, [], ◌∷◌, ◌++◌, map, ap,
 use Rattle.std.proofs.lemmas.Grind.{flat_map-append}
 use Rattle.std.proofs.lemmas.List.{map-append, append-nil}
 use Rattle.std.specs.List.{flat_map}
-use Rattle.cedar_below.specs.EntityType.{type_name}
-use Rattle.cedar_below.specs.EntityUID.{uid_of}
-use Rattle.cedar_below.specs.InternalName.{name_of}
-use Rattle.cedar_below.specs.PlainName.{PlainName, IsActionType}
-use Rattle.cedar_below.specs.PlainUid.{PlainUid}
-use Rattle.cedar_declarations.specs.Bag.{Bag, common_in, entity_in, action_in, declared_name, declared_uid}
+use Rattle.cedar_fragments.specs.Words.{AreTheDeclaredNames, Bag, Body, Declaration, IsActionType, PlainName, PlainUid, Reference, ReferenceType, ValidatorNamespaceDef, ValidatorSchemaFragment, action, action_fragment_body, action_fragment_declaration, action_fragment_declarations, action_in, common_in, common_type, common_type_declaration, common_type_declarations, declared_action, declared_as, declared_name, declared_names, declared_uid, definition_declarations, definition_names, entity_in, entity_type, entity_type_declaration, entity_type_declarations, fragment_body, fragment_declarations, name_of, type_expr, type_name, uid_of}
 use Rattle.cedar_fragments.proofs.DeclaredAsLemmas.{path_within-namespace_of}
-use Rattle.cedar_fragments.specs.ActionDeclarations.{action_fragment_body, action_fragment_declaration, action_fragment_declarations}
-use Rattle.cedar_fragments.specs.DeclaredAs.{declared_as, declared_action}
-use Rattle.cedar_fragments.specs.FragmentDeclarations.{definition_declarations, fragment_declarations}
-use Rattle.cedar_fragments.specs.HeldNames.{definition_names, declared_names, AreTheDeclaredNames}
-use Rattle.cedar_fragments.specs.TypeDeclarations.{fragment_body, common_type_declaration, common_type_declarations, entity_type_declaration, entity_type_declarations}
-use Rattle.cedar_fragments.specs.declared.namespace.definition.ValidatorNamespaceDef.{ValidatorNamespaceDef}
-use Rattle.cedar_fragments.specs.declared.namespace.fragment.ValidatorSchemaFragment.{ValidatorSchemaFragment}
-use Rattle.cedar_names.specs.Declaration.{Declaration, Body, common_type, entity_type, action}
-use Rattle.cedar_names.specs.Reference.{Reference}
-use Rattle.cedar_names.specs.TypeExpr.{type_expr}
-use Rattle.cedar_names.specs.declared.json_schema.reference_type.ReferenceType.{ReferenceType}
 
 -- what is declared under a name has that name
 pub name_declared : (name : PlainName) (body : Body) → declared_name (declared_as name body) ≡ name

@@ -1,23 +1,8 @@
 -- What the parts of a definition declare: common types, entity types and actions.
 use Rattle.std.proofs.Common.{◌≡◌, List, [], ◌∷◌, ◌++◌, map, ap, ◌∙◌, refl}
 use Rattle.std.proofs.lemmas.List.{append-nil}
-use Rattle.cedar_below.specs.EntityType.{type_name}
-use Rattle.cedar_below.specs.EntityUID.{uid_of}
-use Rattle.cedar_below.specs.InternalName.{name_of}
-use Rattle.cedar_declarations.specs.Bag.{common_in, entity_in, action_in, declared_name, declared_uid, declared_common, declared_entities, declared_actions}
+use Rattle.cedar_fragments.specs.Words.{ActionDef, ActionsDef, CommonTypeDef, CommonTypeDefs, Declaration, EntityTypeDef, EntityTypesDef, Reference, ReferenceType, action, action_fragment_body, action_fragment_declaration, action_fragment_declarations, action_in, common_in, common_type, common_type_declaration, common_type_declarations, declared_actions, declared_common, declared_entities, declared_name, declared_uid, entity_in, entity_type, entity_type_declaration, entity_type_declarations, fragment_body, name_of, type_expr, type_name, uid_of}
 use Rattle.cedar_fragments.proofs.DeclaredNames.{name_declared, uid_declared, each_read, none_read, three_read}
-use Rattle.cedar_fragments.specs.ActionDeclarations.{action_fragment_body, action_fragment_declaration, action_fragment_declarations}
-use Rattle.cedar_fragments.specs.TypeDeclarations.{fragment_body, common_type_declaration, common_type_declarations, entity_type_declaration, entity_type_declarations}
-use Rattle.cedar_fragments.specs.declared.namespace.action_def.ActionDef.{ActionDef}
-use Rattle.cedar_fragments.specs.declared.namespace.actions.ActionsDef.{ActionsDef}
-use Rattle.cedar_fragments.specs.declared.namespace.common_types.CommonTypeDef.{CommonTypeDef}
-use Rattle.cedar_fragments.specs.declared.namespace.common_types.CommonTypeDefs.{CommonTypeDefs}
-use Rattle.cedar_fragments.specs.declared.namespace.entity_type_def.EntityTypeDef.{EntityTypeDef}
-use Rattle.cedar_fragments.specs.declared.namespace.entity_types.EntityTypesDef.{EntityTypesDef}
-use Rattle.cedar_names.specs.Declaration.{Declaration, common_type, entity_type, action}
-use Rattle.cedar_names.specs.Reference.{Reference}
-use Rattle.cedar_names.specs.TypeExpr.{type_expr}
-use Rattle.cedar_names.specs.declared.json_schema.reference_type.ReferenceType.{ReferenceType}
 
 module _ (N : Type 0) (refer : ReferenceType → N → Reference) where
   -- common types declare each its full name and its definition

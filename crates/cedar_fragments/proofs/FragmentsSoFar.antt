@@ -2,15 +2,8 @@
 use Rattle.std.proofs.Common.{◌≡◌, List, ◌∷◌, ◌++◌, Contains, Option, refl, arith, ap}
 use Rattle.std.proofs.lemmas.List.Elements.{Contains-append_right}
 use Rattle.std.specs.List.{AllByRecursion}
-use Rattle.cedar_below.specs.declared.name.Name.{Name}
+use Rattle.cedar_fragments.specs.Words.{ConditionalName, IsSound, Name, NamespaceDefinition, RawName, ValidatorNamespaceDef, conditional_definition, entry_declarations}
 use Rattle.cedar_fragments.proofs.ListedSoFar.{ListedSoFar}
-use Rattle.cedar_fragments.specs.DefinitionFault.{IsSound}
-use Rattle.cedar_fragments.specs.DefinitionsPairwise.{entry_declarations}
-use Rattle.cedar_fragments.specs.FragmentDeclarations.{conditional_definition}
-use Rattle.cedar_fragments.specs.declared.namespace.definition.ValidatorNamespaceDef.{ValidatorNamespaceDef}
-use Rattle.cedar_names.specs.declared.json_schema.conditional_name.ConditionalName.{ConditionalName}
-use Rattle.cedar_names.specs.declared.json_schema.fragment.NamespaceDefinition.{NamespaceDefinition}
-use Rattle.cedar_names.specs.declared.json_schema.raw_name.RawName.{RawName}
 
 -- the entries of a fragment
 abbrev pub Written : Type 0

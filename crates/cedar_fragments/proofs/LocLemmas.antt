@@ -5,19 +5,10 @@ use Rattle.std.specs.List.{flat_map}
 use Rattle.std.specs.declared.alloc.Global.{Global}
 use Rattle.std.specs.declared.boxed.Box.{Box}
 use Rattle.std.specs.declared.string.String.{String}
-use Rattle.cedar_below.specs.Lists.{HoldsPairwise}
-use Rattle.cedar_below.specs.declared.internal_name.InternalName.{InternalName}
-use Rattle.cedar_below.specs.declared.loc.Loc.{Loc}
-use Rattle.cedar_below.specs.declared.unreserved_id.UnreservedId.{UnreservedId}
+use Rattle.cedar_fragments.specs.Words.{Boolean, CommonTypeRef, ConditionalName, EntityOrCommon, Extension, HoldsPairwise, InternalName, Loc, Locs, Long, Plain, Record, RecordType, Set, «Type», TypeOfAttribute, TypeVariant, UnreservedId, attribute_locs, attribute_locs_step, fold-roll-RecordType, fold_out-RecordType, fold_out-TypeOfAttribute, no_locs, out-RecordType, out-TypeOfAttribute, record_locs, record_locs_step, roll-RecordType, the_lemmas, type_locs, type_locs_step, variant_locs, variant_locs_step}
 use Rattle.cedar_fragments.proofs.Pairwise.{SameKey}
-use Rattle.cedar_fragments.specs.FragmentLocs.{no_locs}
-use Rattle.cedar_names.specs.TypeLocs.{Locs, attribute_locs, attribute_locs_step, record_locs, record_locs_step, type_locs, type_locs_step, variant_locs, variant_locs_step}
-use Rattle.cedar_names.specs.declared.json_schema.conditional_name.ConditionalName.{ConditionalName}
-use Rattle.cedar_names.specs.declared.json_schema.type_of.RecordType.{RecordType, fold-roll-RecordType, fold_out-RecordType, out-RecordType, roll-RecordType}
-use Rattle.cedar_names.specs.declared.json_schema.type_of.Type.{«Type», Plain, CommonTypeRef, the_lemmas}
 use Rattle.cedar_names.specs.declared.json_schema.type_of.Type.TheOpen as layer
-use Rattle.cedar_names.specs.declared.json_schema.type_of.TypeOfAttribute.{TypeOfAttribute, fold_out-TypeOfAttribute, out-TypeOfAttribute}
-use Rattle.cedar_names.specs.declared.json_schema.type_of.TypeVariant.{TypeVariant, String as text, Long, Boolean, Set, Record, Entity, EntityOrCommon, Extension}
+use Rattle.cedar_names.specs.declared.json_schema.type_of.TypeVariant.{String as text, Entity}
 
 -- in some names no locations are looked at
 pub none_in_names : {N : Type 0} (names : List N) → flat_map no_locs names ≡ []

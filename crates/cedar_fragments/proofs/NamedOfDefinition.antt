@@ -2,19 +2,7 @@
 use Rattle.std.proofs.Common.{◌≡◌, ◌⊎◌, List, [], ◌∷◌, Option, Contains, arith, inl, inr}
 use Rattle.std.specs.Option.{option_map}
 use Rattle.cedar_below.proofs.Lists.{Contains-cons_cases}
-use Rattle.cedar_below.specs.Lists.{Included}
-use Rattle.cedar_below.specs.Name.{plain_name}
-use Rattle.cedar_below.specs.declared.extension.Extensions.{Extensions}
-use Rattle.cedar_below.specs.declared.name.Name.{Name}
-use Rattle.cedar_declarations.specs.Bag.{Bag}
-use Rattle.cedar_declarations.specs.Fault.{Fault, action_attributes, out_of_memory}
-use Rattle.cedar_declarations.specs.IllFormed.{IsFault}
-use Rattle.cedar_fragments.specs.DefinitionFault.{HasNoDefinitionFault, NamesAllWithAttributes}
-use Rattle.cedar_fragments.specs.DefinitionsPairwise.{entry_declarations}
-use Rattle.cedar_fragments.specs.FragmentFault.{NamesAllOfADefinition}
-use Rattle.cedar_names.specs.declared.json_schema.fragment.Fragment.{Fragment}
-use Rattle.cedar_names.specs.declared.json_schema.fragment.NamespaceDefinition.{NamespaceDefinition}
-use Rattle.cedar_names.specs.declared.json_schema.raw_name.RawName.{RawName}
+use Rattle.cedar_fragments.specs.Words.{Bag, Extensions, Fault, Fragment, HasNoDefinitionFault, Included, IsFault, Name, NamesAllOfADefinition, NamesAllWithAttributes, NamespaceDefinition, RawName, action_attributes, entry_declarations, out_of_memory, plain_name}
 
 -- what names all of a definition of one of the fragments names all of a definition
 pub named_of_definition : (fragments : List (Fragment RawName)) (fragment : Fragment RawName)

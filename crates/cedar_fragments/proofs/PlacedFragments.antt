@@ -4,19 +4,8 @@ use Rattle.std.proofs.lemmas.List.Elements.{Contains-append_cases}
 use Rattle.std.specs.List.{flat_map}
 use Rattle.cedar_below.proofs.Lists.{Contains-preimage}
 use Rattle.cedar_declarations.proofs.OccurrenceLemmas.{Contains-flat_map}
-use Rattle.cedar_declarations.specs.Counted.{IsEntityTypePosition, IsPrincipalOrResource, PositionsFit, entity_parents}
-use Rattle.cedar_fragments.specs.ActionDeclarations.{action_fragment_declaration, action_fragment_declarations, fragment_requests}
-use Rattle.cedar_fragments.specs.FragmentDeclarations.{definition_declarations, fragment_declarations}
-use Rattle.cedar_fragments.specs.TypeDeclarations.{common_type_declaration, common_type_declarations, entity_type_declaration, entity_type_declarations, fragment_body}
-use Rattle.cedar_fragments.specs.declared.namespace.actions.ActionRequests.{ActionRequests}
-use Rattle.cedar_fragments.specs.declared.namespace.definition.ValidatorNamespaceDef.{ValidatorNamespaceDef}
-use Rattle.cedar_fragments.specs.declared.namespace.entity_types.EntityTypeFragment.{EntityTypeFragment}
+use Rattle.cedar_fragments.specs.Words.{ActionRequests, Declaration, Entity, EntityTypeFragment, IsEntityTypePosition, IsPrincipalOrResource, PositionsFit, Reference, ReferenceType, ValidatorNamespaceDef, ValidatorSchemaFragment, action_fragment_declaration, action_fragment_declarations, common_type_declaration, common_type_declarations, definition_declarations, entity_parents, entity_type_declaration, entity_type_declarations, fragment_body, fragment_declarations, fragment_requests}
 use Rattle.cedar_fragments.specs.declared.namespace.entity_types.EntityTypeFragment.TheVariants as variant
-use Rattle.cedar_fragments.specs.declared.namespace.fragment.ValidatorSchemaFragment.{ValidatorSchemaFragment}
-use Rattle.cedar_names.specs.Declaration.{Declaration}
-use Rattle.cedar_names.specs.Reference.{Reference}
-use Rattle.cedar_names.specs.declared.json_schema.reference_type.ReferenceType.{ReferenceType}
-use Rattle.cedar_names.specs.declared.json_schema.reference_type.ReferenceType.TheVariants.{Entity}
 
 -- where a name at the place of an entity type refers to one
 module _ (N : Type 0) (refer : ReferenceType → N → Reference) (fits : (name : N) → (refer Entity name).kind ≡ Entity) where

@@ -3,29 +3,11 @@ use Rattle.std.proofs.Common.{◌≡◌, Bool, List, [], ◌∷◌, ◌++◌, ma
 use Rattle.std.specs.declared.alloc.Global.{Global}
 use Rattle.std.specs.declared.string.String.{String}
 use Rattle.cedar_below.proofs.Lists.{Contains-cons_cases}
-use Rattle.cedar_below.specs.Lists.{HoldsPairwise}
-use Rattle.cedar_below.specs.InternalName.{name_of}
-use Rattle.cedar_below.specs.declared.internal_name.InternalName.{InternalName}
-use Rattle.cedar_declarations.specs.Mentions.{Refers, MembersRefer}
-use Rattle.cedar_declarations.specs.Names.{Names, ResolvesTo}
-use Rattle.cedar_declarations.specs.Resolved.{Resolves, ResolvesMembers, resolves_record, resolves_named, resolves_no_member, resolves_member}
-use Rattle.cedar_declarations.specs.ResolvedExpr.{resolved_reference, resolved_expr, resolved_record}
+use Rattle.cedar_fragments.specs.Words.{ConditionalName, Expr, HoldsPairwise, InternalName, IsRefused, IsRefusedAmong, MembersRefer, Names, QualifyError, RecordType, Reference, ReferenceType, Refers, Resolves, ResolvesMembers, ResolvesTo, «Type», TypeOfAttribute, TypeVariant, flag_and_expr, member, members_from, name_of, named, out-RecordType, out-TypeOfAttribute, positional_attribute, positional_expr, positional_record, positional_reference, record_expr, resolved_expr, resolved_record, resolved_reference, resolves_member, resolves_named, resolves_no_member, resolves_record, roll-RecordType}
 use Rattle.cedar_fragments.proofs.Pairwise.{SameKey}
-use Rattle.cedar_fragments.specs.Refused.{IsRefused, IsRefusedAmong}
 use Rattle.cedar_names.proofs.ExprLemmas.{record_type_expr-entries, record_type_expr-made, flag_and_expr-parts}
-use Rattle.cedar_names.specs.ConditionalExpr.{positional_reference, positional_expr, positional_record, positional_attribute}
-use Rattle.cedar_names.specs.Expr.{Expr, members_from, record_expr, named, member}
-use Rattle.cedar_names.specs.Reference.{Reference}
-use Rattle.cedar_names.specs.TypeExpr.{flag_and_expr}
-use Rattle.cedar_names.specs.declared.json_schema.conditional_name.ConditionalName.{ConditionalName}
-use Rattle.cedar_names.specs.declared.json_schema.qualify_error.QualifyError.{QualifyError}
 use Rattle.cedar_names.specs.declared.json_schema.qualify_error.QualifyError.TheVariants as error
-use Rattle.cedar_names.specs.declared.json_schema.reference_type.ReferenceType.{ReferenceType}
-use Rattle.cedar_names.specs.declared.json_schema.type_of.RecordType.{RecordType, out-RecordType, roll-RecordType}
-use Rattle.cedar_names.specs.declared.json_schema.type_of.Type.{«Type»}
 use Rattle.cedar_names.specs.declared.json_schema.type_of.Type.TheOpen as layer
-use Rattle.cedar_names.specs.declared.json_schema.type_of.TypeOfAttribute.{TypeOfAttribute, out-TypeOfAttribute}
-use Rattle.cedar_names.specs.declared.json_schema.type_of.TypeVariant.{TypeVariant}
 
 module _ (names : Names) where
   -- references that are refused among some are refused among others that have all of those

@@ -3,22 +3,11 @@ use Rattle.std.proofs.Common.{List, [], ◌∷◌, ◌++◌, map, inl, inr, Cont
 use Rattle.std.proofs.lemmas.List.Elements.{Contains-append_cases}
 use Rattle.std.specs.List.{flat_map}
 use Rattle.cedar_below.proofs.Lists.{Contains-preimage}
-use Rattle.cedar_below.specs.Lists.{HoldsPairwise, Included}
+use Rattle.cedar_fragments.specs.Words.{Bag, Declaration, Fault, HasToResolve, HasToResolveIn, HoldsPairwise, Included, IsAnyParent, IsParentIn, IsRefusedAmong, IsRequested, IsRequestedIn, IsUnresolvableBag, IsUnresolvableIn, Names, NoneIsReserved, QualifyError, Reference, ResolvesBag, ResolvesDeclaration, qualify_fault}
 use Rattle.cedar_declarations.proofs.TurnLemmas.{turn_forth}
 use Rattle.cedar_below.proofs.TurnLemmas.{turn_weaker}
-use Rattle.cedar_declarations.specs.Bag.{Bag}
-use Rattle.cedar_declarations.specs.Counted.{HasToResolve}
-use Rattle.cedar_declarations.specs.Fault.{Fault}
-use Rattle.cedar_declarations.specs.Names.{Names}
-use Rattle.cedar_declarations.specs.SchemaError.{qualify_fault}
-use Rattle.cedar_declarations.specs.Resolved.{ResolvesDeclaration, ResolvesBag}
 use Rattle.cedar_fragments.proofs.Pairwise.{pairwise_append}
 use Rattle.cedar_fragments.proofs.UnresolvableLemmas.{to_resolve, unresolvable_wider, refused_unresolvable}
-use Rattle.cedar_fragments.specs.QualifyFault.{HasToResolveIn, IsParentIn, IsRequestedIn, IsAnyParent, IsRequested, IsUnresolvableIn, IsUnresolvableBag, NoneIsReserved}
-use Rattle.cedar_fragments.specs.Refused.{IsRefusedAmong}
-use Rattle.cedar_names.specs.Declaration.{Declaration}
-use Rattle.cedar_names.specs.Reference.{Reference}
-use Rattle.cedar_names.specs.declared.json_schema.qualify_error.QualifyError.{QualifyError}
 
 module _ (names : Names) where
   -- a declaration is resolved, and none of its principals and resources resolves to a reserved name

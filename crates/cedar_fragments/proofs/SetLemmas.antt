@@ -10,8 +10,7 @@ use Rattle.std.specs.Ordering.{is_eq, match_ordering}
 use Rattle.std.specs.declared.cmp.Ordering.{Ordering}
 use Rattle.std.specs.declared.cmp.Ordering.TheVariants.{Less, Equal, Greater}
 use Rattle.cedar_below.proofs.Lists.{Contains-cons, Contains-cons_cases, list_any-Contains}
-use Rattle.cedar_below.specs.Lists.{SameItems}
-use Rattle.cedar_fragments.specs.HeldNames.{HasAlso, StandsWhere}
+use Rattle.cedar_fragments.specs.Words.{HasAlso, SameItems, StandsWhere}
 
 -- an answer that says so is a tie
 pub is_eq-Equal : (answer : Ordering) → is_eq answer ≡ true → answer ≡ Equal

@@ -15,15 +15,9 @@ use Rattle.std.specs.declared.cmp.Ordering.TheVariants.{Less, Equal, Greater}
 use Rattle.std.specs.declared.string.String.{String}
 use Rattle.cedar_below.proofs.Lists.{Contains-cons, Contains-cons_cases}
 use Rattle.cedar_below.proofs.Texts.{text_cmp-Equal}
-use Rattle.cedar_below.specs.EntityUID.{uid_of}
-use Rattle.cedar_below.specs.PlainName.{PlainName, IsUnqualified}
-use Rattle.cedar_below.specs.PlainUid.{PlainUid}
-use Rattle.cedar_below.specs.Text.{Text, text_cmp}
-use Rattle.cedar_below.specs.declared.entity_uid.EntityUID.{EntityUID}
+use Rattle.cedar_fragments.specs.Words.{EntityUID, IsPlainAction, IsUnqualified, PlainName, PlainUid, ShadowsAction, ShadowsType, Text, text_cmp, uid_of}
 use Rattle.cedar_declarations.proofs.OccurrenceLemmas.{Contains-image}
-use Rattle.cedar_declarations.specs.Shadowing.{ShadowsType, ShadowsAction}
 use Rattle.cedar_fragments.proofs.SetLemmas.{only, is_eq-Equal}
-use Rattle.cedar_fragments.specs.ShadowedNames.{IsPlainAction}
 
 -- the actions with unqualified types, by id
 abbrev pub Entries : Type 0

@@ -2,25 +2,10 @@
 use Rattle.std.proofs.Common.{List, [], ◌∷◌, map, sym, subst, refl, inr, Contains}
 use Rattle.std.specs.List.{AllByRecursion, flat_map}
 use Rattle.cedar_below.proofs.ValueLemmas.{IsName-type_name}
-use Rattle.cedar_below.specs.EntityType.{type_name}
-use Rattle.cedar_below.specs.EntityUID.{uid_of}
-use Rattle.cedar_below.specs.Identifier.{reserved_word}
-use Rattle.cedar_below.specs.PlainName.{PlainName, IsActionType}
-use Rattle.cedar_below.specs.PlainUid.{PlainUid}
+use Rattle.cedar_fragments.specs.Words.{ActionDef, EntityTypeDef, HasNoDefinitionFault, IsActionType, IsSound, PlainName, PlainUid, Reference, ReferenceType, ValidatorNamespaceDef, ValidatorSchemaFragment, action, action_fragment_body, action_fragment_declaration, action_fragment_declarations, common_type_declaration, common_type_declarations, definition_declarations, entity_type, entity_type_declaration, entity_type_declarations, fragment_body, fragment_declarations, reserved_word, type_name, uid_of}
 use Rattle.cedar_fragments.proofs.DeclaredNames.{name_declared, uid_declared}
 use Rattle.cedar_fragments.proofs.FragmentLemmas.{flat_map-each}
 use Rattle.cedar_fragments.proofs.SoundLemmas.{AllByRecursion-append, sound_bag}
-use Rattle.cedar_fragments.specs.ActionDeclarations.{action_fragment_body, action_fragment_declaration, action_fragment_declarations}
-use Rattle.cedar_fragments.specs.DefinitionFault.{HasNoDefinitionFault, IsSound}
-use Rattle.cedar_fragments.specs.FragmentDeclarations.{definition_declarations, fragment_declarations}
-use Rattle.cedar_fragments.specs.TypeDeclarations.{fragment_body, common_type_declaration, common_type_declarations, entity_type_declaration, entity_type_declarations}
-use Rattle.cedar_fragments.specs.declared.namespace.action_def.ActionDef.{ActionDef}
-use Rattle.cedar_fragments.specs.declared.namespace.definition.ValidatorNamespaceDef.{ValidatorNamespaceDef}
-use Rattle.cedar_fragments.specs.declared.namespace.entity_type_def.EntityTypeDef.{EntityTypeDef}
-use Rattle.cedar_fragments.specs.declared.namespace.fragment.ValidatorSchemaFragment.{ValidatorSchemaFragment}
-use Rattle.cedar_names.specs.Declaration.{entity_type, action}
-use Rattle.cedar_names.specs.Reference.{Reference}
-use Rattle.cedar_names.specs.declared.json_schema.reference_type.ReferenceType.{ReferenceType}
 
 -- what holds of all images holds of those of a list
 all_images : {X C : Type 0} (P : C → Type 0) (f : X → C) → ((x : X) → P (f x)) → (xs : List X) → AllByRecursion P (map f xs)

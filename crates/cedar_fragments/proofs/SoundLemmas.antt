@@ -3,25 +3,9 @@ use Rattle.std.proofs.Common.{◌≡◌, ◌≢◌, ◌⊎◌, List, [], ◌∷�
 use Rattle.std.proofs.lemmas.Bool.{false≢true}
 use Rattle.std.specs.List.{AllByRecursion}
 use Rattle.cedar_below.proofs.Lists.{Contains-cons_cases, Contains-preimage}
-use Rattle.cedar_below.specs.Identifier.{reserved_word}
-use Rattle.cedar_below.specs.Lists.{Included}
-use Rattle.cedar_below.specs.PlainName.{PlainName, IsActionType, action_word}
-use Rattle.cedar_below.specs.PlainUid.{PlainUid}
-use Rattle.cedar_below.specs.Text.{Text}
+use Rattle.cedar_fragments.specs.Words.{ActionBody, Bag, CommonType, CommonTypeId, Declaration, EntityBody, Fault, GivesNoCause, HasAttributes, HasNoDefinitionFault, Included, IsActionType, IsDefinitionFault, IsSound, NamesNoAttributes, PlainName, PlainUid, RawName, Text, action, action_attributes, action_entity_type, action_uids, action_word, common_declarations, declared_actions, declared_entities, declared_name, declared_uid, entity_type, name_within, out_of_memory, path_within, raw_reference, reserved_name, reserved_word}
 use Rattle.cedar_declarations.proofs.DeclarationLemmas.{entity_declaration, action_declaration, declares_entity, declares_action}
 use Rattle.cedar_declarations.proofs.OccurrenceLemmas.{Contains-image}
-use Rattle.cedar_declarations.specs.Bag.{Bag, declared_name, declared_uid, declared_entities, declared_actions, action_uids}
-use Rattle.cedar_declarations.specs.Fault.{Fault, action_attributes, action_entity_type, reserved_name, out_of_memory}
-use Rattle.cedar_declarations.specs.IllFormed.{HasAttributes}
-use Rattle.cedar_fragments.specs.DefinitionFault.{IsDefinitionFault, HasNoDefinitionFault, NamesNoAttributes, GivesNoCause, IsSound}
-use Rattle.cedar_names.specs.ActionBody.{ActionBody}
-use Rattle.cedar_names.specs.Declaration.{Declaration, entity_type, action, common_declarations}
-use Rattle.cedar_names.specs.EntityBody.{EntityBody}
-use Rattle.cedar_names.specs.RawExpr.{raw_reference}
-use Rattle.cedar_names.specs.Reference.{name_within, path_within}
-use Rattle.cedar_names.specs.declared.json_schema.common_type_id.CommonTypeId.{CommonTypeId}
-use Rattle.cedar_names.specs.declared.json_schema.fragment.CommonType.{CommonType}
-use Rattle.cedar_names.specs.declared.json_schema.raw_name.RawName.{RawName}
 
 -- what holds of each item holds of one
 pub AllByRecursion-at : {A : Type 0} (P : A → Type 0) (xs : List A) (x : A) → AllByRecursion P xs → Contains xs x → P x

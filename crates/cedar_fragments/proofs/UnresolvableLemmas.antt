@@ -1,37 +1,12 @@
 -- What can't be resolved in a part can't be in the whole.
 use Rattle.std.proofs.Common.{◌≡◌, List, [], ◌∷◌, map, ap, ◌∙◌, refl, inl, inr, Contains}
 use Rattle.cedar_below.proofs.Lists.{Contains-preimage}
-use Rattle.cedar_below.specs.EntityUID.{uid_of}
-use Rattle.cedar_below.specs.InternalName.{name_of}
-use Rattle.cedar_below.specs.Lists.{HoldsPairwise}
-use Rattle.cedar_below.specs.PlainName.{PlainName, IsReserved}
-use Rattle.cedar_below.specs.PlainUid.{PlainUid}
-use Rattle.cedar_below.specs.declared.entity_uid.EntityUID.{EntityUID}
-use Rattle.cedar_below.specs.declared.internal_name.InternalName.{InternalName}
+use Rattle.cedar_fragments.specs.Words.{ActionReference, AllDefs, Bag, Body, ConditionalName, Declaration, Entity, EntityUID, Fault, HasToResolve, HasToResolveIn, HoldsPairwise, InternalName, IsDefined, IsRefusedAmong, IsReserved, IsUnresolvable, Names, NoneIsReserved, PlainName, PlainUid, QualifyError, Reference, ReferenceType, ResolvesBody, ResolvesDeclaration, ResolvesReference, ResolvesTo, action_not_defined, declared_action, declared_as, held_names, name_of, out_of_memory, positional_reference, qualify_fault, reference_to_one, reserved_name, resolved_reference, type_not_defined, uid_of}
 use Rattle.cedar_declarations.proofs.OccurrenceLemmas.{Contains-image}
 use Rattle.cedar_declarations.proofs.ResolutionLemmas.{IsFirst-same}
 use Rattle.cedar_declarations.proofs.TurnLemmas.{turn_forth, turn_back}
-use Rattle.cedar_declarations.specs.Bag.{Bag}
-use Rattle.cedar_declarations.specs.Counted.{HasToResolve}
-use Rattle.cedar_declarations.specs.Fault.{Fault, type_not_defined, action_not_defined, reserved_name, out_of_memory}
-use Rattle.cedar_declarations.specs.Names.{Names, IsDefined, ResolvesTo}
-use Rattle.cedar_declarations.specs.SchemaError.{qualify_fault}
-use Rattle.cedar_declarations.specs.Resolved.{reference_to_one, ResolvesReference, ResolvesBody, ResolvesDeclaration}
-use Rattle.cedar_declarations.specs.ResolvedExpr.{resolved_reference}
 use Rattle.cedar_fragments.proofs.SoundLemmas.{AllByRecursion-at}
-use Rattle.cedar_fragments.specs.DeclaredAs.{declared_as, declared_action}
-use Rattle.cedar_fragments.specs.HeldNames.{held_names}
-use Rattle.cedar_fragments.specs.QualifyFault.{HasToResolveIn, IsUnresolvable, NoneIsReserved}
-use Rattle.cedar_fragments.specs.Refused.{IsRefusedAmong}
-use Rattle.cedar_fragments.specs.declared.defs.all_defs.AllDefs.{AllDefs}
-use Rattle.cedar_names.specs.ConditionalExpr.{positional_reference}
-use Rattle.cedar_names.specs.Declaration.{Declaration, Body}
-use Rattle.cedar_names.specs.Reference.{Reference, ActionReference}
-use Rattle.cedar_names.specs.declared.json_schema.conditional_name.ConditionalName.{ConditionalName}
-use Rattle.cedar_names.specs.declared.json_schema.qualify_error.QualifyError.{QualifyError}
 use Rattle.cedar_names.specs.declared.json_schema.qualify_error.QualifyError.TheVariants as error
-use Rattle.cedar_names.specs.declared.json_schema.reference_type.ReferenceType.{ReferenceType}
-use Rattle.cedar_names.specs.declared.json_schema.reference_type.ReferenceType.TheVariants.{Entity}
 use Rattle.std.specs.List.{AllByRecursion}
 
 -- what has to resolve in a declaration has to in a bag that has it

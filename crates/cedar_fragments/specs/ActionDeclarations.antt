@@ -6,10 +6,7 @@ use Rattle.cedar_fragments.specs.declared.namespace.actions.ActionFragment.{Acti
 use Rattle.cedar_fragments.specs.declared.namespace.actions.ActionParent.{ActionParent}
 use Rattle.cedar_fragments.specs.declared.namespace.actions.ActionRequests.{ActionRequests}
 use Rattle.cedar_fragments.specs.declared.namespace.actions.ActionsDef.{ActionsDef}
-use Rattle.cedar_names.specs.ActionBody.{ActionBody, Requests, requests, elsewhere}
-use Rattle.cedar_names.specs.Declaration.{Declaration, action}
-use Rattle.cedar_names.specs.Reference.{Reference, ActionReference}
-use Rattle.cedar_names.specs.TypeExpr.{type_expr}
+use Rattle.cedar_names.specs.Words.{ActionBody, ActionReference, Declaration, Reference, Requests, action, elsewhere, requests, type_expr}
 use Rattle.cedar_names.specs.declared.json_schema.reference_type.ReferenceType.{ReferenceType}
 use Rattle.cedar_names.specs.declared.json_schema.reference_type.ReferenceType.TheVariants.{Entity}
 

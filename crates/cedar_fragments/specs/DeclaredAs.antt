@@ -1,7 +1,5 @@
 use Rattle.std.specs.Prelude.{List, [], ◌∷◌, Option, None, Some}
-use Rattle.cedar_below.specs.PlainName.{PlainName}
-use Rattle.cedar_below.specs.PlainUid.{PlainUid}
-use Rattle.cedar_below.specs.Text.{Text}
+use Rattle.cedar_below.specs.Words.{PlainName, PlainUid, Text}
 use Rattle.cedar_names.specs.Declaration.{Declaration, Body}
 
 -- the name with a part before it

@@ -1,11 +1,7 @@
 use Rattle.std.specs.Prelude.{◌≡◌, ◌↔◌, false, Option, Contains}
-use Rattle.cedar_below.specs.Identifier.{reserved_word}
-use Rattle.cedar_below.specs.PlainName.{PlainName, IsActionType}
-use Rattle.cedar_below.specs.Text.{Text}
+use Rattle.cedar_below.specs.Words.{IsActionType, PlainName, Text, reserved_word}
 use Rattle.cedar_below.specs.declared.extension.Extensions.{Extensions}
-use Rattle.cedar_declarations.specs.Bag.{Bag, declared_name, declared_uid}
-use Rattle.cedar_declarations.specs.Fault.{Fault, action_attributes, action_entity_type, reserved_name}
-use Rattle.cedar_declarations.specs.IllFormed.{IsFault, HasAttributes}
+use Rattle.cedar_declarations.specs.Words.{Bag, Fault, HasAttributes, IsFault, action_attributes, action_entity_type, declared_name, declared_uid, reserved_name}
 use Rattle.cedar_names.specs.Declaration.{Declaration, Body, common_type, entity_type, action}
 
 -- a refusal that a definition gives cause for whatever else is declared: actions with attributes,

@@ -5,17 +5,13 @@ use Rattle.cedar_below.specs.declared.entity_type.EntityType.{EntityType}
 use Rattle.cedar_below.specs.declared.internal_name.InternalName.{InternalName}
 use Rattle.cedar_below.specs.declared.loc.Loc.{Loc}
 use Rattle.cedar_below.specs.declared.name.Name.{Name}
-use Rattle.cedar_declarations.specs.Bag.{Bag}
-use Rattle.cedar_declarations.specs.ResolvedExpr.{resolved_reference}
+use Rattle.cedar_declarations.specs.Words.{Bag, resolved_reference}
 use Rattle.cedar_fragments.specs.FragmentDeclarations.{definition_declarations, resolved_action_type}
 use Rattle.cedar_fragments.specs.FragmentLocs.{definition_locs, no_locs}
 use Rattle.cedar_fragments.specs.Located.{LocatedName, definition_loc, definition_name, fragment_definitions, located_plain_name}
 use Rattle.cedar_fragments.specs.declared.namespace.definition.ValidatorNamespaceDef.{ValidatorNamespaceDef}
 use Rattle.cedar_fragments.specs.declared.namespace.fragment.ValidatorSchemaFragment.{ValidatorSchemaFragment}
-use Rattle.cedar_names.specs.ConditionalExpr.{positional_reference}
-use Rattle.cedar_names.specs.Declaration.{raw_declarations}
-use Rattle.cedar_names.specs.Reference.{Reference}
-use Rattle.cedar_names.specs.TypeLocs.{Locs}
+use Rattle.cedar_names.specs.Words.{Locs, Reference, positional_reference, raw_declarations}
 use Rattle.cedar_names.specs.declared.json_schema.conditional_name.ConditionalName.{ConditionalName}
 use Rattle.cedar_names.specs.declared.json_schema.fragment.Fragment.{Fragment}
 use Rattle.cedar_names.specs.declared.json_schema.fragment.NamespaceDefinition.{NamespaceDefinition}

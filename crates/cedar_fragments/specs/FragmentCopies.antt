@@ -1,7 +1,5 @@
 use Rattle.std.specs.Prelude.{◌≡◌}
-use Rattle.cedar_names.specs.Copies.{LocatesAlike, RefersAlike}
-use Rattle.cedar_names.specs.Reference.{Reference}
-use Rattle.cedar_names.specs.TypeLocs.{Locs}
+use Rattle.cedar_names.specs.Words.{LocatesAlike, Locs, Reference, RefersAlike}
 use Rattle.cedar_names.specs.declared.json_schema.reference_type.ReferenceType.{ReferenceType}
 
 -- names of some form, and names of the types of actions of another, where it is given when one is

@@ -1,8 +1,6 @@
 use Rattle.std.specs.Prelude.{[], ◌∷◌, ◌++◌, Option, None, Some}
 use Rattle.std.specs.List.{flat_map}
-use Rattle.cedar_below.specs.EntityType.{type_loc}
-use Rattle.cedar_below.specs.EntityUID.{uid_loc, uid_type_loc}
-use Rattle.cedar_below.specs.InternalName.{name_loc}
+use Rattle.cedar_below.specs.Words.{name_loc, type_loc, uid_loc, uid_type_loc}
 use Rattle.cedar_fragments.specs.declared.namespace.action_def.ActionDef.{ActionDef}
 use Rattle.cedar_fragments.specs.declared.namespace.actions.ActionFragment.{ActionFragment}
 use Rattle.cedar_fragments.specs.declared.namespace.actions.ActionParent.{ActionParent}

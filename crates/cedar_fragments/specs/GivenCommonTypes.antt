@@ -1,11 +1,8 @@
 use Rattle.std.specs.Prelude.{List, map, Option}
-use Rattle.cedar_below.specs.PlainName.{PlainName}
-use Rattle.cedar_below.specs.UnreservedId.{unreserved_id_text}
+use Rattle.cedar_below.specs.Words.{PlainName, unreserved_id_text}
 use Rattle.cedar_below.specs.declared.unreserved_id.UnreservedId.{UnreservedId}
 use Rattle.cedar_fragments.specs.DeclaredAs.{declared_as}
-use Rattle.cedar_names.specs.ConditionalExpr.{positional_expr}
-use Rattle.cedar_names.specs.Declaration.{Declaration, common_type}
-use Rattle.cedar_names.specs.Reference.{name_within}
+use Rattle.cedar_names.specs.Words.{Declaration, common_type, name_within, positional_expr}
 use Rattle.cedar_names.specs.declared.json_schema.conditional_name.ConditionalName.{ConditionalName}
 use Rattle.cedar_names.specs.declared.json_schema.type_of.Type.{«Type»}
 

@@ -1,13 +1,7 @@
 use Rattle.std.specs.Prelude.{◌≡◌, ◌⊎◌, ◌↔◌, List, Option, MatchOption, map, Contains}
 use Rattle.std.specs.List.{flat_map}
-use Rattle.cedar_below.specs.EntityType.{type_name}
-use Rattle.cedar_below.specs.EntityUID.{uid_of}
-use Rattle.cedar_below.specs.InternalName.{name_of}
-use Rattle.cedar_below.specs.Lists.{SameItems}
-use Rattle.cedar_below.specs.PlainName.{PlainName}
-use Rattle.cedar_below.specs.PlainUid.{PlainUid}
-use Rattle.cedar_declarations.specs.Bag.{Bag, declared_common, declared_entities, action_uids}
-use Rattle.cedar_declarations.specs.Names.{Names}
+use Rattle.cedar_below.specs.Words.{PlainName, PlainUid, SameItems, name_of, type_name, uid_of}
+use Rattle.cedar_declarations.specs.Words.{Bag, Names, action_uids, declared_common, declared_entities}
 use Rattle.cedar_fragments.specs.declared.defs.all_defs.AllDefs.{AllDefs}
 use Rattle.cedar_fragments.specs.declared.namespace.actions.ActionsDef.{ActionsDef}
 use Rattle.cedar_fragments.specs.declared.namespace.common_types.CommonTypeDefs.{CommonTypeDefs}

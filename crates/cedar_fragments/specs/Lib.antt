@@ -15,3 +15,4 @@ pub mod Refused
 pub mod ShadowedNames
 pub mod TypeDeclarations
 pub mod WithAttributes
+pub mod Words

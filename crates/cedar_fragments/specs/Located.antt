@@ -1,9 +1,7 @@
 use Rattle.std.specs.Prelude.{List, [], ◌∷◌, map, Option, None, Some}
 use Rattle.std.specs.List.{flat_map}
 use Rattle.std.specs.Option.{option_map}
-use Rattle.cedar_below.specs.InternalName.{name_of, name_loc}
-use Rattle.cedar_below.specs.Name.{plain_name, plain_loc}
-use Rattle.cedar_below.specs.PlainName.{PlainName}
+use Rattle.cedar_below.specs.Words.{PlainName, name_loc, name_of, plain_loc, plain_name}
 use Rattle.cedar_below.specs.declared.internal_name.InternalName.{InternalName}
 use Rattle.cedar_below.specs.declared.loc.Loc.{Loc}
 use Rattle.cedar_below.specs.declared.name.Name.{Name}
@@ -15,8 +13,7 @@ use Rattle.cedar_fragments.specs.declared.namespace.definition.ValidatorNamespac
 use Rattle.cedar_fragments.specs.declared.namespace.entity_type_def.EntityTypeDef.{EntityTypeDef}
 use Rattle.cedar_fragments.specs.declared.namespace.entity_types.EntityTypesDef.{EntityTypesDef}
 use Rattle.cedar_fragments.specs.declared.namespace.fragment.ValidatorSchemaFragment.{ValidatorSchemaFragment}
-use Rattle.cedar_names.specs.CommonTypeId.{common_type_text}
-use Rattle.cedar_names.specs.Reference.{name_within}
+use Rattle.cedar_names.specs.Words.{common_type_text, name_within}
 use Rattle.cedar_names.specs.declared.json_schema.common_type_id.CommonTypeId.{CommonTypeId}
 use Rattle.cedar_names.specs.declared.json_schema.fragment.CommonType.{CommonType}
 use Rattle.cedar_names.specs.declared.json_schema.fragment.Fragment.{Fragment}

@@ -1,15 +1,7 @@
 use Rattle.std.specs.Prelude.{◌≡◌, ◌≢◌, ◌⊎◌, [], Some, Option, Contains}
-use Rattle.cedar_below.specs.PlainName.{PlainName, IsReserved}
-use Rattle.cedar_below.specs.Text.{Text}
-use Rattle.cedar_declarations.specs.Bag.{Bag}
-use Rattle.cedar_declarations.specs.Counted.{CountsIn, CountsInRequests, HasToResolve, IsEntityTypePosition, IsPrincipalOrResource}
-use Rattle.cedar_declarations.specs.Fault.{Fault, type_not_defined, action_not_defined, reserved_name, out_of_memory}
-use Rattle.cedar_declarations.specs.Mentions.{Refers}
-use Rattle.cedar_declarations.specs.Names.{Names, ResolvesTo, IsUnresolved, NamesNoAction}
-use Rattle.cedar_names.specs.ActionBody.{Requests}
-use Rattle.cedar_names.specs.Declaration.{Declaration, Body, action}
-use Rattle.cedar_names.specs.Expr.{Expr}
-use Rattle.cedar_names.specs.Reference.{Reference, ActionReference}
+use Rattle.cedar_below.specs.Words.{IsReserved, PlainName, Text}
+use Rattle.cedar_declarations.specs.Words.{Bag, CountsIn, CountsInRequests, Fault, HasToResolve, IsEntityTypePosition, IsPrincipalOrResource, IsUnresolved, Names, NamesNoAction, Refers, ResolvesTo, action_not_defined, out_of_memory, reserved_name, type_not_defined}
+use Rattle.cedar_names.specs.Words.{ActionReference, Body, Declaration, Expr, Reference, Requests, action}
 
 -- the reference has to name something: it stands in an expression that counts in what is declared,
 -- or at the position of an entity type

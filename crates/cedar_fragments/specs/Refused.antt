@@ -1,8 +1,7 @@
 use Rattle.std.specs.Prelude.{◌≡◌, [], ◌∷◌, map, Contains}
 use Rattle.cedar_below.specs.NonEmpty.{items_of}
 use Rattle.cedar_declarations.specs.Names.{Names, IsUnresolved}
-use Rattle.cedar_names.specs.ConditionalName.{conditional_reference}
-use Rattle.cedar_names.specs.Reference.{Reference}
+use Rattle.cedar_names.specs.Words.{Reference, conditional_reference}
 use Rattle.cedar_names.specs.declared.json_schema.qualify_error.QualifyError.{QualifyError}
 use Rattle.cedar_names.specs.declared.json_schema.qualify_error.QualifyError.TheVariants as error
 

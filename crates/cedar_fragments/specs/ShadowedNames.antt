@@ -1,10 +1,6 @@
 use Rattle.std.specs.Prelude.{◌≡◌, List, ◌++◌, Contains}
-use Rattle.cedar_below.specs.PlainName.{PlainName, IsUnqualified}
-use Rattle.cedar_below.specs.PlainUid.{PlainUid}
-use Rattle.cedar_below.specs.Text.{Text}
-use Rattle.cedar_declarations.specs.Fault.{Fault, type_shadowing, action_shadowing}
-use Rattle.cedar_declarations.specs.Names.{Names}
-use Rattle.cedar_declarations.specs.Shadowing.{ShadowsType, ShadowsAction}
+use Rattle.cedar_below.specs.Words.{IsUnqualified, PlainName, PlainUid, Text}
+use Rattle.cedar_declarations.specs.Words.{Fault, Names, ShadowsAction, ShadowsType, action_shadowing, type_shadowing}
 
 -- the names of types, common and entity
 abbrev pub type_names : Names → List PlainName

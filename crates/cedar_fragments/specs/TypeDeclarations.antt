@@ -1,9 +1,6 @@
 use Rattle.std.specs.Prelude.{List, map}
 use Rattle.std.specs.Option.{option_map}
-use Rattle.cedar_below.specs.Eid.{eid_text}
-use Rattle.cedar_below.specs.EntityType.{type_name}
-use Rattle.cedar_below.specs.InternalName.{name_of}
-use Rattle.cedar_below.specs.NonEmpty.{items_of}
+use Rattle.cedar_below.specs.Words.{eid_text, items_of, name_of, type_name}
 use Rattle.cedar_fragments.specs.DeclaredAs.{declared_as}
 use Rattle.cedar_fragments.specs.declared.namespace.common_types.CommonTypeDef.{CommonTypeDef}
 use Rattle.cedar_fragments.specs.declared.namespace.common_types.CommonTypeDefs.{CommonTypeDefs}
@@ -11,10 +8,7 @@ use Rattle.cedar_fragments.specs.declared.namespace.entity_type_def.EntityTypeDe
 use Rattle.cedar_fragments.specs.declared.namespace.entity_types.EntityTypeFragment.{EntityTypeFragment}
 use Rattle.cedar_fragments.specs.declared.namespace.entity_types.EntityTypeFragment.TheVariants as variant
 use Rattle.cedar_fragments.specs.declared.namespace.entity_types.EntityTypesDef.{EntityTypesDef}
-use Rattle.cedar_names.specs.Declaration.{Declaration, common_type, entity_type}
-use Rattle.cedar_names.specs.EntityBody.{EntityBody, standard, enumerated, external}
-use Rattle.cedar_names.specs.Reference.{Reference}
-use Rattle.cedar_names.specs.TypeExpr.{type_expr}
+use Rattle.cedar_names.specs.Words.{Declaration, EntityBody, Reference, common_type, entity_type, enumerated, external, standard, type_expr}
 use Rattle.cedar_names.specs.declared.json_schema.reference_type.ReferenceType.{ReferenceType}
 use Rattle.cedar_names.specs.declared.json_schema.reference_type.ReferenceType.TheVariants.{Entity}
 

@@ -2,20 +2,10 @@
 
 ghost use Rattle.std.specs.Prelude.{◌≡◌, List};
 ghost use Rattle.std.specs.List.{flat_map};
-ghost use Rattle.cedar_declarations.specs.Counted.{PositionsFit};
-ghost use Rattle.cedar_fragments.specs.DefinitionFault.{HasNoDefinitionFault};
+ghost use Rattle.cedar_fragments.specs.Words.{AreTheDeclaredNames, DeclaresSame, HasNoDefinitionFault, PositionsFit, Reference, ReferenceType, RefersAlike, ValidatorSchemaFragment, conditional_bag, conditional_fragment, declared_names, fragment_declarations, own_reference, positional_reference, resolved_action_type, resolved_fragment, resolved_reference};
 ghost use Rattle.cedar_below.specs.declared.entity_type.EntityType.{EntityType as ActionEntityType};
 ghost use Rattle.cedar_below.specs.declared.internal_name.InternalName.{InternalName as Full};
-ghost use Rattle.cedar_declarations.specs.ResolvedExpr.{resolved_reference};
-ghost use Rattle.cedar_fragments.specs.FragmentCopies.{DeclaresSame};
-ghost use Rattle.cedar_fragments.specs.FragmentDeclarations.{conditional_bag, conditional_fragment, fragment_declarations, resolved_action_type, resolved_fragment};
-ghost use Rattle.cedar_fragments.specs.HeldNames.{declared_names, AreTheDeclaredNames};
-ghost use Rattle.cedar_fragments.specs.declared.namespace.fragment.ValidatorSchemaFragment.{ValidatorSchemaFragment};
-ghost use Rattle.cedar_names.specs.ConditionalExpr.{own_reference, positional_reference};
-ghost use Rattle.cedar_names.specs.Copies.{RefersAlike};
-ghost use Rattle.cedar_names.specs.Reference.{Reference};
 ghost use Rattle.cedar_names.specs.declared.json_schema.conditional_name.ConditionalName.{ConditionalName as Conditional};
-ghost use Rattle.cedar_names.specs.declared.json_schema.reference_type.ReferenceType.{ReferenceType};
 
 use cedar_below::{EntityType, InternalName};
 use cedar_names::json_schema::{ConditionalName, FragmentName};

@@ -1,8 +1,6 @@
 -- What a fragment has at a place.
 use Rattle.std.specs.Prelude.{Bool, List, Option, string_bytes}
-use Rattle.cedar_below.specs.InternalName.{name_of}
-use Rattle.cedar_below.specs.PlainName.{PlainName}
-use Rattle.cedar_below.specs.Text.{Text}
+use Rattle.cedar_below.specs.Words.{PlainName, Text, name_of}
 use Rattle.cedar_below.specs.declared.loc.Loc.{Loc}
 use Rattle.cedar_json_places.specs.declared.written.Written.{Written}
 use Rattle.cedar_json_places.specs.declared.written.Written.TheVariants as written

@@ -2,13 +2,7 @@
 use Rattle.std.specs.Prelude.{◌≡◌, ◌≢◌, ◌⊎◌, true, List, [], ◌∷◌, Option, Some, None, ⊤, string_bytes}
 use Rattle.std.specs.declared.alloc.Global.{Global}
 use Rattle.std.specs.declared.string.String.{String}
-use Rattle.cedar_below.specs.EntityType.{type_loc, type_name}
-use Rattle.cedar_below.specs.EntityUID.{uid_loc, uid_of}
-use Rattle.cedar_below.specs.InternalName.{name_loc, name_of}
-use Rattle.cedar_below.specs.Name.{plain_name}
-use Rattle.cedar_below.specs.PlainName.{PlainName}
-use Rattle.cedar_below.specs.PlainUid.{PlainUid}
-use Rattle.cedar_below.specs.Text.{Text}
+use Rattle.cedar_below.specs.Words.{PlainName, PlainUid, Text, name_loc, name_of, plain_name, type_loc, type_name, uid_loc, uid_of}
 use Rattle.cedar_below.specs.declared.internal_name.InternalName.{InternalName}
 use Rattle.cedar_below.specs.declared.loc.Loc.{Loc}
 use Rattle.cedar_declarations.specs.declared.schema_error.ContextOrShape.{ContextOrShape}

@@ -4,14 +4,10 @@ use Rattle.std.specs.List.{flat_map}
 use Rattle.std.specs.Option.{option_map}
 use Rattle.std.specs.declared.alloc.Global.{Global}
 use Rattle.std.specs.declared.string.String.{String}
-use Rattle.cedar_below.specs.Name.{plain_name}
-use Rattle.cedar_below.specs.PlainName.{PlainName, action_word}
-use Rattle.cedar_below.specs.Text.{Text}
-use Rattle.cedar_below.specs.UnreservedId.{unreserved_id_text}
+use Rattle.cedar_below.specs.Words.{PlainName, Text, action_word, plain_name, unreserved_id_text}
 use Rattle.cedar_below.specs.declared.name.Name.{Name}
 use Rattle.cedar_below.specs.declared.unreserved_id.UnreservedId.{UnreservedId}
-use Rattle.cedar_names.specs.CommonTypeId.{common_type_text}
-use Rattle.cedar_names.specs.Reference.{qualified_name}
+use Rattle.cedar_names.specs.Words.{common_type_text, qualified_name}
 use Rattle.cedar_names.specs.declared.json_schema.action_type.ActionType.{ActionType}
 use Rattle.cedar_names.specs.declared.json_schema.action_type.ApplySpec.{ApplySpec}
 use Rattle.cedar_names.specs.declared.json_schema.common_type_id.CommonTypeId.{CommonTypeId}

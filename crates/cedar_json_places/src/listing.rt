@@ -2,10 +2,7 @@
 
 ghost use Rattle.std.specs.Prelude.{◌≡◌, ◌++◌, IfOk, OnOk, map};
 ghost use Rattle.std.specs.List.{flat_map};
-ghost use Rattle.cedar_below.specs.Id.{id_text};
-ghost use Rattle.cedar_below.specs.InternalName.{name_of};
-ghost use Rattle.cedar_json_places.specs.Mark.{marked};
-ghost use Rattle.cedar_json_places.specs.Table.{action_marks, common_type_marks, definition_marks, entity_type_marks, fragment_marks, full_name, kind_marks, namespace_of, requests_marks};
+ghost use Rattle.cedar_json_places.specs.Words.{action_marks, common_type_marks, definition_marks, entity_type_marks, fragment_marks, full_name, id_text, kind_marks, marked, name_of, namespace_of, requests_marks};
 
 use crate::type_listing::list_type;
 use crate::written::{Places, Written, WrittenAt};

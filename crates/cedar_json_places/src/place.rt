@@ -1,11 +1,7 @@
 //! The places that are shown for a refusal.
 
 ghost use Rattle.std.specs.Prelude.{◌≡◌, ◌≢◌, ◌↔◌, IsTrue, Some, map, string_bytes};
-ghost use Rattle.cedar_below.specs.EntityType.{type_loc, type_name};
-ghost use Rattle.cedar_below.specs.EntityUID.{uid_loc, uid_of};
-ghost use Rattle.cedar_below.specs.InternalName.{name_loc, name_of};
-ghost use Rattle.cedar_json_places.specs.Mark.{mark_of, marked};
-ghost use Rattle.cedar_json_places.specs.Place.{IsAttributedPlace, IsFirstPlace, IsPlaceOf, IsSecondPlaceOf, IsShadowedPlace, IsSought};
+ghost use Rattle.cedar_json_places.specs.Words.{IsAttributedPlace, IsFirstPlace, IsPlaceOf, IsSecondPlaceOf, IsShadowedPlace, IsSought, mark_of, marked, name_loc, name_of, type_loc, type_name, uid_loc, uid_of};
 
 use crate::written::{Places, Written};
 use cedar_below::{EntityType, EntityUID, InternalName, Loc};

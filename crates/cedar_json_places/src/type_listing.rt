@@ -1,8 +1,7 @@
 //! The open record types and the extension types in a type.
 
 ghost use Rattle.std.specs.Prelude.{◌≡◌, ◌++◌, OnOk, map};
-ghost use Rattle.cedar_json_places.specs.Mark.{marked};
-ghost use Rattle.cedar_json_places.specs.TypeMarks.{record_marks, type_marks, variant_marks};
+ghost use Rattle.cedar_json_places.specs.Words.{marked, record_marks, type_marks, variant_marks};
 
 use crate::written::{Written, WrittenAt};
 use cedar_below::{Loc, M};

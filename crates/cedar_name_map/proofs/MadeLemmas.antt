@@ -19,9 +19,7 @@ use Rattle.std.specs.declared.cmp.Ordering.TheVariants.{Equal}
 use Rattle.std.specs.declared.string.String.{String}
 use Rattle.cedar_below.proofs.Ordered.{IsStrictlySortedBy-map}
 use Rattle.cedar_below.proofs.Texts.{text_cmp-total}
-use Rattle.cedar_below.specs.Text.{Text, text_cmp}
-use Rattle.cedar_below.specs.LastNamed.{last_named}
-use Rattle.cedar_name_map.specs.ByName.{AreSortedByName, value_at, with_texts}
+use Rattle.cedar_name_map.specs.Words.{AreSortedByName, Text, last_named, text_cmp, value_at, with_texts}
 
 -- one of two, in both spellings
 cond-if : {A : Type 0} (b : Bool) (x y : A) → cond b x y ≡ (if b then x else y)

@@ -10,10 +10,9 @@ use Rattle.std.specs.declared.alloc.Global.{Global}
 use Rattle.std.specs.declared.cmp.Ordering.TheVariants.{Less, Equal, Greater}
 use Rattle.std.specs.declared.string.String.{String}
 use Rattle.cedar_below.proofs.Texts.{text_cmp-total, text_cmp-Equal}
-use Rattle.cedar_below.specs.Text.{Text, text_cmp}
+use Rattle.cedar_name_map.specs.Words.{AreSortedByName, Text, text_cmp, value_at}
 use Rattle.cedar_name_map.proofs.MadeLemmas.{value_at-cons}
 use Rattle.cedar_name_map.proofs.RisingLemmas.{AllBelow, turned, of_seen_at, seen_at-rises, missed_at}
-use Rattle.cedar_name_map.specs.ByName.{AreSortedByName, value_at}
 
 -- a text above another isn't the other
 pub above-apart : (name other : Text) → text_cmp other name ≡ Less → bytes_eq name other ≡ false

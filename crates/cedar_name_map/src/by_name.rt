@@ -1,12 +1,8 @@
 //! Values by name, in one list in the order of the names.
 
-ghost use Rattle.std.specs.Prelude.{◌≡◌, ◌&&◌, ◌++◌, Some, refl, string_bytes, string_eq, string_cmp};
+ghost use Rattle.std.specs.Prelude.{◌&&◌, ◌++◌, Some, refl, string_bytes, string_cmp, string_eq, ◌≡◌};
+ghost use Rattle.cedar_name_map.specs.FromBelow.{and-Alike, and_equiv, and_per, both_tied, hashing, items_Alike, lists_agrees, lists_equiv, lists_per, lists_po, lists_ties, lists_total, nat_list_cmp_total, nat_list_eq_equiv, on_Alike, on_equiv, on_per, on_po, on_total, ordering_then, partial_equiv_from_equiv, partial_ordering_then, pointwise, slice_cmp, slice_partial_cmp, texts_po, texts_ties, then_agrees, then_po, then_total};
 ghost use Rattle.std.specs.Hash as fed;
-ghost use Rattle.std.specs.Hash.{on_Alike, and-Alike, items_Alike};
-ghost use Rattle.std.specs.Cmp.{on_equiv, and_equiv, then_agrees, on_total, then_total, both_tied, on_per, and_per, on_po, then_po, partial_equiv_from_equiv};
-ghost use Rattle.std.specs.Cmp.Lexicographic.{pointwise, slice_cmp, slice_partial_cmp, lists_equiv, lists_agrees, lists_total, lists_ties, lists_per, lists_po, nat_list_eq_equiv, nat_list_cmp_total, texts_ties, texts_po};
-ghost use Rattle.std.specs.Cmp.Rules.{hashing};
-ghost use Rattle.std.specs.Ordering.{ordering_then, partial_ordering_then};
 ghost use Rattle.std.proofs.Common.{rules};
 ghost use Rattle.cedar_name_map.specs.ByName.{AreSortedByName, AreSortedByName-prop};
 
@@ -95,15 +91,8 @@ impl<V: Hash> Hash for ByName<V> {
 }
 
 impl<V> ByName<V> {
-    ghost use Rattle.std.specs.Prelude.{◌≡◌, ◌≢◌, ◌↔◌, IsTrue, ◌<◌, ◌≤◌, ◌^◌, ℕ, IfOk, length, get_or, string_bytes};
-    ghost use Rattle.std.specs.Option.{option_copied};
-    ghost use Rattle.std.specs.declared.alloc.Global.{Global};
-    ghost use Rattle.std.specs.declared.cmp.Ordering.TheVariants.{Less};
-    ghost use Rattle.std.specs.declared.string.String.{String};
-    ghost use Rattle.cedar_below.specs.Text.{Text, text_cmp};
-    ghost use Rattle.cedar_below.specs.LastNamed.{last_named};
-    ghost use Rattle.cedar_name_map.specs.ByName.{value_at, with_texts};
-    ghost use Rattle.cedar_name_map.specs.Entries.{entries_by_name};
+    ghost use Rattle.std.specs.Prelude.{◌<◌, IfOk, IsTrue, ◌^◌, get_or, length, string_bytes, ℕ, ◌↔◌, ◌≡◌, ◌≢◌, ◌≤◌};
+    ghost use Rattle.cedar_name_map.specs.Words.{Global, Less, String, Text, entries_by_name, last_named, option_copied, text_cmp, value_at, with_texts};
 
     /// The values of these names. Of repeated names the last wins. Out of memory is the only
     /// refusal.

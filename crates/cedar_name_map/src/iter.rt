@@ -1,9 +1,7 @@
 //! The iterators over values by name. Each is seen as the list of what it has left.
 
-ghost use Rattle.std.specs.Prelude.{◌≡◌, length};
-ghost use Rattle.std.specs.Iterator.{at_most};
-ghost use Rattle.std.specs.Map.{keys_of};
-ghost use Rattle.std.specs.Map.Iter.{TakesFirst, deref, deref_pair};
+ghost use Rattle.std.specs.Prelude.{length, ◌≡◌};
+ghost use Rattle.cedar_name_map.specs.Words.{TakesFirst, at_most, deref, deref_pair, keys_of};
 
 use std::iter::FusedIterator;
 use std::marker::Model;
@@ -16,10 +14,7 @@ pub struct Entries<'a, V> {
 }
 
 impl<'a, V> Model for Entries<'a, V> {
-    ghost use Rattle.std.specs.Prelude.{List};
-    ghost use Rattle.std.specs.Slice.Iter.{iter_rest};
-    ghost use Rattle.std.specs.declared.alloc.Global.{Global};
-    ghost use Rattle.std.specs.declared.string.String.{String};
+    ghost use Rattle.cedar_name_map.specs.Words.{Global, List, String, iter_rest};
 
     ghost Value = { List (String Global × V) };
 
@@ -64,11 +59,7 @@ pub struct Names<'a, V> {
 }
 
 impl<'a, V> Model for Names<'a, V> {
-    ghost use Rattle.std.specs.Prelude.{List};
-    ghost use Rattle.std.specs.Map.{keys_of};
-    ghost use Rattle.std.specs.Slice.Iter.{iter_rest};
-    ghost use Rattle.std.specs.declared.alloc.Global.{Global};
-    ghost use Rattle.std.specs.declared.string.String.{String};
+    ghost use Rattle.cedar_name_map.specs.Words.{Global, List, String, iter_rest, keys_of};
 
     ghost Value = { List (String Global) };
 

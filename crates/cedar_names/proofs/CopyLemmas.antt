@@ -12,20 +12,10 @@ use Rattle.std.specs.declared.boxed.Box.{Box}
 use Rattle.std.specs.declared.cmp.Ordering.TheVariants.{Greater}
 use Rattle.std.specs.declared.string.String.{String}
 use Rattle.cedar_below.proofs.Ordered.{above_front, insert_entry-end}
-use Rattle.cedar_below.specs.Lists.{HoldsPairwise}
-use Rattle.cedar_below.specs.Text.{text_cmp}
-use Rattle.cedar_below.specs.declared.loc.Loc.{Loc}
+use Rattle.cedar_names.specs.Words.{HoldsPairwise, IsAttributeCopy, IsRecordCopy, IsTypeCopy, IsVariantCopy, Loc, Locs, Plain, RecordType, Set, «Type», TypeOfAttribute, TypeVariant, attribute_locs, attribute_locs_step, flag_and_expr, fold-roll-RecordType, fold_out-RecordType, fold_out-TypeOfAttribute, members_from, out-RecordType, out-TypeOfAttribute, record_expr, record_locs, record_locs_step, roll-RecordType, set_expr, text_cmp, the_lemmas, type_locs, type_locs_step, variant_locs, variant_locs_step}
 use Rattle.cedar_names.proofs.ExprLemmas.{flag_and_expr-parts, record_type_expr-entries, record_type_expr-made}
 use Rattle.cedar_names.proofs.VariantLemmas.{type-Plain, variant-Set}
-use Rattle.cedar_names.specs.Copies.{IsAttributeCopy, IsRecordCopy, IsTypeCopy, IsVariantCopy}
-use Rattle.cedar_names.specs.Expr.{members_from, record_expr, set_expr}
-use Rattle.cedar_names.specs.TypeLocs.{Locs, attribute_locs, attribute_locs_step, record_locs, record_locs_step, type_locs, type_locs_step, variant_locs, variant_locs_step}
-use Rattle.cedar_names.specs.TypeExpr.{flag_and_expr}
-use Rattle.cedar_names.specs.declared.json_schema.type_of.RecordType.{RecordType, fold-roll-RecordType, fold_out-RecordType, out-RecordType, roll-RecordType}
-use Rattle.cedar_names.specs.declared.json_schema.type_of.Type.{«Type», Plain, the_lemmas}
 use Rattle.cedar_names.specs.declared.json_schema.type_of.Type.TheOpen as layer
-use Rattle.cedar_names.specs.declared.json_schema.type_of.TypeOfAttribute.{TypeOfAttribute, fold_out-TypeOfAttribute, out-TypeOfAttribute}
-use Rattle.cedar_names.specs.declared.json_schema.type_of.TypeVariant.{Set, TypeVariant}
 
 -- a record type that is made of attributes
 abbrev pub Made : Type 0 → Type 0

@@ -4,12 +4,8 @@ use Rattle.std.proofs.lemmas.Bool.Decides.{Decides-and, Decides-like}
 use Rattle.std.specs.Bool.{Decides}
 use Rattle.std.specs.Cmp.Lexicographic.{pointwise, bytes_decides}
 use Rattle.cedar_below.proofs.Names.{internal_name_eq-same}
-use Rattle.cedar_below.specs.InternalName.{name_of}
+use Rattle.cedar_names.specs.Words.{Common, CommonOrEntity, CommonTypeId, ConditionalName, Entity, InternalName, RawName, ReferenceType, common_type_text, name_of, possibilities_of, raw_name, reference_type_of}
 use Rattle.cedar_below.specs.contracts.internal_name.InternalNamePartialEq.TheImpl as internal_name_eq
-use Rattle.cedar_below.specs.declared.internal_name.InternalName.{InternalName}
-use Rattle.cedar_names.specs.CommonTypeId.{common_type_text}
-use Rattle.cedar_names.specs.ConditionalName.{possibilities_of, reference_type_of}
-use Rattle.cedar_names.specs.RawName.{raw_name}
 use Rattle.cedar_names.specs.contracts.json_schema.common_type_id.CommonTypeIdHash.TheImpl as common_type_id_hash
 use Rattle.cedar_names.specs.contracts.json_schema.common_type_id.CommonTypeIdPartialEq.TheImpl as common_type_id_eq
 use Rattle.cedar_names.specs.contracts.json_schema.conditional_name.ConditionalNameHash.TheImpl as conditional_name_hash
@@ -17,11 +13,6 @@ use Rattle.cedar_names.specs.contracts.json_schema.conditional_name.ConditionalN
 use Rattle.cedar_names.specs.contracts.json_schema.raw_name.RawNameHash.TheImpl as raw_name_hash
 use Rattle.cedar_names.specs.contracts.json_schema.raw_name.RawNamePartialEq.TheImpl as raw_name_eq
 use Rattle.cedar_names.specs.contracts.json_schema.reference_type.ReferenceTypePartialEq.TheImpl as reference_type_eq
-use Rattle.cedar_names.specs.declared.json_schema.common_type_id.CommonTypeId.{CommonTypeId}
-use Rattle.cedar_names.specs.declared.json_schema.conditional_name.ConditionalName.{ConditionalName}
-use Rattle.cedar_names.specs.declared.json_schema.raw_name.RawName.{RawName}
-use Rattle.cedar_names.specs.declared.json_schema.reference_type.ReferenceType.{ReferenceType}
-use Rattle.cedar_names.specs.declared.json_schema.reference_type.ReferenceType.TheVariants.{Common, Entity, CommonOrEntity}
 
 -- lists of names are equal exactly where they stand for the same names in order
 pub internal_names-Decides : (xs ys : List InternalName) → Decides (pointwise (internal_name_eq.ghosts).eq xs ys)

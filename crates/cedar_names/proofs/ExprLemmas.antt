@@ -1,19 +1,8 @@
 -- What written types and their attributes stand for.
 use Rattle.std.proofs.Common.{◌≡◌, Bool, ap, ◌∙◌, map, Option, string_bytes}
 use Rattle.std.proofs.lemmas.Simd.{map-map}
-use Rattle.cedar_below.specs.PlainName.{PlainName}
-use Rattle.cedar_names.specs.Expr.{Expr, record_expr, members_from}
-use Rattle.cedar_names.specs.PlainMembers.{plain_members}
-use Rattle.cedar_names.specs.RawExpr.{raw_reference, raw_expr, raw_record, raw_attribute}
-use Rattle.cedar_names.specs.Reference.{Reference}
-use Rattle.cedar_names.specs.TypeExpr.{type_step, variant_step, record_step, attribute_step, type_expr, record_type_expr, flag_and_expr}
-use Rattle.cedar_names.specs.declared.json_schema.raw_name.RawName.{RawName}
-use Rattle.cedar_names.specs.declared.json_schema.reference_type.ReferenceType.{ReferenceType}
-use Rattle.cedar_names.specs.declared.json_schema.type_of.RecordType.{RecordType, out-RecordType, roll-RecordType, fold_out-RecordType, fold-roll-RecordType}
-use Rattle.cedar_names.specs.declared.json_schema.type_of.Type.{«Type»}
+use Rattle.cedar_names.specs.Words.{Expr, PlainName, RawName, RecordType, Reference, ReferenceType, «Type», TypeOfAttribute, TypeVariant, attribute_step, flag_and_expr, fold-roll-RecordType, fold_out-RecordType, fold_out-TypeOfAttribute, members_from, out-RecordType, out-TypeOfAttribute, plain_members, raw_attribute, raw_expr, raw_record, raw_reference, record_expr, record_step, record_type_expr, roll-RecordType, type_expr, type_step, variant_step}
 use Rattle.cedar_names.specs.declared.json_schema.type_of.Type.TheOpen as layer
-use Rattle.cedar_names.specs.declared.json_schema.type_of.TypeVariant.{TypeVariant}
-use Rattle.cedar_names.specs.declared.json_schema.type_of.TypeOfAttribute.{TypeOfAttribute, out-TypeOfAttribute, fold_out-TypeOfAttribute}
 
 module _ (N : Type 0) (refer : ReferenceType → N → Reference) where
   -- a record type stands for what its entries do

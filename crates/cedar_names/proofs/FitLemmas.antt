@@ -3,11 +3,7 @@ use Rattle.std.proofs.Common.{◌≡◌, Bool, List, ◌∷◌, map, ap, sym, �
 use Rattle.std.specs.declared.alloc.Global.{Global}
 use Rattle.std.specs.declared.string.String.{String}
 use Rattle.cedar_names.proofs.ExprLemmas.{record_type_expr-entries, flag_and_expr-parts}
-use Rattle.cedar_names.specs.ConditionalExpr.{own_reference, positional_reference, conditional_expr, conditional_record, conditional_attribute, positional_expr, positional_record, positional_attribute, ReferencesFit}
-use Rattle.cedar_names.specs.Expr.{Expr, Members, members_from, record_expr, member}
-use Rattle.cedar_names.specs.declared.json_schema.conditional_name.ConditionalName.{ConditionalName}
-use Rattle.cedar_names.specs.declared.json_schema.type_of.RecordType.{RecordType, out-RecordType}
-use Rattle.cedar_names.specs.declared.json_schema.type_of.TypeOfAttribute.{TypeOfAttribute, out-TypeOfAttribute}
+use Rattle.cedar_names.specs.Words.{ConditionalName, Expr, Members, RecordType, ReferencesFit, TypeOfAttribute, conditional_attribute, conditional_expr, conditional_record, member, members_from, out-RecordType, out-TypeOfAttribute, own_reference, positional_attribute, positional_expr, positional_record, positional_reference, record_expr}
 
 -- the entries of a record type
 abbrev Entries : Type 0

@@ -4,12 +4,7 @@ use Rattle.std.proofs.lemmas.Simd.{map-map}
 use Rattle.std.specs.declared.alloc.Global.{Global}
 use Rattle.std.specs.declared.boxed.Box.{Box}
 use Rattle.std.specs.declared.string.String.{String}
-use Rattle.cedar_below.specs.declared.loc.Loc.{Loc}
-use Rattle.cedar_names.specs.Nesting.{attribute_nesting, attribute_nesting_step, greatest, record_nesting, record_nesting_step, type_nesting, type_nesting_step, variant_nesting, variant_nesting_step}
-use Rattle.cedar_names.specs.declared.json_schema.type_of.RecordType.{RecordType, fold_out-RecordType, out-RecordType}
-use Rattle.cedar_names.specs.declared.json_schema.type_of.Type.{«Type», Plain, CommonTypeRef, the_lemmas}
-use Rattle.cedar_names.specs.declared.json_schema.type_of.TypeOfAttribute.{TypeOfAttribute, fold_out-TypeOfAttribute, out-TypeOfAttribute}
-use Rattle.cedar_names.specs.declared.json_schema.type_of.TypeVariant.{TypeVariant, Set, Record}
+use Rattle.cedar_names.specs.Words.{CommonTypeRef, Loc, Plain, Record, RecordType, Set, «Type», TypeOfAttribute, TypeVariant, attribute_nesting, attribute_nesting_step, fold_out-RecordType, fold_out-TypeOfAttribute, greatest, out-RecordType, out-TypeOfAttribute, record_nesting, record_nesting_step, the_lemmas, type_nesting, type_nesting_step, variant_nesting, variant_nesting_step}
 
 module _ (N : Type 0) where
   -- a type variant is as deep as itself, wherever it was written

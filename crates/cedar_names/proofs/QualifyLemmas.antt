@@ -3,20 +3,10 @@ use Rattle.std.proofs.Common.{◌≡◌, Bool, List, map, ap, sym, ◌∙◌, Op
 use Rattle.std.proofs.lemmas.Simd.{map-map}
 use Rattle.std.specs.declared.alloc.Global.{Global}
 use Rattle.std.specs.declared.string.String.{String}
-use Rattle.cedar_below.specs.PlainName.{PlainName}
-use Rattle.cedar_below.specs.Text.{Text}
+use Rattle.cedar_names.specs.Words.{ConditionalName, Expr, PlainName, RawName, RecordType, Text, «Type», TypeOfAttribute, TypeVariant, conditional_attribute, conditional_expr, conditional_record, members_from, out-RecordType, out-TypeOfAttribute, own_reference, positional_attribute, positional_expr, positional_record, positional_reference, raw_attribute, raw_expr, raw_record, record_expr, roll-RecordType}
 use Rattle.cedar_names.proofs.Converted.{seen_by}
 use Rattle.cedar_names.proofs.ExprLemmas.{record_type_expr-made, flag_and_expr-parts, raw_record-entries, raw_attribute-parts}
-use Rattle.cedar_names.specs.ConditionalExpr.{own_reference, positional_reference, conditional_expr, conditional_record, conditional_attribute, positional_expr, positional_record, positional_attribute}
-use Rattle.cedar_names.specs.Expr.{Expr, members_from, record_expr}
-use Rattle.cedar_names.specs.RawExpr.{raw_expr, raw_record, raw_attribute}
-use Rattle.cedar_names.specs.declared.json_schema.conditional_name.ConditionalName.{ConditionalName}
-use Rattle.cedar_names.specs.declared.json_schema.raw_name.RawName.{RawName}
-use Rattle.cedar_names.specs.declared.json_schema.type_of.RecordType.{RecordType, out-RecordType, roll-RecordType}
-use Rattle.cedar_names.specs.declared.json_schema.type_of.Type.{«Type»}
 use Rattle.cedar_names.specs.declared.json_schema.type_of.Type.TheOpen as layer
-use Rattle.cedar_names.specs.declared.json_schema.type_of.TypeVariant.{TypeVariant}
-use Rattle.cedar_names.specs.declared.json_schema.type_of.TypeOfAttribute.{TypeOfAttribute, out-TypeOfAttribute}
 
 -- what an attribute stands for, by what its references say themselves and by what their places permit
 abbrev pub both_ways : TypeOfAttribute ConditionalName → (Bool × Expr) × (Bool × Expr)

@@ -1,7 +1,6 @@
 -- The words that name types of Cedar's own.
 use Rattle.std.proofs.Common.{◌≡◌, ◌⊎◌, codes, inl, inr, lit<, sym}
-use Rattle.cedar_below.specs.Text.{Text}
-use Rattle.cedar_names.specs.ReservedTypeWord.{IsReservedTypeWord}
+use Rattle.cedar_names.specs.Words.{IsReservedTypeWord, Text}
 
 -- a text that is one of the eight words is reserved
 pub reserved_from_cases : (text : Text) →

@@ -2,21 +2,9 @@
 use Rattle.std.proofs.Common.{◌≡◌, Option, rules}
 use Rattle.std.specs.declared.alloc.Global.{Global}
 use Rattle.std.specs.declared.boxed.Box.{Box}
-use Rattle.cedar_below.specs.PlainName.{PlainName}
-use Rattle.cedar_below.specs.UnreservedId.{unreserved_id_text}
-use Rattle.cedar_below.specs.declared.loc.Loc.{Loc}
-use Rattle.cedar_below.specs.declared.unreserved_id.UnreservedId.{UnreservedId}
-use Rattle.cedar_names.specs.Expr.{text_expr, long_expr, truth_expr, set_expr, named, extension_expr}
-use Rattle.cedar_names.specs.RawExpr.{raw_reference, raw_expr, raw_variant, raw_record}
-use Rattle.cedar_names.specs.RawName.{raw_name}
-use Rattle.cedar_names.specs.Reference.{Reference, reference_to}
-use Rattle.cedar_names.specs.TypeExpr.{type_expr, variant_expr, record_type_expr}
-use Rattle.cedar_names.specs.declared.json_schema.raw_name.RawName.{RawName}
-use Rattle.cedar_names.specs.declared.json_schema.reference_type.ReferenceType.{ReferenceType}
+use Rattle.cedar_names.specs.Words.{Boolean, CommonTypeRef, EntityOrCommon, Extension, Loc, Long, Plain, PlainName, RawName, Record, RecordType, Reference, ReferenceType, Set, String, «Type», TypeVariant, UnreservedId, extension_expr, long_expr, named, raw_expr, raw_name, raw_record, raw_reference, raw_variant, record_type_expr, reference_to, set_expr, text_expr, the_lemmas, truth_expr, type_expr, unreserved_id_text, variant_expr}
 use Rattle.cedar_names.specs.declared.json_schema.reference_type.ReferenceType.TheVariants.{Common as common, Entity as entity, CommonOrEntity as common_or_entity}
-use Rattle.cedar_names.specs.declared.json_schema.type_of.RecordType.{RecordType}
-use Rattle.cedar_names.specs.declared.json_schema.type_of.Type.{«Type», Plain, CommonTypeRef, the_lemmas}
-use Rattle.cedar_names.specs.declared.json_schema.type_of.TypeVariant.{TypeVariant, String, Long, Boolean, Set, Record, Entity, EntityOrCommon, Extension}
+use Rattle.cedar_names.specs.declared.json_schema.type_of.TypeVariant.{Entity}
 
 module _ (N : Type 0) (refer : ReferenceType → N → Reference) where
   -- what the type of texts stands for

@@ -1,8 +1,7 @@
 use Rattle.std.specs.Prelude.{◌≡◌}
-use Rattle.cedar_below.specs.EntityType.{type_loc, type_name}
-use Rattle.cedar_below.specs.InternalName.{name_loc, name_of}
 use Rattle.cedar_below.specs.declared.entity_type.EntityType.{EntityType}
 use Rattle.cedar_below.specs.declared.internal_name.InternalName.{InternalName}
+use Rattle.cedar_below.specs.Words.{name_loc, name_of, type_loc, type_name}
 use Rattle.cedar_names.specs.ConditionalName.{possibilities_of, possibility_locs, reference_type_of}
 use Rattle.cedar_names.specs.RawName.{raw_loc, raw_name}
 use Rattle.cedar_names.specs.Reference.{Reference}

@@ -2,13 +2,7 @@ use Rattle.std.specs.Prelude.{◌≡◌, List, Option, map, string_bytes}
 use Rattle.std.specs.BTreeMap.{BTreeMap}
 use Rattle.std.specs.declared.alloc.Global.{Global}
 use Rattle.std.specs.declared.string.String.{String}
-use Rattle.cedar_below.specs.Eid.{eid_text}
-use Rattle.cedar_below.specs.Lists.{HoldsOfBoth, HoldsPairwise}
-use Rattle.cedar_below.specs.Name.{plain_loc, plain_name}
-use Rattle.cedar_below.specs.NonEmpty.{items_of}
-use Rattle.cedar_below.specs.RestrictedExpr.{tree_of}
-use Rattle.cedar_below.specs.UnreservedId.{unreserved_id_text}
-use Rattle.cedar_below.specs.Value.{value_expr}
+use Rattle.cedar_below.specs.Words.{HoldsOfBoth, HoldsPairwise, eid_text, items_of, plain_loc, plain_name, tree_of, unreserved_id_text, value_expr}
 use Rattle.cedar_below.specs.declared.name.Name.{Name}
 use Rattle.cedar_below.specs.declared.unreserved_id.UnreservedId.{UnreservedId}
 use Rattle.cedar_below.specs.declared.value.Value.{Value}

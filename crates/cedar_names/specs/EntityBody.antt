@@ -1,8 +1,6 @@
 use Rattle.std.specs.Prelude.{Bool, true, false, List, [], ◌∷◌, map, Option}
 use Rattle.std.specs.Option.{option_map}
-use Rattle.cedar_below.specs.Eid.{eid_text}
-use Rattle.cedar_below.specs.PlainName.{PlainName}
-use Rattle.cedar_below.specs.Text.{Text}
+use Rattle.cedar_below.specs.Words.{PlainName, Text, eid_text}
 use Rattle.cedar_names.specs.Expr.{Expr}
 use Rattle.cedar_names.specs.RawExpr.{raw_reference}
 use Rattle.cedar_names.specs.Reference.{Reference}

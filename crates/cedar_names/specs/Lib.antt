@@ -18,3 +18,4 @@ pub mod ReferenceText
 pub mod ReservedTypeWord
 pub mod TypeExpr
 pub mod TypeLocs
+pub mod Words

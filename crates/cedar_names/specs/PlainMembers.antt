@@ -1,8 +1,7 @@
 use Rattle.std.specs.Prelude.{Bool, List, map, Option, string_bytes}
 use Rattle.std.specs.declared.alloc.Global.{Global}
 use Rattle.std.specs.declared.string.String.{String}
-use Rattle.cedar_below.specs.PlainName.{PlainName}
-use Rattle.cedar_below.specs.Text.{Text}
+use Rattle.cedar_below.specs.Words.{PlainName, Text}
 use Rattle.cedar_names.specs.Expr.{Expr}
 use Rattle.cedar_names.specs.RawExpr.{raw_attribute}
 use Rattle.cedar_names.specs.declared.json_schema.raw_name.RawName.{RawName}

@@ -2,8 +2,7 @@ use Rattle.std.specs.Prelude.{Option, List, ◌∷◌, map}
 use Rattle.cedar_below.specs.declared.internal_name.InternalName.{InternalName}
 use Rattle.cedar_below.specs.declared.loc.Loc.{Loc}
 use Rattle.cedar_below.specs.declared.non_empty.NonEmpty.{NonEmpty}
-use Rattle.cedar_below.specs.InternalName.{name_of, name_loc}
-use Rattle.cedar_below.specs.PlainName.{PlainName}
+use Rattle.cedar_below.specs.Words.{PlainName, name_loc, name_of}
 
 -- what the names of a list stand for, in order
 abbrev pub names_of : NonEmpty InternalName → List PlainName

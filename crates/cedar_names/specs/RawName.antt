@@ -1,7 +1,6 @@
 use Rattle.std.specs.Prelude.{Option}
 use Rattle.cedar_below.specs.declared.loc.Loc.{Loc}
-use Rattle.cedar_below.specs.InternalName.{name_of, name_loc}
-use Rattle.cedar_below.specs.PlainName.{PlainName}
+use Rattle.cedar_below.specs.Words.{PlainName, name_loc, name_of}
 use Rattle.cedar_names.specs.declared.json_schema.raw_name.RawName.{RawName}
 
 -- the name that was written; its location is no part of it

@@ -1,9 +1,5 @@
 use Rattle.std.specs.Prelude.{List, Option, None, Some, ◌++◌, codes, map}
-use Rattle.cedar_below.specs.Joined.{joined}
-use Rattle.cedar_below.specs.NonEmpty.{items_of}
-use Rattle.cedar_below.specs.PlainName.{PlainName, name_text}
-use Rattle.cedar_below.specs.Text.{Text}
-use Rattle.cedar_below.specs.UidText.{quoted_text}
+use Rattle.cedar_below.specs.Words.{PlainName, Text, items_of, joined, name_text, quoted_text}
 use Rattle.cedar_names.specs.ConditionalName.{conditional_reference}
 use Rattle.cedar_names.specs.declared.json_schema.qualify_error.QualifyError.{QualifyError}
 use Rattle.cedar_names.specs.declared.json_schema.qualify_error.QualifyError.TheVariants as qualify

@@ -3,11 +3,7 @@
 ghost use Rattle.std.specs.Prelude.{◌≡◌, ◌↔◌, IsTrue};
 ghost use Rattle.std.specs.Cmp.Lexicographic.{slice_cmp};
 ghost use Rattle.std.specs.Ordering.{nat_cmp};
-ghost use Rattle.cedar_below.specs.FeedsVariant.{FeedsVariantFirst};
-ghost use Rattle.cedar_names.specs.CommonTypeId.{common_type_text};
-ghost use Rattle.cedar_names.specs.ConditionalName.{possibilities_of, reference_type_of};
-ghost use Rattle.cedar_names.specs.RawName.{raw_name};
-ghost use Rattle.cedar_names.specs.declared.json_schema.reference_type.ReferenceType.{ReferenceType};
+ghost use Rattle.cedar_names.specs.Words.{FeedsVariantFirst, ReferenceType, common_type_text, possibilities_of, raw_name, reference_type_of};
 
 use crate::json_schema::{CommonTypeId, ConditionalName, RawName, ReferenceType};
 use std::hash::Hash;

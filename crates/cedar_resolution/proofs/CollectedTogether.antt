@@ -3,20 +3,8 @@ use Rattle.std.proofs.Common.{◌≡◌, List, [], ◌∷◌, ◌++◌, ap, sym,
 use Rattle.std.proofs.lemmas.Grind.{flat_map-append}
 use Rattle.std.proofs.lemmas.List.{append-nil}
 use Rattle.std.specs.List.{flat_map}
-use Rattle.cedar_below.specs.declared.entity_type.EntityType.{EntityType}
-use Rattle.cedar_below.specs.declared.internal_name.InternalName.{InternalName}
-use Rattle.cedar_declarations.specs.Bag.{Bag, declared_common, declared_entities, declared_actions}
-use Rattle.cedar_declarations.specs.ResolvedExpr.{resolved_reference}
+use Rattle.cedar_resolution.specs.Words.{ActionsDef, Bag, CollectsAlso, CommonTypeDefs, Declaration, Declarations, EntityType, EntityTypesDef, InternalName, action_fragment_declarations, collected_actions, collected_common, collected_entities, common_type_declarations, declared_actions, declared_common, declared_entities, entity_type_declarations, resolved_action_type, resolved_reference}
 use Rattle.cedar_fragments.proofs.DeclaredParts.{common_of_three, entities_of_three, actions_of_three}
-use Rattle.cedar_fragments.specs.ActionDeclarations.{action_fragment_declarations}
-use Rattle.cedar_fragments.specs.FragmentDeclarations.{resolved_action_type}
-use Rattle.cedar_fragments.specs.TypeDeclarations.{common_type_declarations, entity_type_declarations}
-use Rattle.cedar_fragments.specs.declared.namespace.actions.ActionsDef.{ActionsDef}
-use Rattle.cedar_fragments.specs.declared.namespace.common_types.CommonTypeDefs.{CommonTypeDefs}
-use Rattle.cedar_fragments.specs.declared.namespace.entity_types.EntityTypesDef.{EntityTypesDef}
-use Rattle.cedar_resolution.specs.Collected.{collected_common, collected_entities, collected_actions, CollectsAlso}
-use Rattle.cedar_resolution.specs.declared.declarations.Declarations.{Declarations}
-use Rattle.cedar_names.specs.Declaration.{Declaration}
 
 -- what was collected so far and what a bag declares that is left are together what was collected before and what a
 -- whole bag declares

@@ -4,21 +4,9 @@ use Rattle.std.proofs.lemmas.List.{map-append}
 use Rattle.std.proofs.lemmas.List.Elements.{Contains-append_left, Contains-append_right, Contains-append_cases}
 use Rattle.std.specs.List.{filter}
 use Rattle.cedar_below.proofs.Lists.{Contains-preimage}
-use Rattle.cedar_below.specs.Lists.{SameItems}
-use Rattle.cedar_below.specs.PlainName.{PlainName}
-use Rattle.cedar_below.specs.PlainUid.{PlainUid}
-use Rattle.cedar_below.specs.Text.{Text}
-use Rattle.cedar_below.specs.declared.extension.Extensions.{Extensions}
+use Rattle.cedar_resolution.specs.Words.{AreTheDeclaredNames, Bag, Expr, Extensions, Fault, HasAlso, HoldsJust, IsFault, IsShadowing, Names, NoActionShadows, NoTypeShadows, PlainName, PlainUid, SameItems, Text, action_shadowing, action_uids, alias_name, aliases, built_in_types, built_ins, declared_common, declared_entities, declared_types, defined_names, free_aliases, type_names, type_shadowing}
 use Rattle.cedar_declarations.proofs.OccurrenceLemmas.{Contains-image}
-use Rattle.cedar_declarations.specs.Bag.{Bag, declared_common, declared_entities, declared_types, action_uids, built_in_types, alias_name, built_ins, aliases, defined_names}
-use Rattle.cedar_declarations.specs.Fault.{Fault, type_shadowing, action_shadowing}
-use Rattle.cedar_declarations.specs.IllFormed.{IsFault}
-use Rattle.cedar_declarations.specs.Names.{Names}
-use Rattle.cedar_fragments.specs.HeldNames.{HasAlso, HoldsJust, AreTheDeclaredNames}
-use Rattle.cedar_fragments.specs.ShadowedNames.{type_names, IsShadowing, NoTypeShadows, NoActionShadows}
-use Rattle.cedar_names.specs.Expr.{Expr}
 use Rattle.cedar_resolution.proofs.TakenNames.{taken_same}
-use Rattle.cedar_resolution.specs.BuiltIn.{free_aliases}
 
 -- lists with the same items, after one another
 SameItems-append : {A : Type 0} (xs ys xs' ys' : List A) → SameItems xs ys → SameItems xs' ys'

@@ -2,33 +2,10 @@
 use Rattle.std.proofs.Common.{◌≡◌, ◌⊎◌, List, ◌++◌, map, Option, Some, None, ap, sym, refl, inl, inr, arith, Contains}
 use Rattle.std.proofs.lemmas.List.Elements.{Contains-append_cases}
 use Rattle.cedar_below.proofs.Lists.{Contains-preimage}
-use Rattle.cedar_below.specs.EntityType.{type_name}
-use Rattle.cedar_below.specs.EntityUID.{uid_of}
-use Rattle.cedar_below.specs.PlainName.{PlainName, IsReserved}
-use Rattle.cedar_below.specs.PlainUid.{PlainUid}
-use Rattle.cedar_below.specs.declared.extension.Extensions.{Extensions}
+use Rattle.cedar_resolution.specs.Words.{ActionReference, ActionRequests, Bag, Body, ConditionalName, Entity, Extensions, Fault, HoldsJust, IsActionParent, IsAnyParent, IsFault, IsParentIn, IsPrincipalOrResource, IsRequested, IsReserved, IsUnresolvableBag, Names, PlainName, PlainUid, Reference, ResolvesTo, ValidatorNamespaceDef, ValidatorSchemaFragment, action, action_fragment_declarations, action_in, action_not_defined, action_uids, common_type_declarations, conditional_bag, conditional_definition, conditional_fragment, declared_entities, declared_names, declared_uid, defined_names, definition_names, entity_type_declarations, fragment_names, fragment_requests, out_of_memory, positional_reference, reserved_name, type_name, type_not_defined, uid_of}
 use Rattle.cedar_declarations.proofs.OccurrenceLemmas.{Contains-flat_map, Contains-given}
 use Rattle.cedar_declarations.proofs.ResolutionLemmas.{first_defined, names_no_common}
-use Rattle.cedar_declarations.specs.Bag.{Bag, declared_uid, declared_entities, action_in, action_uids, defined_names}
-use Rattle.cedar_declarations.specs.Counted.{IsPrincipalOrResource}
-use Rattle.cedar_declarations.specs.Fault.{Fault, type_not_defined, action_not_defined, reserved_name, out_of_memory}
-use Rattle.cedar_declarations.specs.IllFormed.{IsFault}
-use Rattle.cedar_declarations.specs.Names.{Names, ResolvesTo}
-use Rattle.cedar_declarations.specs.Together.{IsActionParent}
 use Rattle.cedar_fragments.proofs.DeclaredNames.{names_are_declared}
-use Rattle.cedar_fragments.specs.ActionDeclarations.{fragment_requests, action_fragment_declarations}
-use Rattle.cedar_fragments.specs.FragmentDeclarations.{conditional_definition, conditional_fragment, conditional_bag}
-use Rattle.cedar_fragments.specs.HeldNames.{definition_names, fragment_names, declared_names, HoldsJust}
-use Rattle.cedar_fragments.specs.QualifyFault.{IsParentIn, IsAnyParent, IsRequested, IsUnresolvableBag}
-use Rattle.cedar_fragments.specs.TypeDeclarations.{common_type_declarations, entity_type_declarations}
-use Rattle.cedar_fragments.specs.declared.namespace.actions.ActionRequests.{ActionRequests}
-use Rattle.cedar_fragments.specs.declared.namespace.definition.ValidatorNamespaceDef.{ValidatorNamespaceDef}
-use Rattle.cedar_fragments.specs.declared.namespace.fragment.ValidatorSchemaFragment.{ValidatorSchemaFragment}
-use Rattle.cedar_names.specs.ConditionalExpr.{positional_reference}
-use Rattle.cedar_names.specs.Declaration.{Body, action}
-use Rattle.cedar_names.specs.Reference.{Reference, ActionReference}
-use Rattle.cedar_names.specs.declared.json_schema.conditional_name.ConditionalName.{ConditionalName}
-use Rattle.cedar_names.specs.declared.json_schema.reference_type.ReferenceType.TheVariants.{Entity}
 use Rattle.cedar_resolution.proofs.SameNames.{unresolved_alike, no_action_alike, defined_there}
 
 -- a parent of some action is one of an action of a uid

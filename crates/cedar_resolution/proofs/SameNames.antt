@@ -1,19 +1,8 @@
 -- Over the same names, whatever their order and repeats, references and bags are resolved alike.
 use Rattle.std.proofs.Common.{Option, Some, None, inl, inr, Contains}
-use Rattle.cedar_below.specs.PlainName.{PlainName}
-use Rattle.cedar_below.specs.PlainUid.{PlainUid}
+use Rattle.cedar_resolution.specs.Words.{ActionReference, Bag, Body, EntityBody, Expr, HoldsJust, IsDefined, IsUnresolved, Members, Names, NamesAction, NamesNoAction, PlainName, PlainUid, Reference, ReferenceType, Requests, Resolves, ResolvesBag, ResolvesBody, ResolvesDeclaration, ResolvesEntityBody, ResolvesMembers, ResolvesParent, ResolvesReference, ResolvesRequests, ResolvesTags, ResolvesTo, action, common_type, elsewhere, entity_type, enumerated, external, requests, resolves_extension, resolves_long, resolves_member, resolves_named, resolves_no_member, resolves_record, resolves_set, resolves_text, resolves_truth, standard}
 use Rattle.cedar_declarations.proofs.ResolutionLemmas.{IsFirst-like}
 use Rattle.cedar_below.proofs.TurnLemmas.{turn_weaker}
-use Rattle.cedar_declarations.specs.Bag.{Bag}
-use Rattle.cedar_declarations.specs.Names.{Names, IsDefined, ResolvesTo, IsUnresolved, NamesAction, NamesNoAction}
-use Rattle.cedar_declarations.specs.Resolved.{ResolvesReference, Resolves, ResolvesMembers, resolves_text, resolves_long, resolves_truth, resolves_set, resolves_record, resolves_named, resolves_extension, resolves_no_member, resolves_member, ResolvesTags, ResolvesEntityBody, ResolvesParent, ResolvesRequests, ResolvesBody, ResolvesDeclaration, ResolvesBag}
-use Rattle.cedar_fragments.specs.HeldNames.{HoldsJust}
-use Rattle.cedar_names.specs.ActionBody.{Requests, requests, elsewhere}
-use Rattle.cedar_names.specs.Declaration.{Body, common_type, entity_type, action}
-use Rattle.cedar_names.specs.EntityBody.{EntityBody, standard, enumerated, external}
-use Rattle.cedar_names.specs.Expr.{Expr, Members}
-use Rattle.cedar_names.specs.Reference.{Reference, ActionReference}
-use Rattle.cedar_names.specs.declared.json_schema.reference_type.ReferenceType.{ReferenceType}
 
 module _ (held names : Names) (just : HoldsJust held names) where
   -- what is defined in the one is in the other

@@ -2,13 +2,10 @@
 use Rattle.std.specs.Prelude.{Bool, not, List, map}
 use Rattle.std.specs.List.{filter, list_any}
 use Rattle.std.specs.Ordering.{is_eq}
-use Rattle.cedar_below.specs.Id.{id_text}
-use Rattle.cedar_below.specs.PlainName.{PlainName, name_cmp}
-use Rattle.cedar_below.specs.Text.{Text}
+use Rattle.cedar_below.specs.Words.{PlainName, Text, id_text, name_cmp}
 use Rattle.cedar_below.specs.declared.id.Id.{Id}
 use Rattle.cedar_below.specs.declared.internal_name.InternalName.{InternalName}
-use Rattle.cedar_declarations.specs.Bag.{alias_name}
-use Rattle.cedar_declarations.specs.ResolvedExpr.{resolved_expr}
+use Rattle.cedar_declarations.specs.Words.{alias_name, resolved_expr}
 use Rattle.cedar_names.specs.Expr.{Expr}
 use Rattle.cedar_names.specs.declared.json_schema.type_of.Type.{«Type»}
 

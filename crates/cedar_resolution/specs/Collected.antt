@@ -1,25 +1,16 @@
 use Rattle.std.specs.Prelude.{◌≡◌, List, ◌++◌, map}
 use Rattle.std.specs.List.{flat_map}
-use Rattle.cedar_below.specs.EntityType.{type_name}
-use Rattle.cedar_below.specs.EntityUID.{uid_of}
-use Rattle.cedar_below.specs.InternalName.{name_of}
-use Rattle.cedar_below.specs.PlainName.{PlainName}
-use Rattle.cedar_below.specs.PlainUid.{PlainUid}
+use Rattle.cedar_below.specs.Words.{PlainName, PlainUid, name_of, type_name, uid_of}
 use Rattle.cedar_below.specs.declared.entity_type.EntityType.{EntityType}
 use Rattle.cedar_below.specs.declared.entity_uid.EntityUID.{EntityUID}
 use Rattle.cedar_below.specs.declared.internal_name.InternalName.{InternalName}
-use Rattle.cedar_declarations.specs.Bag.{Bag, declared_common, declared_entities, declared_actions}
-use Rattle.cedar_declarations.specs.ResolvedExpr.{resolved_reference, resolved_expr}
-use Rattle.cedar_fragments.specs.ActionDeclarations.{action_fragment_body}
-use Rattle.cedar_fragments.specs.FragmentDeclarations.{resolved_action_type, resolved_fragment}
-use Rattle.cedar_fragments.specs.TypeDeclarations.{fragment_body}
+use Rattle.cedar_declarations.specs.Words.{Bag, declared_actions, declared_common, declared_entities, resolved_expr, resolved_reference}
+use Rattle.cedar_fragments.specs.Words.{action_fragment_body, fragment_body, resolved_action_type, resolved_fragment}
 use Rattle.cedar_fragments.specs.declared.namespace.actions.ActionFragment.{ActionFragment}
 use Rattle.cedar_fragments.specs.declared.namespace.entity_types.EntityTypeFragment.{EntityTypeFragment}
 use Rattle.cedar_fragments.specs.declared.namespace.fragment.ValidatorSchemaFragment.{ValidatorSchemaFragment}
 use Rattle.cedar_resolution.specs.declared.declarations.Declarations.{Declarations}
-use Rattle.cedar_names.specs.ActionBody.{ActionBody}
-use Rattle.cedar_names.specs.EntityBody.{EntityBody}
-use Rattle.cedar_names.specs.Expr.{Expr}
+use Rattle.cedar_names.specs.Words.{ActionBody, EntityBody, Expr}
 use Rattle.cedar_names.specs.declared.json_schema.type_of.Type.{«Type»}
 
 -- what some common types stand for: each full name with the expression that it is defined as

@@ -1,2 +1,3 @@
 pub mod BuiltIn
 pub mod Collected
+pub mod Words

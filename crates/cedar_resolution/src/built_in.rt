@@ -1,16 +1,7 @@
 //! The built-in types and their aliases.
 
 ghost use Rattle.std.specs.Prelude.{if◌then◌else◌, ◌≡◌, ◌↔◌, ◌++◌, [], ◌∷◌, Contains, IfOk, IsTrue, OnOk, map};
-ghost use Rattle.cedar_below.specs.Id.{id_text};
-ghost use Rattle.cedar_below.specs.InternalName.{name_of};
-ghost use Rattle.cedar_below.specs.Name.{plain_name};
-ghost use Rattle.cedar_declarations.specs.Bag.{built_in_name, built_in_types, built_ins};
-ghost use Rattle.cedar_declarations.specs.ResolvedExpr.{resolved_expr, resolved_variant};
-ghost use Rattle.cedar_fragments.specs.HeldNames.{held_names};
-ghost use Rattle.cedar_fragments.specs.ShadowedNames.{type_names};
-ghost use Rattle.cedar_names.specs.Expr.{extension_expr};
-ghost use Rattle.cedar_resolution.specs.BuiltIn.{free_aliases, named_types};
-ghost use Rattle.cedar_resolution.specs.Collected.{collected_common};
+ghost use Rattle.cedar_resolution.specs.Words.{built_in_name, built_in_types, built_ins, collected_common, extension_expr, free_aliases, held_names, id_text, name_of, named_types, plain_name, resolved_expr, resolved_variant, type_names};
 
 use cedar_below::{Extensions, Id, InternalName, M, Name, UnreservedId, identifier};
 use cedar_fragments::defs::AllDefs;

@@ -3,12 +3,7 @@
 ghost use Rattle.std.specs.Prelude.{◌≡◌, ◌++◌, [], IfOk};
 ghost use Rattle.cedar_below.specs.declared.entity_type.EntityType.{EntityType as ActionEntityType};
 ghost use Rattle.cedar_below.specs.declared.internal_name.InternalName.{InternalName as Full};
-ghost use Rattle.cedar_declarations.specs.Bag.{declared_common, declared_entities, declared_actions};
-ghost use Rattle.cedar_declarations.specs.ResolvedExpr.{resolved_reference};
-ghost use Rattle.cedar_fragments.specs.ActionDeclarations.{action_fragment_declarations};
-ghost use Rattle.cedar_fragments.specs.FragmentDeclarations.{resolved_action_type, resolved_definition, resolved_fragment};
-ghost use Rattle.cedar_fragments.specs.TypeDeclarations.{common_type_declarations, entity_type_declarations};
-ghost use Rattle.cedar_resolution.specs.Collected.{collected_common, collected_entities, collected_actions, resolved_bag, CollectsAlso};
+ghost use Rattle.cedar_resolution.specs.Words.{CollectsAlso, action_fragment_declarations, collected_actions, collected_common, collected_entities, common_type_declarations, declared_actions, declared_common, declared_entities, entity_type_declarations, resolved_action_type, resolved_bag, resolved_definition, resolved_fragment, resolved_reference};
 
 use crate::declarations::Declarations;
 use cedar_below::{EntityType, EntityUID, InternalName, M};

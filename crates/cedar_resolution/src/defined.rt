@@ -1,16 +1,7 @@
 //! The names that fragments define.
 
 ghost use Rattle.std.specs.Prelude.{◌≡◌, ◌⊎◌, ◌++◌, IfOk, IfErr, OnOk, map};
-ghost use Rattle.cedar_below.specs.InternalName.{name_of};
-ghost use Rattle.cedar_below.specs.PlainName.{PlainName};
-ghost use Rattle.cedar_below.specs.PlainUid.{PlainUid};
-ghost use Rattle.cedar_declarations.specs.Bag.{aliases, built_ins, defined_names};
-ghost use Rattle.cedar_declarations.specs.Fault.{out_of_memory, type_shadowing, action_shadowing};
-ghost use Rattle.cedar_declarations.specs.IllFormed.{IsFault};
-ghost use Rattle.cedar_declarations.specs.SchemaError.{fault_of};
-ghost use Rattle.cedar_fragments.specs.FragmentDeclarations.{conditional_bag};
-ghost use Rattle.cedar_fragments.specs.HeldNames.{held_names, HasAlso, HoldsJust};
-ghost use Rattle.cedar_resolution.specs.Collected.{collected_common};
+ghost use Rattle.cedar_resolution.specs.Words.{HasAlso, HoldsJust, IsFault, PlainName, PlainUid, action_shadowing, aliases, built_ins, collected_common, conditional_bag, defined_names, fault_of, held_names, name_of, out_of_memory, type_shadowing};
 
 use crate::built_in::{CommonType, built_in_common_types};
 use cedar_below::{Extensions, M};

@@ -2,17 +2,7 @@
 
 ghost use Rattle.std.specs.Prelude.{◌≡◌, ◌⊎◌, ◌++◌, IfOk, IfErr, OnOk};
 ghost use Rattle.std.specs.List.{flat_map};
-ghost use Rattle.cedar_below.specs.PlainName.{PlainName};
-ghost use Rattle.cedar_below.specs.PlainUid.{PlainUid};
-ghost use Rattle.cedar_declarations.specs.Bag.{aliases, built_ins, defined_names};
-ghost use Rattle.cedar_declarations.specs.Fault.{out_of_memory, type_shadowing, action_shadowing};
-ghost use Rattle.cedar_declarations.specs.IllFormed.{IsFault};
-ghost use Rattle.cedar_declarations.specs.SchemaError.{fault_of};
-ghost use Rattle.cedar_declarations.specs.Resolved.{ResolvesBag};
-ghost use Rattle.cedar_fragments.specs.FragmentDeclarations.{conditional_bag, resolved_fragment};
-ghost use Rattle.cedar_fragments.specs.HeldNames.{held_names, HoldsJust};
-ghost use Rattle.cedar_fragments.specs.QualifyFault.{IsUnresolvableBag};
-ghost use Rattle.cedar_resolution.specs.Collected.{collected_common};
+ghost use Rattle.cedar_resolution.specs.Words.{HoldsJust, IsFault, IsUnresolvableBag, PlainName, PlainUid, ResolvesBag, action_shadowing, aliases, built_ins, collected_common, conditional_bag, defined_names, fault_of, held_names, out_of_memory, resolved_fragment, type_shadowing};
 
 use crate::defined::{DefinedNames, defined_names};
 use cedar_below::{EntityType, Extensions, InternalName};

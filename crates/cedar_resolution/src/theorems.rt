@@ -1,17 +1,7 @@
 //! Laws of the declarations of fragments: which faults no bag of theirs has.
 
 ghost use Rattle.std.specs.Prelude.{List};
-ghost use Rattle.cedar_below.specs.PlainName.{PlainName};
-ghost use Rattle.cedar_below.specs.Text.{Text};
-ghost use Rattle.cedar_below.specs.declared.entity_type.EntityType.{EntityType};
-ghost use Rattle.cedar_below.specs.declared.extension.Extensions.{Extensions};
-ghost use Rattle.cedar_below.specs.declared.internal_name.InternalName.{InternalName};
-ghost use Rattle.cedar_declarations.specs.Fault.{action_attributes, action_entity_type, reserved_name};
-ghost use Rattle.cedar_declarations.specs.IllFormed.{IsFault};
-ghost use Rattle.cedar_fragments.specs.FragmentDeclarations.{conditional_bag};
-ghost use Rattle.cedar_fragments.specs.declared.namespace.fragment.ValidatorSchemaFragment.{ValidatorSchemaFragment};
-ghost use Rattle.cedar_resolution.specs.Collected.{resolved_bag};
-ghost use Rattle.cedar_names.specs.declared.json_schema.conditional_name.ConditionalName.{ConditionalName};
+ghost use Rattle.cedar_resolution.specs.Words.{ConditionalName, EntityType, Extensions, InternalName, IsFault, PlainName, Text, ValidatorSchemaFragment, action_attributes, action_entity_type, conditional_bag, reserved_name, resolved_bag};
 
 /// Fragments over full names declare no action with attributes, no entity type with the base name
 /// of actions' types, and no entity type or action in a reserved namespace.

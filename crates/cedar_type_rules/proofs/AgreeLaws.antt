@@ -1,16 +1,8 @@
 -- Strict subtyping is permissive subtyping of types that agree.
 use Rattle.std.proofs.Common.{◌≡◌, ◌↔◌, inl, inr, Bool, sym, ap, ◌∙◌, Some}
-use Rattle.cedar_below.specs.Text.{Text}
-use Rattle.cedar_below.specs.declared.validation_mode.ValidationMode.TheVariants.{Strict, Permissive}
+use Rattle.cedar_type_rules.specs.Words.{Agree, AreWellFormed, Below, ClosedAttributes, Fields, FieldsAgree, FieldsBelow, HasField, IsSortedByName, IsWellFormed, NamesBelow, OpenAttributes, OpenTag, Permissive, Strict, Text, Ty, any_entity, any_set, end, extension_of, field, field_at, long, never, record_of, set_of, text, truth, union_of}
 use Rattle.cedar_type_rules.proofs.SubtypeLaws.{FieldsBelow-names}
 use Rattle.cedar_type_rules.proofs.SubtypeLemmas.{found-HasField}
-use Rattle.cedar_type_rules.specs.Agree.{Agree, FieldsAgree}
-use Rattle.cedar_type_rules.specs.Fields.{IsSortedByName}
-use Rattle.cedar_type_rules.specs.Below.{HasField, NamesBelow, Below, FieldsBelow}
-use Rattle.cedar_type_rules.specs.Ty.{Ty, never, truth, long, text, any_entity, union_of, any_set, set_of, record_of, extension_of, Fields, end, field, field_at}
-use Rattle.cedar_type_rules.specs.WellFormed.{IsWellFormed, AreWellFormed}
-use Rattle.cedar_type_rules.specs.declared.open_tag.OpenTag.{OpenTag}
-use Rattle.cedar_type_rules.specs.declared.open_tag.OpenTag.TheVariants.{OpenAttributes, ClosedAttributes}
 
 -- names that fit strictly fit permissively
 NamesBelow-permissive : (openness : OpenTag) (a b : Fields) → NamesBelow Strict openness a b → NamesBelow Permissive openness a b

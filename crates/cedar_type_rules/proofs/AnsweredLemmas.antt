@@ -2,24 +2,11 @@
 use Rattle.std.proofs.Common.{◌≡◌, ◌≢◌, ◌⊎◌, inl, inr, refl, sym, ◌∙◌, [], ◌∷◌, List, Ok, Err, IfOk, arith}
 use Rattle.cedar_below.proofs.Lists.{Contains-cons}
 use Rattle.cedar_below.proofs.PlainNames.{name_cmp-total, name_cmp-Equal}
-use Rattle.cedar_below.specs.Lists.{Included}
-use Rattle.cedar_below.specs.IsValue.{IsName}
-use Rattle.cedar_below.specs.PlainName.{PlainName, name_cmp}
-use Rattle.cedar_below.specs.declared.validation_mode.ValidationMode.{ValidationMode}
-use Rattle.cedar_below.specs.declared.validation_mode.ValidationMode.TheVariants.{Strict, Permissive}
+use Rattle.cedar_type_rules.specs.Words.{AnyBool, Below, BoolType, False, HaveOwnBound, Included, IsHelp, IsJoinAnswer, IsLeastOwnBound, IsName, IsOwnBound, IsWellFormed, JoinAnswer, LubHelp, Permissive, PlainName, Strict, True, Ty, ValidationMode, any_entity, any_set, extension_of, long, name_cmp, never, record_of, set_of, text, truth, union_of}
 use Rattle.cedar_type_rules.proofs.AntisymmetryLaws.{Included-same}
 use Rattle.cedar_type_rules.proofs.Decisions.{IsDecided, decide_both, decide_same, decide_included, Merged, merge}
 use Rattle.cedar_type_rules.proofs.JoinLemmas.{upper_is_join}
 use Rattle.cedar_type_rules.proofs.WithinLemmas.{within_elements, within_sets}
-use Rattle.cedar_type_rules.specs.Below.{Below}
-use Rattle.cedar_type_rules.specs.Help.{IsHelp}
-use Rattle.cedar_type_rules.specs.JoinAnswer.{JoinAnswer, IsJoinAnswer}
-use Rattle.cedar_type_rules.specs.OwnBound.{IsOwnBound, HaveOwnBound, IsLeastOwnBound}
-use Rattle.cedar_type_rules.specs.Ty.{Ty, never, truth, long, text, any_entity, union_of, any_set, set_of, record_of, extension_of}
-use Rattle.cedar_type_rules.specs.WellFormed.{IsWellFormed}
-use Rattle.cedar_type_rules.specs.declared.bool_type.BoolType.{BoolType}
-use Rattle.cedar_type_rules.specs.declared.bool_type.BoolType.TheVariants.{AnyBool, True, False}
-use Rattle.cedar_type_rules.specs.declared.join_error.LubHelp.{LubHelp}
 use Rattle.cedar_type_rules.specs.declared.join_error.LubHelp.TheVariants as help
 
 -- a join of two types has an answer, and what it gives is well formed

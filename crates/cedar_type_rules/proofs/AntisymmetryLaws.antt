@@ -9,20 +9,10 @@ use Rattle.cedar_below.proofs.Lists.{Contains-cons, Contains-cons_cases}
 use Rattle.cedar_below.proofs.Ordered.{apart, not_itself}
 use Rattle.cedar_below.proofs.PlainNames.{name_cmp-total}
 use Rattle.cedar_below.proofs.Texts.{text_cmp-total}
-use Rattle.cedar_below.specs.Lists.{Included}
-use Rattle.cedar_below.specs.PlainName.{name_cmp}
-use Rattle.cedar_below.specs.Text.{Text, text_cmp}
-use Rattle.cedar_below.specs.declared.validation_mode.ValidationMode.{ValidationMode}
-use Rattle.cedar_below.specs.declared.validation_mode.ValidationMode.TheVariants.{Strict, Permissive}
+use Rattle.cedar_type_rules.specs.Words.{AreWellFormed, Below, ClosedAttributes, Fields, FieldsBelow, FlagsBelow, HasField, Included, IsSortedByName, IsWellFormed, OpenAttributes, OpenTag, OpennessBelow, Permissive, Strict, Text, Ty, ValidationMode, any_entity, any_set, end, extension_of, field, field_names, long, name_cmp, never, record_of, set_of, text, text_cmp, truth, union_of}
 use Rattle.cedar_type_rules.proofs.AgreeLaws.{AreWellFormed-of, HasField-once}
 use Rattle.cedar_type_rules.proofs.SubtypeLaws.{FieldsWithin, HasBelow-of, HasField-name, HasField-named, FieldsBelow-names}
 use Rattle.cedar_type_rules.proofs.SubtypeLemmas.{HasField-all}
-use Rattle.cedar_type_rules.specs.Fields.{IsSortedByName, field_names}
-use Rattle.cedar_type_rules.specs.Below.{HasField, FlagsBelow, OpennessBelow, Below, FieldsBelow}
-use Rattle.cedar_type_rules.specs.Ty.{Ty, never, truth, long, text, any_entity, union_of, any_set, set_of, record_of, extension_of, Fields, end, field}
-use Rattle.cedar_type_rules.specs.WellFormed.{IsWellFormed, AreWellFormed}
-use Rattle.cedar_type_rules.specs.declared.open_tag.OpenTag.{OpenTag}
-use Rattle.cedar_type_rules.specs.declared.open_tag.OpenTag.TheVariants.{OpenAttributes, ClosedAttributes}
 
 -- sorted lists without duplicates and include each other are the same
 pub Included-same : {B : Type 0} (R : B → B → Ordering) → IsTotalOrder R → (xs ys : List B) → IsStrictlySortedBy R xs

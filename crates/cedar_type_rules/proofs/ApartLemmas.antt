@@ -2,13 +2,8 @@
 use Rattle.std.proofs.Common.{◌≡◌, ◌⊎◌, inl, inr, Bool, true, false, refl, sym, ◌∙◌}
 use Rattle.std.proofs.lemmas.Slice.Eq.{bytes_eq-Decides}
 use Rattle.std.specs.Str.{bytes_eq}
-use Rattle.cedar_below.specs.Text.{Text}
-use Rattle.cedar_below.specs.declared.validation_mode.ValidationMode.{ValidationMode}
-use Rattle.cedar_below.specs.declared.validation_mode.ValidationMode.TheVariants.{Permissive}
+use Rattle.cedar_type_rules.specs.Words.{Below, BoolType, Fields, FieldsBelow, HasField, Permissive, Text, Ty, ValidationMode, any_set, end, field, long, text, truth}
 use Rattle.cedar_type_rules.proofs.SubtypeLaws.{HasBelow-of}
-use Rattle.cedar_type_rules.specs.Below.{HasField, Below, FieldsBelow}
-use Rattle.cedar_type_rules.specs.Ty.{Ty, truth, long, text, any_set, Fields, end, field}
-use Rattle.cedar_type_rules.specs.declared.bool_type.BoolType.{BoolType}
 
 -- texts that a test tells apart differ
 pub texts_differ : (a b : Text) → bytes_eq a b ≡ false → ¬ (a ≡ b)

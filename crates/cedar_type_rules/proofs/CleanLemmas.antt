@@ -1,8 +1,6 @@
 -- A type is clean exactly where the any-set stands nowhere in it.
 use Rattle.std.proofs.Common.{inl, inr, refl}
-use Rattle.cedar_type_rules.specs.Clean.{IsClean, AreClean, IsAnySet, CleanIsWithoutAnySet}
-use Rattle.cedar_type_rules.specs.StandsIn.{StandsIn, StandsInFields}
-use Rattle.cedar_type_rules.specs.Ty.{Ty, any_set, set_of, record_of, Fields, end, field}
+use Rattle.cedar_type_rules.specs.Words.{AreClean, CleanIsWithoutAnySet, Fields, IsAnySet, IsClean, StandsIn, StandsInFields, Ty, any_set, end, field, record_of, set_of}
 
 mutual
   -- in a clean type the any-set stands nowhere

@@ -6,20 +6,13 @@ use Rattle.std.specs.Ordering.{is_eq}
 use Rattle.std.specs.declared.cmp.Ordering.{Ordering}
 use Rattle.std.specs.declared.cmp.Ordering.TheVariants.{Equal}
 use Rattle.std.proofs.lemmas.Bool.{false≢true}
-use Rattle.cedar_below.specs.FeedsVariant.{FeedsVariantFirst}
-use Rattle.cedar_type_rules.specs.CompareLaws.{ComparesBy}
-use Rattle.cedar_type_rules.specs.OpenTag.{is_open}
-use Rattle.cedar_type_rules.specs.Order.{truth_cmp, openness_cmp}
+use Rattle.cedar_type_rules.specs.Words.{AnyBool, BoolType, ClosedAttributes, ComparesBy, False, FeedsVariantFirst, OpenAttributes, OpenTag, True, is_open, openness_cmp, truth_cmp}
 use Rattle.cedar_type_rules.specs.contracts.bool_type.BoolTypeHash.TheImpl as bool_hash
 use Rattle.cedar_type_rules.specs.contracts.bool_type.BoolTypeOrd.TheImpl as bool_ord
 use Rattle.cedar_type_rules.specs.contracts.bool_type.BoolTypePartialEq.TheImpl as bool_eq
 use Rattle.cedar_type_rules.specs.contracts.open_tag.OpenTagHash.TheImpl as open_tag_hash
 use Rattle.cedar_type_rules.specs.contracts.open_tag.OpenTagOrd.TheImpl as open_tag_ord
 use Rattle.cedar_type_rules.specs.contracts.open_tag.OpenTagPartialEq.TheImpl as open_tag_eq
-use Rattle.cedar_type_rules.specs.declared.bool_type.BoolType.{BoolType}
-use Rattle.cedar_type_rules.specs.declared.bool_type.BoolType.TheVariants.{AnyBool, True, False}
-use Rattle.cedar_type_rules.specs.declared.open_tag.OpenTag.{OpenTag}
-use Rattle.cedar_type_rules.specs.declared.open_tag.OpenTag.TheVariants.{OpenAttributes, ClosedAttributes}
 
 -- an order that is answered as equal is equal
 is_eq-Equal : (o : Ordering) → is_eq o ≡ true → o ≡ Equal

@@ -2,13 +2,8 @@
 use Rattle.std.proofs.Common.{◌≡◌, ◌⊎◌, ◌↔◌, inl, inr, refl, sym, Bool, false, List, [], ◌∷◌, ◌++◌, Contains, arith}
 use Rattle.std.specs.List.{AllByRecursion}
 use Rattle.cedar_below.proofs.Lists.{Contains-cons, Contains-cons_cases}
-use Rattle.cedar_below.specs.CoreTy.{CoreTy, CoreFields, core_end, core_field, core_names}
-use Rattle.cedar_below.specs.Text.{Text}
+use Rattle.cedar_type_rules.specs.Words.{AreOptionalBeyond, CoreFields, CoreTy, Fields, FieldsAreConsistent, HasCoreField, HasField, IsConsistent, Text, Ty, core_end, core_field, core_names, end, field, field_names, fields_from}
 use Rattle.cedar_type_rules.proofs.SubtypeLaws.{HasField-name}
-use Rattle.cedar_type_rules.specs.Below.{HasField}
-use Rattle.cedar_type_rules.specs.Consistent.{HasCoreField, AreOptionalBeyond, IsConsistent, FieldsAreConsistent}
-use Rattle.cedar_type_rules.specs.Fields.{field_names}
-use Rattle.cedar_type_rules.specs.Ty.{Ty, Fields, end, field, fields_from}
 
 -- the attributes of two records are consistent, where the one may have others if this holds, and the other if that does
 abbrev pub AreConsistent : Fields → CoreFields → Type 0 → Type 0 → Type 0

@@ -1,12 +1,7 @@
 -- A type has no core type exactly where one that lacks it stands in it.
 use Rattle.std.proofs.Common.{◌≡◌, ◌⊎◌, inl, inr, refl, ap, Option, Some, None}
 use Rattle.std.specs.Option.{option_map, option_zip}
-use Rattle.cedar_below.specs.CoreTy.{core_set, core_record, core_entity, core_field}
-use Rattle.cedar_type_rules.specs.OpenTag.{is_open}
-use Rattle.cedar_type_rules.specs.CoreOf.{core_of, core_fields, LacksCore, CoreIsLackedExactly}
-use Rattle.cedar_type_rules.specs.EntityUnion.{only_name}
-use Rattle.cedar_type_rules.specs.StandsIn.{StandsIn, StandsInFields}
-use Rattle.cedar_type_rules.specs.Ty.{Ty, never, any_entity, union_of, set_of, record_of, Fields, end, field}
+use Rattle.cedar_type_rules.specs.Words.{CoreIsLackedExactly, Fields, LacksCore, StandsIn, StandsInFields, Ty, any_entity, core_entity, core_field, core_fields, core_of, core_record, core_set, end, field, is_open, never, only_name, record_of, set_of, union_of}
 
 -- where a function of a value gives none, there is no value
 unmapped : {A B : Type 0} (f : A → B) (found : Option A) → option_map f found ≡ None → found ≡ None

@@ -1,15 +1,8 @@
 -- Faults of core types in the parts of a type, and attributes whose types have core types.
 use Rattle.std.proofs.Common.{◌≡◌, ◌⊎◌, inl, inr, refl, Bool, List, [], ◌∷◌, ◌++◌, map, Some, None, Result, Ok, Err, IfErr}
 use Rattle.std.specs.Option.{option_map, option_zip}
-use Rattle.cedar_below.specs.CoreTy.{CoreTy, core_field, core_fields_from}
-use Rattle.cedar_below.specs.Lists.{HoldsPairwise}
-use Rattle.cedar_below.specs.Text.{Text}
+use Rattle.cedar_type_rules.specs.Words.{CoreTy, CoreTypeFault, Fields, HoldsPairwise, IsAnyEntity, IsCoreFault, IsFieldsFault, IsNever, IsWideUnion, LacksCore, StandsIn, StandsInFields, Text, Ty, any_entity, core_field, core_fields, core_fields_from, core_of, end, field, fields_from, never, record_of, set_of, union_of}
 use Rattle.cedar_type_rules.proofs.CoreLemmas.{core_lacked}
-use Rattle.cedar_type_rules.specs.CoreFault.{IsNever, IsAnyEntity, IsWideUnion, IsCoreFault, IsFieldsFault}
-use Rattle.cedar_type_rules.specs.CoreOf.{core_of, core_fields, LacksCore}
-use Rattle.cedar_type_rules.specs.StandsIn.{StandsIn, StandsInFields}
-use Rattle.cedar_type_rules.specs.Ty.{Ty, never, any_entity, union_of, set_of, record_of, Fields, end, field, fields_from}
-use Rattle.cedar_type_rules.specs.declared.core_type_fault.CoreTypeFault.{CoreTypeFault}
 use Rattle.cedar_type_rules.specs.declared.core_type_fault.CoreTypeFault.TheVariants as fault
 
 -- what stands in the type of one of some attributes stands in them

@@ -1,11 +1,6 @@
 -- Disjoint types have no value in common.
 use Rattle.std.proofs.Common.{◌≡◌, ◌↔◌, List, Some, subst}
-use Rattle.cedar_below.specs.Tree.{uid_value}
-use Rattle.cedar_below.specs.PlainName.{PlainName}
-use Rattle.cedar_type_rules.specs.Disjoint.{AreDisjointTypes, DisjointTypesShareNoValue}
-use Rattle.cedar_type_rules.specs.EntityTypes.{kind_names}
-use Rattle.cedar_type_rules.specs.EntityUnion.{AreDisjoint}
-use Rattle.cedar_type_rules.specs.Ty.{Ty, union_of}
+use Rattle.cedar_type_rules.specs.Words.{AreDisjoint, AreDisjointTypes, DisjointTypesShareNoValue, PlainName, Ty, kind_names, uid_value, union_of}
 
 -- no value has two disjoint types
 pub disjoint_apart : DisjointTypesShareNoValue

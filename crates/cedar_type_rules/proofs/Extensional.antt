@@ -10,10 +10,7 @@ use Rattle.std.specs.Ordering.{is_eq, ordering_reverse}
 use Rattle.std.specs.Str.{bytes_eq}
 use Rattle.std.specs.declared.cmp.Ordering.TheVariants.{Less, Equal, Greater}
 use Rattle.cedar_below.proofs.Texts.{text_cmp-Equal}
-use Rattle.cedar_below.specs.LastNamed.{last_named}
-use Rattle.cedar_below.specs.Text.{Text, text_cmp}
-use Rattle.cedar_type_rules.specs.Fields.{IsSortedByName, HoldsLast, field_names}
-use Rattle.cedar_type_rules.specs.Ty.{Ty, Fields, end, field, field_at, fields_from}
+use Rattle.cedar_type_rules.specs.Words.{Fields, HoldsLast, IsSortedByName, Text, Ty, end, field, field_at, field_names, fields_from, last_named, text_cmp}
 
 -- the name is below each of the names
 abbrev pub IsBelowEach : Text → Fields → Type 0

@@ -1,10 +1,8 @@
 -- Values that are folded by joins: steps of the walk, and the least clean bound.
 use Rattle.std.proofs.Common.{inl, inr, refl, List, [], ◌∷◌, Result, Ok, Err}
 use Rattle.std.specs.List.{AllByRecursion}
-use Rattle.cedar_type_rules.specs.Joining.{IsGivenOrMemory, IsFoldOfJoins, IsCleanAbove, IsLeastClean}
-use Rattle.cedar_type_rules.specs.declared.join_error.JoinError.{JoinError}
+use Rattle.cedar_type_rules.specs.Words.{IsCleanAbove, IsFoldOfJoins, IsGivenOrMemory, IsLeastClean, JoinError, LubHelp}
 use Rattle.cedar_type_rules.specs.declared.join_error.JoinError.TheVariants as error
-use Rattle.cedar_type_rules.specs.declared.join_error.LubHelp.{LubHelp}
 
 module _ {A : Type 0} (IsJoin : A → A → Result A LubHelp → Type 0) where
   -- what the values that are left are joined to, from the join so far, all of them are from the start

@@ -6,9 +6,7 @@ use Rattle.std.specs.Option.{is_some, option_map, option_copied}
 use Rattle.std.specs.Str.{bytes_eq}
 use Rattle.cedar_below.proofs.Inclusion.{chosen}
 use Rattle.cedar_below.proofs.Lists.{Contains-cons, Contains-cons_cases}
-use Rattle.cedar_below.specs.Text.{Text}
-use Rattle.cedar_type_rules.specs.Fields.{field_names}
-use Rattle.cedar_type_rules.specs.Ty.{Ty, Fields, end, field, field_at}
+use Rattle.cedar_type_rules.specs.Words.{Fields, Text, Ty, end, field, field_at, field_names}
 
 -- an attribute is found exactly where its name is among the names
 pub field_at-Decides : (name : Text) (fields : Fields) → Decides (is_some (field_at name fields)) (Contains (field_names fields) name)

@@ -1,12 +1,9 @@
 -- What follows for the least own bound of two types.
 use Rattle.std.proofs.Common.{inl, inr, refl, Ok, Err}
-use Rattle.cedar_below.specs.declared.validation_mode.ValidationMode.{ValidationMode}
+use Rattle.cedar_type_rules.specs.Words.{CleanBoundsAreOwn, IsEither, IsOwnBound, JoinsAreBelowCleanBounds, JoinsAreCommutative, JoinsAreGivenExactly, JoinsAreUnique, JoinsOfCleanAreLeastClean, OwnBoundsOfCleanAreClean, Ty, UpperTypesAreJoins, ValidationMode}
 use Rattle.cedar_type_rules.proofs.AntisymmetryLaws.{Below-same}
 use Rattle.cedar_type_rules.proofs.OwnBoundLemmas.{LiesWithin-clean, IsClean-within, LiesWithin-more, LiesWithin-among}
 use Rattle.cedar_type_rules.proofs.SubtypeLaws.{Below-itself}
-use Rattle.cedar_type_rules.specs.JoinLaws.{CleanBoundsAreOwn, OwnBoundsOfCleanAreClean, JoinsAreGivenExactly, JoinsAreUnique, UpperTypesAreJoins, JoinsAreBelowCleanBounds, JoinsOfCleanAreLeastClean, JoinsAreCommutative}
-use Rattle.cedar_type_rules.specs.OwnBound.{IsEither, IsOwnBound}
-use Rattle.cedar_type_rules.specs.Ty.{Ty}
 
 -- a clean bound is an own bound
 pub clean_is_own : CleanBoundsAreOwn

@@ -1,18 +1,10 @@
 -- Values that stand for plain types are joined as these are.
 use Rattle.std.proofs.Common.{◌≡◌, inl, inr, ap, map, List, [], ◌∷◌, Result, Ok, Err}
 use Rattle.std.specs.Result.{result_map_both}
-use Rattle.cedar_below.specs.declared.validation_mode.ValidationMode.{ValidationMode}
+use Rattle.cedar_type_rules.specs.Words.{AnswersJoinOf, Below, IsAnswerOrMemory, IsClean, IsFoldOfJoins, IsGivenOrMemory, IsReduceAnswer, IsWellFormed, JoinAnswer, JoinError, LubHelp, Ty, ValidationMode}
 use Rattle.cedar_type_rules.proofs.JoinLemmas.{clean_is_own, own_is_clean}
 use Rattle.cedar_type_rules.proofs.SubtypeLaws.{Below-itself, Below-trans}
-use Rattle.cedar_type_rules.specs.Below.{Below}
-use Rattle.cedar_type_rules.specs.Clean.{IsClean}
-use Rattle.cedar_type_rules.specs.JoinAnswer.{JoinAnswer, IsReduceAnswer, IsAnswerOrMemory}
-use Rattle.cedar_type_rules.specs.Joining.{AnswersJoinOf, IsGivenOrMemory, IsFoldOfJoins}
-use Rattle.cedar_type_rules.specs.Ty.{Ty}
-use Rattle.cedar_type_rules.specs.WellFormed.{IsWellFormed}
-use Rattle.cedar_type_rules.specs.declared.join_error.JoinError.{JoinError}
 use Rattle.cedar_type_rules.specs.declared.join_error.JoinError.TheVariants as error
-use Rattle.cedar_type_rules.specs.declared.join_error.LubHelp.{LubHelp}
 
 module _ {A : Type 0} (stands_for : A → Ty) (mode : ValidationMode) where
   -- values that stand for the same are below each other

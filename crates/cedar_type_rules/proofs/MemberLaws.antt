@@ -1,20 +1,7 @@
 -- What has a type has each type above it.
 use Rattle.std.proofs.Common.{◌≡◌, ◌⊎◌, inl, inr, Bool, true, false, refl, sym, ◌∙◌, Option, Some, None}
-use Rattle.cedar_below.specs.Fits.{EntryFits, NamesListed}
-use Rattle.cedar_below.specs.PlainName.{PlainName}
-use Rattle.cedar_below.specs.Text.{Text}
-use Rattle.cedar_below.specs.Tree.{Tree, truth_value, number_value, text_value, uid_value, set_value, map_value, call_value, Trees, no_tree, tree, Entries, entry_at, entry_names, EachTree}
-use Rattle.cedar_below.specs.declared.validation_mode.ValidationMode.{ValidationMode}
-use Rattle.cedar_below.specs.declared.validation_mode.ValidationMode.TheVariants.{Strict, Permissive}
-use Rattle.cedar_type_rules.specs.Fields.{field_names}
-use Rattle.cedar_type_rules.specs.Below.{HasField, FlagsBelow, OpennessBelow, NamesBelow, Below, FieldsBelow}
-use Rattle.cedar_type_rules.specs.Has.{HasBy, HasFieldsBy, HasTruth}
-use Rattle.cedar_type_rules.specs.OpenTag.{is_open}
-use Rattle.cedar_type_rules.specs.Ty.{Ty, truth, long, text, any_entity, union_of, any_set, set_of, record_of, extension_of, Fields, end, field}
-use Rattle.cedar_type_rules.specs.declared.bool_type.BoolType.{BoolType}
+use Rattle.cedar_type_rules.specs.Words.{Below, BoolType, ClosedAttributes, EachTree, Entries, EntryFits, Fields, FieldsBelow, FlagsBelow, HasBy, HasField, HasFieldsBy, HasTruth, NamesBelow, NamesListed, OpenAttributes, OpenTag, OpennessBelow, Permissive, PlainName, Strict, Text, Tree, Trees, Ty, ValidationMode, any_entity, any_set, call_value, end, entry_at, entry_names, extension_of, field, field_names, is_open, long, map_value, no_tree, number_value, record_of, set_of, set_value, text, text_value, tree, truth, truth_value, uid_value, union_of}
 use Rattle.cedar_type_rules.specs.declared.bool_type.BoolType.TheVariants as bool_type
-use Rattle.cedar_type_rules.specs.declared.open_tag.OpenTag.{OpenTag}
-use Rattle.cedar_type_rules.specs.declared.open_tag.OpenTag.TheVariants.{OpenAttributes, ClosedAttributes}
 
 -- what holds of each value holds of it in a weaker form
 pub EachTree-weaker : (P Q : Tree → Type 0) (values : Trees) → ((value : Tree) → P value → Q value) → EachTree P values → EachTree Q values

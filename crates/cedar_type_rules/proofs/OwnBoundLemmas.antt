@@ -1,10 +1,6 @@
 -- Own bounds: clean bounds are own bounds, and what lies within clean types is clean.
 use Rattle.std.proofs.Common.{inl, inr, refl, Bool}
-use Rattle.cedar_below.specs.Text.{Text}
-use Rattle.cedar_type_rules.specs.Below.{HasField}
-use Rattle.cedar_type_rules.specs.Clean.{IsClean, AreClean}
-use Rattle.cedar_type_rules.specs.OwnBound.{IsElementOf, IsNamedIn, LiesWithin, FieldsLieWithin}
-use Rattle.cedar_type_rules.specs.Ty.{Ty, any_set, set_of, record_of, Fields, end, field}
+use Rattle.cedar_type_rules.specs.Words.{AreClean, Fields, FieldsLieWithin, HasField, IsClean, IsElementOf, IsNamedIn, LiesWithin, Text, Ty, any_set, end, field, record_of, set_of}
 
 mutual
   -- a clean type lies within whatever types

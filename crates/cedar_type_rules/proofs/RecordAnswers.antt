@@ -4,10 +4,7 @@ use Rattle.std.specs.List.{AllByRecursion}
 use Rattle.std.specs.List.Sorted.{IsStrictlySortedBy}
 use Rattle.std.specs.declared.cmp.Ordering.TheVariants.{Less}
 use Rattle.cedar_below.proofs.Texts.{text_cmp-Equal}
-use Rattle.cedar_below.specs.Lists.{Included}
-use Rattle.cedar_below.specs.Text.{Text, text_cmp}
-use Rattle.cedar_below.specs.declared.validation_mode.ValidationMode.{ValidationMode}
-use Rattle.cedar_below.specs.declared.validation_mode.ValidationMode.TheVariants.{Permissive}
+use Rattle.cedar_type_rules.specs.Words.{AreTexts, AreWellFormed, Below, ClosedAttributes, Fields, FieldsBelow, HasField, HaveOwnBound, Included, IsEither, IsLeastOwnBound, IsOwnBound, IsSortedByName, IsWellFormed, NamesBelow, OpenAttributes, OpenTag, OpennessBelow, Permissive, Text, Ty, ValidationMode, end, field, field_names, record_of, text_cmp}
 use Rattle.cedar_type_rules.proofs.Extensional.{rest_sorted_by_name}
 use Rattle.cedar_type_rules.proofs.AgreeLaws.{HasField-once}
 use Rattle.cedar_type_rules.proofs.AnsweredLemmas.{IsAnswered, given}
@@ -15,13 +12,6 @@ use Rattle.cedar_type_rules.proofs.Decisions.{IsDecided, decide_both, decide_sam
 use Rattle.cedar_type_rules.proofs.WithinLemmas.{FieldsBelow-from, FieldsLieWithin-from, FieldsLieWithin-of, within_both, within_named}
 use Rattle.cedar_type_rules.proofs.StrictJoinLemmas.{tag_below, names_below}
 use Rattle.cedar_type_rules.proofs.SubtypeLaws.{HasBelow-of, HasField-name, HasField-named, FieldsBelow-names}
-use Rattle.cedar_type_rules.specs.Fields.{IsSortedByName, field_names}
-use Rattle.cedar_type_rules.specs.Below.{HasField, OpennessBelow, NamesBelow, Below, FieldsBelow}
-use Rattle.cedar_type_rules.specs.OwnBound.{IsEither, IsOwnBound, HaveOwnBound, IsLeastOwnBound}
-use Rattle.cedar_type_rules.specs.Ty.{Ty, record_of, Fields, end, field}
-use Rattle.cedar_type_rules.specs.WellFormed.{IsWellFormed, AreWellFormed, AreTexts}
-use Rattle.cedar_type_rules.specs.declared.open_tag.OpenTag.{OpenTag}
-use Rattle.cedar_type_rules.specs.declared.open_tag.OpenTag.TheVariants.{OpenAttributes, ClosedAttributes}
 
 -- the types of a name that both records have are answered
 abbrev pub AreAnswered : ValidationMode → Fields → Fields → Type 0

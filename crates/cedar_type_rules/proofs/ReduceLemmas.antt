@@ -3,21 +3,10 @@ use Rattle.std.proofs.Common.{◌≡◌, ◌∙◌, ◌++◌, inl, inr, ap, sym,
 use Rattle.std.proofs.lemmas.List.Elements.{All-contains, All-from_recursion}
 use Rattle.std.specs.List.{AllByRecursion}
 use Rattle.cedar_below.proofs.Inclusion.{Included-head, Included-tail}
-use Rattle.cedar_below.specs.Lists.{Included}
-use Rattle.cedar_below.specs.declared.validation_mode.ValidationMode.{ValidationMode}
+use Rattle.cedar_type_rules.specs.Words.{Below, CleanAreReducedInAnyOrder, CleanAreReducedToLeastClean, EmptyIsReducedToNever, HaveOwnBound, Included, IsClean, IsCleanBound, IsHelp, IsLeastAnswer, IsReduceAnswer, IsWellFormed, JoinAnswer, LubHelp, ReductionsAreUnique, ReductionsAreWellFormed, RefusalsAreOfTheFirst, Ty, ValidationMode, never}
 use Rattle.cedar_type_rules.proofs.AntisymmetryLaws.{Below-same}
 use Rattle.cedar_type_rules.proofs.JoinLemmas.{clean_is_own, join_unique, own_is_clean}
 use Rattle.cedar_type_rules.proofs.SubtypeLaws.{Below-itself, Below-trans}
-use Rattle.cedar_type_rules.specs.Below.{Below}
-use Rattle.cedar_type_rules.specs.Bound.{IsCleanBound}
-use Rattle.cedar_type_rules.specs.Clean.{IsClean}
-use Rattle.cedar_type_rules.specs.Help.{IsHelp}
-use Rattle.cedar_type_rules.specs.JoinAnswer.{JoinAnswer, IsLeastAnswer, IsReduceAnswer}
-use Rattle.cedar_type_rules.specs.OwnBound.{HaveOwnBound}
-use Rattle.cedar_type_rules.specs.ReduceLaws.{EmptyIsReducedToNever, CleanAreReducedToLeastClean, CleanAreReducedInAnyOrder, ReductionsAreUnique, ReductionsAreWellFormed, RefusalsAreOfTheFirst}
-use Rattle.cedar_type_rules.specs.Ty.{Ty, never}
-use Rattle.cedar_type_rules.specs.WellFormed.{IsWellFormed}
-use Rattle.cedar_type_rules.specs.declared.join_error.LubHelp.{LubHelp}
 
 -- an answer is the least of some bounds where it is that of the same bounds said otherwise
 IsLeastAnswer-same : (mode : ValidationMode) (Bounds Others : Ty → Type 0) (answer : JoinAnswer)

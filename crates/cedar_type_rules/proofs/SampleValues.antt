@@ -5,32 +5,15 @@ use Rattle.std.proofs.Math.Facts.{sfits_lit}
 use Rattle.std.specs.Str.{bytes_eq}
 use Rattle.cedar_below.proofs.Inclusion.{Included-none, Included-cons}
 use Rattle.cedar_below.proofs.Lists.{Contains-cons, Contains-cons_cases}
-use Rattle.cedar_below.specs.Fits.{EntryFits, Gives, NamesListed}
+use Rattle.cedar_type_rules.specs.Words.{AnyBool, AreEntries, AreInhabited, AreTexts, AreWellFormed, BoolType, ClosedAttributes, Entries, EntryFits, Extensions, False, Fields, Gives, Has, HasBy, HasField, HasFieldsBy, HasTruth, Included, IsInhabited, IsName, IsSortedByName, IsText, IsValue, IsWellFormed, NamesListed, OpenAttributes, OpenTag, PlainName, Text, Tree, Trees, True, Ty, any_entity, any_set, end, entry, entry_at, entry_names, extension_of, field, field_names, is_open, long, map_value, never, no_entry, no_tree, number_value, record_of, set_of, set_value, text, text_value, truth, truth_value, uid_value, union_of}
 use Rattle.std.specs.declared.cmp.Ordering.TheVariants.{Less, Equal}
 use Rattle.cedar_below.proofs.Texts.{text_cmp-Equal}
 use Rattle.cedar_below.proofs.ValueLemmas.{length-stretch, stretch, stretch_name, IsText-stretch, IsText-nil, IsName-stretch}
-use Rattle.cedar_below.specs.IsValue.{IsText, IsName, IsValue, AreEntries}
-use Rattle.cedar_below.specs.Lists.{Included}
-use Rattle.cedar_below.specs.PlainName.{PlainName}
-use Rattle.cedar_below.specs.Text.{Text}
-use Rattle.cedar_below.specs.Tree.{Tree, truth_value, number_value, text_value, uid_value, set_value, map_value, Trees, no_tree, Entries, no_entry, entry, entry_at, entry_names}
-use Rattle.cedar_below.specs.declared.extension.Extensions.{Extensions}
 use Rattle.cedar_type_rules.proofs.AgreeLaws.{HasField-once}
 use Rattle.cedar_type_rules.proofs.RecordAnswers.{decide_texts}
 use Rattle.cedar_type_rules.proofs.Extensional.{IsBelowEach, first_below, rest_sorted_by_name}
 use Rattle.cedar_type_rules.proofs.SubtypeLaws.{HasField-name}
 use Rattle.cedar_type_rules.proofs.SubtypeLemmas.{chosen_first, unchosen}
-use Rattle.cedar_type_rules.specs.Fields.{IsSortedByName, field_names}
-use Rattle.cedar_type_rules.specs.Below.{HasField}
-use Rattle.cedar_type_rules.specs.Has.{Has, HasBy, HasFieldsBy, HasTruth}
-use Rattle.cedar_type_rules.specs.OpenTag.{is_open}
-use Rattle.cedar_type_rules.specs.Stated.{IsInhabited, AreInhabited}
-use Rattle.cedar_type_rules.specs.Ty.{Ty, never, truth, long, text, any_entity, union_of, any_set, set_of, record_of, extension_of, Fields, end, field}
-use Rattle.cedar_type_rules.specs.WellFormed.{IsWellFormed, AreWellFormed, AreTexts}
-use Rattle.cedar_type_rules.specs.declared.bool_type.BoolType.{BoolType}
-use Rattle.cedar_type_rules.specs.declared.bool_type.BoolType.TheVariants.{AnyBool, True, False}
-use Rattle.cedar_type_rules.specs.declared.open_tag.OpenTag.{OpenTag}
-use Rattle.cedar_type_rules.specs.declared.open_tag.OpenTag.TheVariants.{OpenAttributes, ClosedAttributes}
 
 -- a record is a value of a type if each listed attribute fits
 pub HasFields-from : (calls : PlainName → Trees → PlainName → Type 0) (values : Entries) (fields : Fields)

@@ -7,14 +7,7 @@ use Rattle.std.specs.declared.cmp.Ordering.{Ordering}
 use Rattle.std.specs.declared.cmp.Ordering.TheVariants.{Equal}
 use Rattle.cedar_below.proofs.PlainNames.{name_cmp-Equal}
 use Rattle.cedar_below.proofs.ValueLemmas.{IsName-plain_name}
-use Rattle.cedar_below.specs.IsValue.{IsName}
-use Rattle.cedar_below.specs.Name.{plain_name}
-use Rattle.cedar_below.specs.PlainName.{PlainName, name_cmp}
-use Rattle.cedar_below.specs.Tree.{Tree, call_value, no_tree}
-use Rattle.cedar_below.specs.declared.extension.Extensions.{Extensions}
-use Rattle.cedar_below.specs.declared.name.Name.{Name}
-use Rattle.cedar_type_rules.specs.Stated.{IsInhabited, AreInhabited, IsInhabitedWith, AreInhabitedWith, IsStated, IsStatedWith}
-use Rattle.cedar_type_rules.specs.Ty.{Ty, never, set_of, record_of, extension_of, Fields, end, field}
+use Rattle.cedar_type_rules.specs.Words.{AreInhabited, AreInhabitedWith, Extensions, Fields, IsInhabited, IsInhabitedWith, IsName, IsStated, IsStatedWith, Name, PlainName, Tree, Ty, call_value, end, extension_of, field, name_cmp, never, no_tree, plain_name, record_of, set_of}
 
 -- a name that ties with what a name stands for isn't reserved
 tied_name : (sought : PlainName) (key : Name) (answer : Ordering) → name_cmp sought (plain_name key) ≡ answer

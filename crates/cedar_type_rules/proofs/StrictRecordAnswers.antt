@@ -2,9 +2,7 @@
 use Rattle.std.proofs.Common.{◌≡◌, ◌⊎◌, inl, inr, Bool, refl, sym, subst, ◌∙◌, ℕ, length, Ok, Err, Contains, nat_eq, eqb-true, true, false}
 use Rattle.std.proofs.lemmas.Bool.{eqb-false}
 use Rattle.cedar_below.proofs.Texts.{text_cmp-total, text_cmp-Equal}
-use Rattle.cedar_below.specs.Lists.{Included}
-use Rattle.cedar_below.specs.Text.{Text, text_cmp}
-use Rattle.cedar_below.specs.declared.validation_mode.ValidationMode.TheVariants.{Strict}
+use Rattle.cedar_type_rules.specs.Words.{AreTexts, AreWellFormed, Below, ClosedAttributes, Fields, HasField, HaveOwnBound, Included, IsEither, IsHelpAtName, IsLeastOwnBound, IsOwnBound, IsSortedByName, IsWellFormed, LubHelp, OpenAttributes, OpenTag, OpennessBelow, Strict, Text, Ty, either_open, end, field, field_names, record_of, text_cmp}
 use Rattle.cedar_type_rules.proofs.AgreeLaws.{HasField-once}
 use Rattle.cedar_type_rules.proofs.AnsweredLemmas.{IsAnswered, given, refused}
 use Rattle.cedar_type_rules.proofs.AntisymmetryLaws.{Included-same}
@@ -13,17 +11,7 @@ use Rattle.cedar_type_rules.proofs.WithinLemmas.{FieldsBelow-from, FieldsLieWith
 use Rattle.cedar_type_rules.proofs.RecordAnswers.{AreAnswered, IsJoined, in_more, joined_sorted_by_name, end_sorted_by_name, decide_texts}
 use Rattle.cedar_type_rules.proofs.Extensional.{rest_sorted_by_name}
 use Rattle.cedar_type_rules.proofs.SubtypeLaws.{FieldsWithin, HasBelow-of, HasField-name, HasField-named, FieldsBelow-names}
-use Rattle.cedar_type_rules.specs.Fields.{IsSortedByName, field_names}
-use Rattle.cedar_type_rules.specs.Below.{HasField, OpennessBelow, Below}
-use Rattle.cedar_type_rules.specs.Help.{IsHelpAtName}
-use Rattle.cedar_type_rules.specs.OpenTag.{either_open}
-use Rattle.cedar_type_rules.specs.OwnBound.{IsEither, IsOwnBound, HaveOwnBound, IsLeastOwnBound}
-use Rattle.cedar_type_rules.specs.Ty.{Ty, record_of, Fields, end, field}
-use Rattle.cedar_type_rules.specs.WellFormed.{IsWellFormed, AreWellFormed, AreTexts}
-use Rattle.cedar_type_rules.specs.declared.join_error.LubHelp.{LubHelp}
 use Rattle.cedar_type_rules.specs.declared.join_error.LubHelp.TheVariants as help
-use Rattle.cedar_type_rules.specs.declared.open_tag.OpenTag.{OpenTag}
-use Rattle.cedar_type_rules.specs.declared.open_tag.OpenTag.TheVariants.{OpenAttributes, ClosedAttributes}
 
 -- in strict mode the flags are the same
 abbrev SameFlags : Bool → Bool → Bool → Type 0

@@ -2,15 +2,7 @@
 use Rattle.std.proofs.Common.{inl, inr, Bool, refl, sym, ◌∙◌, Contains, arith}
 use Rattle.cedar_below.proofs.Inclusion.{Included-none, Included-cons}
 use Rattle.cedar_below.proofs.Lists.{Contains-cons, Contains-cons_cases}
-use Rattle.cedar_below.specs.Lists.{Included}
-use Rattle.cedar_below.specs.Text.{Text}
-use Rattle.cedar_below.specs.declared.validation_mode.ValidationMode.{ValidationMode}
-use Rattle.cedar_below.specs.declared.validation_mode.ValidationMode.TheVariants.{Strict, Permissive}
-use Rattle.cedar_type_rules.specs.Fields.{field_names}
-use Rattle.cedar_type_rules.specs.Below.{HasField, FlagsBelow, OpennessBelow, NamesBelow, Below, FieldsBelow}
-use Rattle.cedar_type_rules.specs.Ty.{Ty, never, truth, long, text, any_entity, union_of, any_set, set_of, record_of, extension_of, Fields, end, field}
-use Rattle.cedar_type_rules.specs.declared.open_tag.OpenTag.{OpenTag}
-use Rattle.cedar_type_rules.specs.declared.open_tag.OpenTag.TheVariants.{OpenAttributes, ClosedAttributes}
+use Rattle.cedar_type_rules.specs.Words.{Below, ClosedAttributes, Fields, FieldsBelow, FlagsBelow, HasField, Included, NamesBelow, OpenAttributes, OpenTag, OpennessBelow, Permissive, Strict, Text, Ty, ValidationMode, any_entity, any_set, end, extension_of, field, field_names, long, never, record_of, set_of, text, truth, union_of}
 
 -- each attribute of the one record is one of the other
 abbrev pub FieldsWithin : Fields → Fields → Type 0

@@ -10,11 +10,7 @@ use Rattle.std.specs.List.Sorted.{IsStrictlySortedBy}
 use Rattle.std.specs.Str.{bytes_eq}
 use Rattle.std.specs.declared.cmp.Ordering.TheVariants.{Less, Equal}
 use Rattle.cedar_below.proofs.Texts.{text_cmp-total}
-use Rattle.cedar_below.specs.Text.{Text, text_cmp}
-use Rattle.cedar_below.specs.declared.validation_mode.ValidationMode.{ValidationMode}
-use Rattle.cedar_type_rules.specs.Fields.{IsSortedByName, field_names}
-use Rattle.cedar_type_rules.specs.Below.{HasField, FlagsBelow, Below, AttributeBelow}
-use Rattle.cedar_type_rules.specs.Ty.{Ty, Fields, end, field, field_at}
+use Rattle.cedar_type_rules.specs.Words.{AttributeBelow, Below, Fields, FlagsBelow, HasField, IsSortedByName, Text, Ty, ValidationMode, end, field, field_at, field_names, text_cmp}
 
 -- where a test decides whether two elements give the same, the test of lists decides whether they give the same lists
 pub pointwise-map_Decides : {X B : Type 0} (f : X → B) (test : X → X → Bool)

@@ -3,36 +3,14 @@
 use Rattle.std.proofs.Common.{◌≡◌, inl, inr, Bool, true, false, refl, sym, ◌∙◌, pos, [], Some, Contains, IsTrue}
 use Rattle.cedar_below.proofs.Inclusion.{Included-cons}
 use Rattle.cedar_below.proofs.Lists.{Contains-cons}
-use Rattle.cedar_below.specs.CoreTy.{core_extension}
-use Rattle.cedar_below.specs.CoreSchemaType.{result_type}
-use Rattle.cedar_below.specs.Fits.{EntryFits, Gives, NamesListed}
+use Rattle.cedar_type_rules.specs.Words.{AnyBool, AreInhabited, AreTexts, AreWellFormed, Below, BoolType, ClosedAttributes, Entries, EntryFits, Extensions, False, Fields, FieldsBelow, FieldsIncluded, FieldsListNames, FieldsRequireAll, Gives, Has, HasBy, HasField, HasFieldsBy, Included, IncludedByParts, IsInhabited, IsNeverThere, IsSortedByName, IsText, IsValue, IsWellFormed, ListsNames, NamesBelow, NamesListed, OpenAttributes, OpenTag, OpennessBelow, PartsTellInclusion, Permissive, PlainName, RequiresAll, SubtypingIsInclusion, SubtypingIsInclusionAndNames, Text, Tree, Trees, True, Ty, ValuesIncluded, any_entity, any_set, call_value, core_extension, end, entry, entry_at, entry_names, extension_of, field, field_names, is_open, long, map_value, never, no_tree, number_value, record_of, result_type, set_of, set_value, text, text_value, tree, truth, truth_value, uid_value, union_of}
 use Rattle.cedar_below.proofs.ValueLemmas.{stretch_name, IsText-nil, IsName-stretch}
-use Rattle.cedar_below.specs.IsValue.{IsText, IsValue}
-use Rattle.cedar_below.specs.Lists.{Included}
-use Rattle.cedar_below.specs.PlainName.{PlainName}
-use Rattle.cedar_below.specs.Text.{Text}
-use Rattle.cedar_below.specs.Tree.{Tree, truth_value, number_value, text_value, uid_value, set_value, map_value, call_value, Trees, no_tree, tree, Entries, entry, entry_at, entry_names}
-use Rattle.cedar_below.specs.declared.extension.Extensions.{Extensions}
-use Rattle.cedar_below.specs.declared.validation_mode.ValidationMode.TheVariants.{Permissive}
 use Rattle.cedar_type_rules.proofs.AgreeLaws.{HasField-once, AreWellFormed-of}
 use Rattle.cedar_type_rules.proofs.Decisions.{decide_among}
 use Rattle.cedar_type_rules.proofs.MemberLaws.{EachTree-weaker, EntryFits-weaker, FlagsBelow-missing, HasBy-above, HasFieldsBy-of, HasTruth-above, NamesListed-above}
 use Rattle.cedar_type_rules.proofs.RecordAnswers.{decide_texts}
 use Rattle.cedar_type_rules.proofs.SampleValues.{HasFields-from, fits_some, some_fits, entry_here, entry_there, absent_entry, fresh_text, fresh_name, truth_sample, some_name, uid_is_value, zero_is_value, only_listed, Sample, inhabitant, sample}
 use Rattle.cedar_type_rules.proofs.SubtypeLaws.{FieldsWithin, HasField-name, HasField-named, FieldsBelow-names}
-use Rattle.cedar_type_rules.specs.Fields.{IsSortedByName, field_names}
-use Rattle.cedar_type_rules.specs.Below.{HasField, OpennessBelow, NamesBelow, Below, FieldsBelow}
-use Rattle.cedar_type_rules.specs.Has.{Has, HasBy, HasFieldsBy}
-use Rattle.cedar_type_rules.specs.IncludedByParts.{FieldsIncluded, IncludedByParts, IsNeverThere}
-use Rattle.cedar_type_rules.specs.OpenTag.{is_open}
-use Rattle.cedar_type_rules.specs.InclusionLaws.{PartsTellInclusion, ValuesIncluded, ListsNames, FieldsListNames, SubtypingIsInclusion, SubtypingIsInclusionAndNames}
-use Rattle.cedar_type_rules.specs.Stated.{IsInhabited, AreInhabited, RequiresAll, FieldsRequireAll}
-use Rattle.cedar_type_rules.specs.Ty.{Ty, never, truth, long, text, any_entity, union_of, any_set, set_of, record_of, extension_of, Fields, end, field}
-use Rattle.cedar_type_rules.specs.WellFormed.{IsWellFormed, AreWellFormed, AreTexts}
-use Rattle.cedar_type_rules.specs.declared.bool_type.BoolType.{BoolType}
-use Rattle.cedar_type_rules.specs.declared.bool_type.BoolType.TheVariants.{AnyBool, True, False}
-use Rattle.cedar_type_rules.specs.declared.open_tag.OpenTag.{OpenTag}
-use Rattle.cedar_type_rules.specs.declared.open_tag.OpenTag.TheVariants.{OpenAttributes, ClosedAttributes}
 
 -- the type of an inhabited attribute is inhabited
 AreInhabited-of : (extensions : Extensions) (fields : Fields) (name : Text) (required : Bool) (ty : Ty)

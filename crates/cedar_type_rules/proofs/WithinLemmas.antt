@@ -2,19 +2,11 @@
 use Rattle.std.proofs.Common.{◌≡◌, ◌⊎◌, inl, inr, Bool, true, false, refl, sym, ◌∙◌, if◌then◌else◌, ◌∷◌}
 use Rattle.std.proofs.lemmas.Slice.Eq.{bytes_eq-Decides}
 use Rattle.std.specs.Str.{bytes_eq}
-use Rattle.cedar_below.specs.Lists.{Included}
-use Rattle.cedar_below.specs.Text.{Text}
-use Rattle.cedar_below.specs.declared.validation_mode.ValidationMode.{ValidationMode}
-use Rattle.cedar_below.specs.declared.validation_mode.ValidationMode.TheVariants.{Strict}
+use Rattle.cedar_type_rules.specs.Words.{Below, Fields, FieldsBelow, FieldsLieWithin, HasField, Included, IsEither, IsElementOf, IsLeastOwnBound, IsNamedIn, IsOwnBound, IsSortedByName, LiesWithin, OpenTag, Strict, Text, Ty, ValidationMode, end, field, field_names, record_of, set_of}
 use Rattle.cedar_type_rules.proofs.AgreeLaws.{HasField-once}
 use Rattle.cedar_type_rules.proofs.OwnBoundLemmas.{LiesWithin-more}
 use Rattle.cedar_type_rules.proofs.SubtypeLaws.{HasBelow-of}
 use Rattle.cedar_type_rules.proofs.SubtypeLemmas.{HasBelow, chosen_first}
-use Rattle.cedar_type_rules.specs.Fields.{IsSortedByName, field_names}
-use Rattle.cedar_type_rules.specs.Below.{HasField, Below, FieldsBelow}
-use Rattle.cedar_type_rules.specs.OwnBound.{IsElementOf, IsNamedIn, LiesWithin, FieldsLieWithin, IsEither, IsOwnBound, IsLeastOwnBound}
-use Rattle.cedar_type_rules.specs.Ty.{Ty, set_of, record_of, Fields, end, field}
-use Rattle.cedar_type_rules.specs.declared.open_tag.OpenTag.{OpenTag}
 
 -- attributes are below others if there is one below each of those
 pub FieldsBelow-from : (mode : ValidationMode) (lower upper : Fields)

@@ -1,6 +1,5 @@
 use Rattle.std.specs.Prelude.{◌≡◌, ◌⊎◌, Bool, true, false, List, Contains}
-use Rattle.cedar_below.specs.CoreTy.{CoreTy, CoreFields, core_truth, core_long, core_text, core_set, core_empty_set, core_record, core_entity, core_extension, core_end, core_field, core_names}
-use Rattle.cedar_below.specs.Text.{Text}
+use Rattle.cedar_below.specs.Words.{CoreFields, CoreTy, Text, core_empty_set, core_end, core_entity, core_extension, core_field, core_long, core_names, core_record, core_set, core_text, core_truth}
 use Rattle.cedar_type_rules.specs.Fields.{field_names}
 use Rattle.cedar_type_rules.specs.Below.{HasField}
 use Rattle.cedar_type_rules.specs.Ty.{Ty, truth, long, text, any_entity, union_of, any_set, set_of, record_of, extension_of, Fields, end, field}

@@ -1,8 +1,5 @@
 use Rattle.std.specs.Prelude.{◌≡◌, ◌⊎◌, Bool, true, false, Contains, Option, Some, None}
-use Rattle.cedar_below.specs.Fits.{IsUnknown, EntryFits, Gives, NamesListed}
-use Rattle.cedar_below.specs.PlainName.{PlainName}
-use Rattle.cedar_below.specs.PlainUid.{PlainUid}
-use Rattle.cedar_below.specs.Tree.{Tree, truth_value, number_value, text_value, uid_value, set_value, map_value, call_value, Trees, Entries, entry_at, entry_names, EachTree, SomeTree}
+use Rattle.cedar_below.specs.Words.{EachTree, Entries, EntryFits, Gives, IsUnknown, NamesListed, PlainName, PlainUid, SomeTree, Tree, Trees, call_value, entry_at, entry_names, map_value, number_value, set_value, text_value, truth_value, uid_value}
 use Rattle.cedar_below.specs.declared.extension.Extensions.{Extensions}
 use Rattle.cedar_type_rules.specs.OpenTag.{is_open}
 use Rattle.cedar_type_rules.specs.Fields.{field_names}

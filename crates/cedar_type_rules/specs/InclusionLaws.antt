@@ -1,7 +1,5 @@
 use Rattle.std.specs.Prelude.{◌↔◌, Bool}
-use Rattle.cedar_below.specs.IsValue.{IsValue}
-use Rattle.cedar_below.specs.Lists.{Included}
-use Rattle.cedar_below.specs.Tree.{Tree}
+use Rattle.cedar_below.specs.Words.{Included, IsValue, Tree}
 use Rattle.cedar_below.specs.declared.extension.Extensions.{Extensions}
 use Rattle.cedar_below.specs.declared.validation_mode.ValidationMode.TheVariants.{Permissive}
 use Rattle.cedar_type_rules.specs.Fields.{field_names}

@@ -28,3 +28,4 @@ pub mod Stated
 pub mod Ty
 pub mod TypeText
 pub mod WellFormed
+pub mod Words

@@ -30,8 +30,7 @@ impl BoolType {
 }
 
 impl fmt::Display for BoolType {
-    ghost use Rattle.std.specs.Prelude.{Some};
-    ghost use Rattle.cedar_type_rules.specs.BoolType.{bool_text};
+    ghost use Rattle.cedar_type_rules.specs.Words.{Some, bool_text};
 
     ghost output = { λ known. Some (bool_text known) };
 

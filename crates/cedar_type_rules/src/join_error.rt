@@ -20,8 +20,7 @@ pub enum LubHelp {
 }
 
 impl fmt::Display for LubHelp {
-    ghost use Rattle.std.specs.Prelude.{Some};
-    ghost use Rattle.cedar_type_rules.specs.LubHelp.{help_text};
+    ghost use Rattle.cedar_type_rules.specs.Words.{Some, help_text};
 
     ghost output = { λ help. Some (help_text help) };
 
@@ -48,8 +47,7 @@ pub enum JoinError {
 impl Error for JoinError {}
 
 impl fmt::Display for JoinError {
-    ghost use Rattle.std.specs.Prelude.{Some};
-    ghost use Rattle.cedar_type_rules.specs.LubHelp.{join_error_text};
+    ghost use Rattle.cedar_type_rules.specs.Words.{Some, join_error_text};
 
     ghost output = { λ error. Some (join_error_text error) };
 

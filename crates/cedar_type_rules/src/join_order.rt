@@ -1,10 +1,7 @@
 //! What is ordered in each mode and can be joined, with the laws of joins.
 
-ghost use Rattle.std.specs.Prelude.{◌↔◌, ◌∷◌, IsTrue, Result, Ok, Err};
-ghost use Rattle.std.specs.List.{AllByRecursion};
-ghost use Rattle.cedar_type_rules.specs.Joining.{IsGivenOrMemory, IsFoldOfJoins, IsLeastClean};
-ghost use Rattle.cedar_type_rules.specs.declared.join_error.LubHelp.{LubHelp};
-ghost use Rattle.cedar_below.specs.declared.validation_mode.ValidationMode.{ValidationMode};
+ghost use Rattle.std.specs.Prelude.{Err, IsTrue, Ok, Result, ◌↔◌, ◌∷◌};
+ghost use Rattle.cedar_type_rules.specs.Words.{AllByRecursion, IsFoldOfJoins, IsGivenOrMemory, IsLeastClean, LubHelp, ValidationMode};
 
 use crate::join_error::JoinError;
 use cedar_below::ValidationMode;

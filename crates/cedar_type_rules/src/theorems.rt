@@ -1,29 +1,8 @@
 //! Laws of plain types: subtyping and the values that types have, joins, and core types.
 
-ghost use Rattle.std.specs.Prelude.{◌≡◌, ◌↔◌};
-ghost use Rattle.cedar_below.specs.FeedsVariant.{FeedsVariantFirst};
-ghost use Rattle.cedar_below.specs.Tree.{Tree};
-ghost use Rattle.cedar_below.specs.declared.extension.Extensions.{Extensions};
-ghost use Rattle.cedar_below.specs.declared.validation_mode.ValidationMode.{ValidationMode};
+ghost use Rattle.std.specs.Prelude.{◌↔◌, ◌≡◌};
+ghost use Rattle.cedar_type_rules.specs.Words.{Agree, Below, CleanAreReducedInAnyOrder, CleanAreReducedToLeastClean, CleanBoundsAreOwn, CleanIsWithoutAnySet, ComparesBy, CoreIsLackedExactly, DisjointTypesShareNoValue, EmptyIsReducedToNever, Extensions, FeedsVariantFirst, Has, IncludedByParts, IsWellFormed, JoinsAreAnswered, JoinsAreBelowCleanBounds, JoinsAreCommutative, JoinsAreGivenExactly, JoinsAreUnique, JoinsOfCleanAreLeastClean, MayHave, OwnBoundsOfCleanAreClean, PartsTellInclusion, ReductionsAreAnswered, ReductionsAreUnique, ReductionsAreWellFormed, RefusalsAreOfTheFirst, StrictJoinsArePermissive, SubtypingIsInclusion, SubtypingIsInclusionAndNames, Tree, Ty, UpperTypesAreJoins, ValidationMode, openness_cmp, truth_cmp};
 ghost use Rattle.cedar_below.specs.declared.validation_mode.ValidationMode.TheVariants as mode;
-ghost use Rattle.cedar_type_rules.specs.Agree.{Agree};
-ghost use Rattle.cedar_type_rules.specs.Below.{Below};
-ghost use Rattle.cedar_type_rules.specs.Clean.{CleanIsWithoutAnySet};
-ghost use Rattle.cedar_type_rules.specs.CompareLaws.{ComparesBy};
-ghost use Rattle.cedar_type_rules.specs.CoreOf.{CoreIsLackedExactly};
-ghost use Rattle.cedar_type_rules.specs.Disjoint.{DisjointTypesShareNoValue};
-ghost use Rattle.cedar_type_rules.specs.Has.{Has, MayHave};
-ghost use Rattle.cedar_type_rules.specs.IncludedByParts.{IncludedByParts};
-ghost use Rattle.cedar_type_rules.specs.InclusionLaws.{PartsTellInclusion, SubtypingIsInclusion, SubtypingIsInclusionAndNames};
-ghost use Rattle.cedar_type_rules.specs.JoinLaws.{CleanBoundsAreOwn, OwnBoundsOfCleanAreClean, JoinsAreAnswered, JoinsAreGivenExactly};
-ghost use Rattle.cedar_type_rules.specs.JoinLaws.{JoinsAreUnique, UpperTypesAreJoins, JoinsAreBelowCleanBounds, JoinsOfCleanAreLeastClean};
-ghost use Rattle.cedar_type_rules.specs.JoinLaws.{JoinsAreCommutative, StrictJoinsArePermissive};
-ghost use Rattle.cedar_type_rules.specs.Order.{truth_cmp, openness_cmp};
-ghost use Rattle.cedar_type_rules.specs.ReduceLaws.{ReductionsAreAnswered, EmptyIsReducedToNever};
-ghost use Rattle.cedar_type_rules.specs.ReduceLaws.{CleanAreReducedToLeastClean, CleanAreReducedInAnyOrder};
-ghost use Rattle.cedar_type_rules.specs.ReduceLaws.{ReductionsAreUnique, ReductionsAreWellFormed, RefusalsAreOfTheFirst};
-ghost use Rattle.cedar_type_rules.specs.WellFormed.{IsWellFormed};
-ghost use Rattle.cedar_type_rules.specs.Ty.{Ty};
 
 use crate::bool_type::BoolType;
 use crate::open_tag::OpenTag;

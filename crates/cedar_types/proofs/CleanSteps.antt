@@ -3,15 +3,8 @@ use Rattle.std.proofs.Common.{◌≡◌, ◌↔◌, ◌∙◌, false, List, ◌�
 use Rattle.std.specs.Bool.{Decides}
 use Rattle.std.specs.declared.string.String.{String}
 use Rattle.cedar_below.proofs.Inclusion.{rest_alone, part_fails}
-use Rattle.cedar_type_rules.specs.Clean.{IsClean, AreClean}
-use Rattle.cedar_type_rules.specs.Ty.{fields_from}
+use Rattle.cedar_types.specs.Words.{AreClean, AttributeType, Attributes, IsClean, «Type», attribute_of, fields_from, fields_of, fields_of-pairs, out-AttributeType, pairs_of, plain_attributes, ty_of}
 use Rattle.cedar_types.proofs.EqualityLaws.{attribute_of-parts}
-use Rattle.cedar_types.specs.Attributes.{plain_attributes}
-use Rattle.cedar_types.specs.Layers.{pairs_of, fields_of-pairs}
-use Rattle.cedar_types.specs.Meaning.{ty_of, attribute_of, fields_of}
-use Rattle.cedar_types.specs.declared.attributes.AttributeType.{AttributeType, out-AttributeType}
-use Rattle.cedar_types.specs.declared.attributes.Attributes.{Attributes}
-use Rattle.cedar_types.specs.declared.types.Type.{«Type»}
 
 -- the types of the attributes that are left are clean exactly where all are
 abbrev pub IsCleanLeft : Attributes → List (String Global × AttributeType) → Type 0

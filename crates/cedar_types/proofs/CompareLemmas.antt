@@ -3,24 +3,16 @@ use Rattle.std.proofs.Common.{◌≡◌, ◌↔◌, refl, sym, ap, ◌∙◌, Is
 use Rattle.std.specs.Cmp.Derive.Mapped.{lex_map}
 use Rattle.std.specs.Cmp.Lexicographic.{slice_cmp}
 use Rattle.cedar_below.proofs.Names.{entity_type_eq-same, entity_type_ord-name_cmp}
-use Rattle.cedar_below.specs.EntityType.{type_name}
-use Rattle.cedar_below.specs.PlainName.{name_cmp}
+use Rattle.cedar_types.specs.Words.{ComparesBy, EntityKind, EntityLUB, kind_ty, lub_names, name_cmp, ty_cmp, type_name, union_cmp, union_of}
 use Rattle.cedar_type_rules.proofs.CompareLemmas.{ties_from}
 use Rattle.cedar_type_rules.proofs.SubtypeLemmas.{pointwise-map_Decides}
-use Rattle.cedar_type_rules.specs.CompareLaws.{ComparesBy}
-use Rattle.cedar_type_rules.specs.Order.{ty_cmp, union_cmp}
-use Rattle.cedar_types.specs.EntityKind.{kind_ty}
-use Rattle.cedar_types.specs.EntityLUB.{lub_names}
-use Rattle.cedar_type_rules.specs.Ty.{union_of}
 use Rattle.cedar_types.specs.contracts.entity_kind.EntityKindHash.TheImpl as kind_hash
 use Rattle.cedar_types.specs.contracts.entity_kind.EntityKindOrd.TheImpl as kind_ord
 use Rattle.cedar_types.specs.contracts.entity_kind.EntityKindPartialEq.TheImpl as kind_eq
 use Rattle.cedar_types.specs.contracts.entity_lub.EntityLUBHash.TheImpl as lub_hash
 use Rattle.cedar_types.specs.contracts.entity_lub.EntityLUBOrd.TheImpl as lub_ord
 use Rattle.cedar_types.specs.contracts.entity_lub.EntityLUBPartialEq.TheImpl as lub_eq
-use Rattle.cedar_types.specs.declared.entity_kind.EntityKind.{EntityKind}
 use Rattle.cedar_types.specs.declared.entity_kind.EntityKind.TheVariants as kind
-use Rattle.cedar_types.specs.declared.entity_lub.EntityLUB.{EntityLUB}
 
 -- unions are equal exactly where their names are
 lub_eq-same : (a b : EntityLUB) → IsTrue ((lub_eq.ghosts).eq a b) ↔ (lub_names a ≡ lub_names b)

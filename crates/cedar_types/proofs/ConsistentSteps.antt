@@ -13,26 +13,13 @@ use Rattle.cedar_below.proofs.Inclusion.{rest_alone, part_fails}
 use Rattle.cedar_below.proofs.Ordered.{IsStrictlySortedBy-map}
 use Rattle.cedar_below.proofs.Texts.{text_cmp-total}
 use Rattle.cedar_below.proofs.TreeLemmas.{core_attribute_of-parts, drop-at}
-use Rattle.cedar_below.specs.CoreSchemaType.{core_ty_of, core_attribute_of}
-use Rattle.cedar_below.specs.CoreTy.{core_fields_from, core_names}
-use Rattle.cedar_below.specs.Text.{Text, text_cmp}
-use Rattle.cedar_below.specs.declared.core_schema_type.CoreAttributeType.{CoreAttributeType}
+use Rattle.cedar_types.specs.Words.{AreSortedByName, AttributeType, Attributes, CoreAttributeType, IsConsistent, Text, «Type», attribute_of, core_attribute_of, core_fields_from, core_names, core_ty_of, entry_texts, field_names, field_names-entries, fields_from, fields_of, fields_of-pairs, out-AttributeType, out-Attributes, pairs_of, plain_attributes, plain_entry, text_cmp, ty_of}
 use Rattle.cedar_type_rules.proofs.ConsistentWalk.{AreConsistent, consistent-other, consistent-both, consistent-front, consistent-left, MayBeMissing}
-use Rattle.cedar_type_rules.specs.Consistent.{IsConsistent}
-use Rattle.cedar_type_rules.specs.Fields.{field_names}
-use Rattle.cedar_type_rules.specs.Ty.{fields_from}
 use Rattle.cedar_name_map.proofs.RisingLemmas.{Ahead, AllBelow, Ahead-first, Ahead-next, Ahead-past, Ahead-sought, missed, below_all, below_each-apart, taken-all, rises-from, seen-from}
 use Rattle.cedar_name_map.proofs.SearchLemmas.{text_of, text_at}
-use Rattle.cedar_name_map.specs.ByName.{AreSortedByName, entry_texts}
 use Rattle.cedar_types.proofs.CoredWalk.{core_entry}
 use Rattle.cedar_types.proofs.EqualityLaws.{attribute_of-parts}
 use Rattle.cedar_types.proofs.SubtypeSteps.{Sought, IsAt}
-use Rattle.cedar_types.specs.Attributes.{plain_attributes}
-use Rattle.cedar_types.specs.Layers.{plain_entry, pairs_of, fields_of-pairs, field_names-entries}
-use Rattle.cedar_types.specs.Meaning.{ty_of, fields_of, attribute_of}
-use Rattle.cedar_types.specs.declared.attributes.AttributeType.{AttributeType, out-AttributeType}
-use Rattle.cedar_types.specs.declared.attributes.Attributes.{Attributes, out-Attributes}
-use Rattle.cedar_types.specs.declared.types.Type.{«Type»}
 
 -- the name of an attribute of a core record type
 abbrev pub core_text : String Global × CoreAttributeType → Text

@@ -11,22 +11,9 @@ use Rattle.std.specs.declared.string.String.{String}
 use Rattle.cedar_below.proofs.Ordered.{above_front, insert_entry-end}
 use Rattle.cedar_below.proofs.Texts.{text_cmp-total}
 use Rattle.cedar_below.proofs.TreeLemmas.{core_attribute_of-parts}
-use Rattle.cedar_below.specs.CoreSchemaType.{core_ty_of, core_attribute_of}
-use Rattle.cedar_below.specs.CoreTy.{CoreTy, core_fields_from}
-use Rattle.cedar_below.specs.Lists.{HoldsPairwise}
-use Rattle.cedar_below.specs.Text.{Text, text_cmp}
-use Rattle.cedar_below.specs.declared.core_schema_type.CoreAttributeType.{CoreAttributeType}
+use Rattle.cedar_types.specs.Words.{AreSortedByName, AttributeType, CoreAttributeType, CoreTy, CoreTypeFault, HoldsPairwise, IsCoreFault, IsFieldsFault, Text, Ty, attribute_of, core_attribute_of, core_fields, core_fields_from, core_of, core_ty_of, entry_texts, fields_from, out-AttributeType, plain_attributes, plain_entry, text_cmp, ty_of}
 use Rattle.cedar_type_rules.proofs.CoreSteps.{IsCored, cored-fields, cored-more, cored-names, fault-middle}
-use Rattle.cedar_type_rules.specs.CoreFault.{IsCoreFault, IsFieldsFault}
-use Rattle.cedar_type_rules.specs.CoreOf.{core_of, core_fields}
-use Rattle.cedar_type_rules.specs.Ty.{Ty, fields_from}
-use Rattle.cedar_type_rules.specs.declared.core_type_fault.CoreTypeFault.{CoreTypeFault}
-use Rattle.cedar_name_map.specs.ByName.{AreSortedByName, entry_texts}
 use Rattle.cedar_types.proofs.EqualityLaws.{attribute_of-parts}
-use Rattle.cedar_types.specs.Attributes.{plain_attributes}
-use Rattle.cedar_types.specs.Layers.{plain_entry}
-use Rattle.cedar_types.specs.Meaning.{ty_of, attribute_of}
-use Rattle.cedar_types.specs.declared.attributes.AttributeType.{AttributeType, out-AttributeType}
 
 -- what an entry of a core record type stands for
 abbrev pub core_entry : String Global × CoreAttributeType → Text × (Bool × CoreTy)

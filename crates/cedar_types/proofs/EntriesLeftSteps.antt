@@ -15,13 +15,9 @@ use Rattle.std.specs.declared.cmp.Ordering.TheVariants.{Less, Equal, Greater}
 use Rattle.std.specs.declared.string.String.{String}
 use Rattle.cedar_below.proofs.Ordered.{apart, IsStrictlySortedBy-map}
 use Rattle.cedar_below.proofs.Texts.{text_cmp-total, text_cmp-Equal}
-use Rattle.cedar_below.specs.Text.{Text, text_cmp}
-use Rattle.cedar_below.specs.declared.value.RestrictedExpr.{RestrictedExpr}
+use Rattle.cedar_types.specs.Words.{AreSortedByName, EntriesLeft, RestrictedExpr, Text, entries_left, entry_texts, text_cmp, value_at}
 use Rattle.cedar_name_map.proofs.MadeLemmas.{value_at-cons}
 use Rattle.cedar_name_map.proofs.SearchLemmas.{same-found, value_at-missed}
-use Rattle.cedar_name_map.specs.ByName.{AreSortedByName, entry_texts, value_at}
-use Rattle.cedar_types.specs.EntriesLeft.{entries_left}
-use Rattle.cedar_types.specs.declared.entries_left.EntriesLeft.{EntriesLeft}
 use denote.Ref.{Bor}
 
 -- pairs whose keys are sorted without duplicates have names that do

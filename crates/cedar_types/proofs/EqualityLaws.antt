@@ -6,21 +6,14 @@ use Rattle.std.specs.Cmp.Lexicographic.{pointwise}
 use Rattle.std.specs.declared.string.String.{String}
 use Rattle.cedar_below.proofs.Names.{name_eq-same}
 use Rattle.cedar_below.proofs.Texts.{text_eq-Decides}
-use Rattle.cedar_below.specs.Text.{Text}
+use Rattle.cedar_types.specs.Words.{AttributeType, Attributes, Fields, Text, Ty, «Type», attribute_of, attribute_step, attributes_step, end, extension_of, field, fields_from, fields_of, fields_of-rolled, fold-roll-Type, fold_out-AttributeType, folded_layer, ind-AttributeType, ind-Attributes, ind-Type, kind_rank, map-AttributeType, map-Attributes, map-Type, never, out-AttributeType, out-Attributes, out-Type, out-roll-Attributes, plain_entry, record_of, roll-AttributeType, roll-Attributes, roll-Type, roll-out-Attributes, roll-out-Type, set_of, truth, ty_of, type_step}
 use Rattle.cedar_type_rules.proofs.CompareLemmas.{bool_eq-same}
 pub use Rattle.cedar_type_rules.proofs.CompareLemmas.{none, open_tag-Decides}
 use Rattle.cedar_types.proofs.CompareLemmas.{kind_eq-same}
-use Rattle.cedar_type_rules.specs.Order.{kind_rank}
-use Rattle.cedar_types.specs.Layers.{folded_layer, fields_of-rolled, plain_entry}
-use Rattle.cedar_types.specs.Meaning.{ty_of, attribute_of, fields_of, type_step, attribute_step, attributes_step}
-use Rattle.cedar_type_rules.specs.Ty.{Ty, never, truth, set_of, record_of, extension_of, Fields, end, field, fields_from}
 use Rattle.cedar_types.specs.contracts.attributes.AttributeTypePartialEq.TheImpl as attribute_type_eq
 use Rattle.cedar_types.specs.contracts.attributes.AttributesPartialEq.TheImpl as attributes_eq
 use Rattle.cedar_types.specs.contracts.types.TypePartialEq.TheImpl as type_eq
-use Rattle.cedar_types.specs.declared.attributes.AttributeType.{AttributeType, ind-AttributeType, roll-AttributeType, out-AttributeType, map-AttributeType, fold_out-AttributeType}
-use Rattle.cedar_types.specs.declared.attributes.Attributes.{Attributes, ind-Attributes, roll-Attributes, out-Attributes, roll-out-Attributes, out-roll-Attributes, map-Attributes}
 use Rattle.cedar_types.specs.declared.entity_kind.EntityKind.TheVariants as kind
-use Rattle.cedar_types.specs.declared.types.Type.{«Type», roll-Type, out-Type, roll-out-Type, ind-Type, map-Type, fold-roll-Type}
 use Rattle.cedar_types.specs.declared.types.Type.TheOpen as layer
 
 -- tests of flags decide whether they are the same

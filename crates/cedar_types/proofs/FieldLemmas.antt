@@ -8,18 +8,7 @@ use Rattle.std.specs.Str.{bytes_eq}
 use Rattle.std.specs.declared.alloc.Global.{Global}
 use Rattle.std.specs.declared.rc.Rc.{Rc}
 use Rattle.std.specs.declared.string.String.{String}
-use Rattle.cedar_below.specs.Text.{Text}
-use Rattle.cedar_below.specs.LastNamed.{last_named}
-use Rattle.cedar_type_rules.specs.Fields.{field_names, HoldsLast, IsSortedByName}
-use Rattle.cedar_type_rules.specs.Ty.{Ty, Fields, end, field, fields_from, field_at}
-use Rattle.cedar_types.specs.Attributes.{plain_attributes}
-use Rattle.cedar_name_map.specs.ByName.{entry_texts, value_at, with_texts}
-use Rattle.cedar_types.specs.Located.{located, located_attributes, KeepsLast}
-use Rattle.cedar_types.specs.Layers.{pairs_of, fields_of-pairs, field_names-pairs, IsSortedByName-fields}
-use Rattle.cedar_types.specs.Meaning.{fields_of, attribute_of}
-use Rattle.cedar_types.specs.declared.attributes.AttributeType.{AttributeType}
-use Rattle.cedar_types.specs.declared.attributes.Attributes.{Attributes, out-Attributes, roll-Attributes, out-roll-Attributes}
-use Rattle.cedar_name_map.specs.declared.by_name.ByName.{ByName}
+use Rattle.cedar_types.specs.Words.{AttributeType, Attributes, ByName, Fields, HoldsLast, IsSortedByName, IsSortedByName-fields, KeepsLast, Text, Ty, attribute_of, end, entry_texts, field, field_at, field_names, field_names-pairs, fields_from, fields_of, fields_of-pairs, last_named, located, located_attributes, out-Attributes, out-roll-Attributes, pairs_of, plain_attributes, roll-Attributes, value_at, with_texts}
 
 -- a choice between an attribute and what an option stands for is what the choice of the two stands for
 option_map-chosen : {A B : Type 0} (f : A → B) (b : Bool) (x : A) (m : Option B) (n : Option A) → m ≡ option_map f n

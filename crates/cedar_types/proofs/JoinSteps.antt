@@ -8,43 +8,20 @@ use Rattle.std.specs.Option.{option_map}
 use Rattle.std.specs.declared.alloc.Global.{Global}
 use Rattle.std.specs.declared.string.String.{String}
 use Rattle.cedar_below.proofs.Texts.{text_cmp-total, text_cmp-Equal}
-use Rattle.cedar_below.specs.Lists.{Included}
-use Rattle.cedar_below.specs.Text.{Text, text_cmp}
-use Rattle.cedar_below.specs.declared.validation_mode.ValidationMode.TheVariants.{Strict, Permissive}
+use Rattle.cedar_types.specs.Words.{AreSortedByName, AttributeType, Attributes, ClosedAttributes, Fields, HasField, HaveOwnBound, Included, IsAnswerOrMemory, IsFlagHelp, IsHelp, IsHelpAtName, IsJoinAnswer, IsLeastOwnBound, IsPermissiveAttribute, IsSortedByName, IsSortedByName-fields, IsStrictAttribute, IsWellFormed, IsWellFormed-type, JoinError, LubHelp, OpenAttributes, OpenTag, Permissive, Strict, Text, Ty, attribute_loc, attribute_of, attribute_ty, either_open, field, field_names, field_names-entries, field_names-pairs, fields_from, fields_of, fields_of-pairs, located, out-AttributeType, out-Attributes, pairs_of, plain_attributes, record_of, text_cmp, ty_of, value_at}
 use Rattle.cedar_type_rules.proofs.AgreeLaws.{HasField-once}
 use Rattle.cedar_type_rules.proofs.Decisions.{all_among}
 use Rattle.cedar_type_rules.proofs.RecordAnswers.{PermissiveJoin, NothingDropped, no_permissive, drop_one, keep_one, permissive_names, permissive_second, permissive_closed, permissive_open}
 use Rattle.cedar_type_rules.proofs.StrictRecordAnswers.{StrictJoin, no_strict, keep_strict, help_refuses, strict_least, same_names}
 use Rattle.cedar_type_rules.proofs.SubtypeLaws.{HasField-name, HasField-named}
 use Rattle.cedar_type_rules.proofs.SubtypeLemmas.{HasField-found}
-use Rattle.cedar_type_rules.specs.Below.{HasField}
-use Rattle.cedar_type_rules.specs.Fields.{IsSortedByName, field_names}
-use Rattle.cedar_type_rules.specs.Help.{IsHelp, IsFlagHelp, IsHelpAtName}
-use Rattle.cedar_type_rules.specs.JoinAnswer.{IsJoinAnswer, IsAnswerOrMemory}
-use Rattle.cedar_type_rules.specs.OpenTag.{either_open}
-use Rattle.cedar_type_rules.specs.OwnBound.{HaveOwnBound, IsLeastOwnBound}
-use Rattle.cedar_type_rules.specs.Ty.{Ty, record_of, Fields, field, fields_from}
-use Rattle.cedar_type_rules.specs.WellFormed.{IsWellFormed}
-use Rattle.cedar_type_rules.specs.declared.join_error.JoinError.{JoinError}
 use Rattle.cedar_type_rules.specs.declared.join_error.JoinError.TheVariants as error
-use Rattle.cedar_type_rules.specs.declared.join_error.LubHelp.{LubHelp}
 use Rattle.cedar_type_rules.specs.declared.join_error.LubHelp.TheVariants as help
-use Rattle.cedar_type_rules.specs.declared.open_tag.OpenTag.{OpenTag}
-use Rattle.cedar_type_rules.specs.declared.open_tag.OpenTag.TheVariants.{OpenAttributes, ClosedAttributes}
-use Rattle.cedar_types.specs.Layers.{IsSortedByName-fields, field_names-entries, field_names-pairs, fields_of-pairs, pairs_of}
 use Rattle.cedar_types.proofs.FieldLemmas.{field_at-pairs, length-fields}
 use Rattle.cedar_types.proofs.EqualityLaws.{attribute_of-parts}
-use Rattle.cedar_types.specs.WellFormedTypes.{IsWellFormed-type}
 use Rattle.cedar_name_map.proofs.RisingLemmas.{Ahead, AllBelow, Included-back, Included-length, Ahead-first, Ahead-next, Ahead-sought, missed}
 use Rattle.cedar_name_map.proofs.SearchLemmas.{text_of, value_at-place}
 use Rattle.cedar_types.proofs.SubtypeSteps.{Sought, IsAt}
-use Rattle.cedar_types.specs.Attributes.{plain_attributes}
-use Rattle.cedar_types.specs.AttributeJoin.{attribute_ty, IsPermissiveAttribute, IsStrictAttribute}
-use Rattle.cedar_name_map.specs.ByName.{AreSortedByName, value_at}
-use Rattle.cedar_types.specs.Located.{located}
-use Rattle.cedar_types.specs.Meaning.{ty_of, fields_of, attribute_of, attribute_loc}
-use Rattle.cedar_types.specs.declared.attributes.Attributes.{Attributes, out-Attributes}
-use Rattle.cedar_types.specs.declared.attributes.AttributeType.{AttributeType, out-AttributeType}
 
 -- pairs of a name and an attribute
 abbrev pub Pairs : Type 0

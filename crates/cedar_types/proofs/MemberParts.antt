@@ -6,29 +6,9 @@ use Rattle.std.specs.declared.alloc.Global.{Global}
 use Rattle.std.specs.declared.rc.Rc.{Rc}
 use Rattle.std.specs.declared.string.String.{String}
 use Rattle.cedar_below.proofs.TreeLemmas.{drop-at, entry_at-entries, not-Decides}
-use Rattle.cedar_below.specs.Fits.{EntryFits, Gives, NamesListed}
-use Rattle.cedar_below.specs.Name.{plain_name}
-use Rattle.cedar_below.specs.RestrictedExpr.{tree_of, trees_of, entries_of}
-use Rattle.cedar_below.specs.Text.{Text}
-use Rattle.cedar_below.specs.Tree.{Tree, uid_value, map_value, Trees, Entries, entry_at, entry_names, EachTree, SomeTree}
-use Rattle.cedar_below.specs.declared.extension.Extensions.{Extensions}
-use Rattle.cedar_below.specs.declared.name.Name.{Name}
-use Rattle.cedar_below.specs.declared.value.RestrictedExpr.{RestrictedExpr}
+use Rattle.cedar_types.specs.Words.{Answer, AttributeType, Attributes, EachTree, EntityKind, Entries, EntryFits, Extensions, Fields, FieldsMeet, Gives, Has, HasFieldsBy, HasUid, IsMembership, MayGive, MayHave, Meets, Name, NamesListed, OpenTag, PlainUid, RestrictedExpr, SomeEntry, SomeTree, Text, Tree, Trees, Ty, «Type», attribute_of, attribute_step, attributes_step, entries_of, entry_at, entry_names, extension_of, field, field_names, fields_of, fold-roll-Type, fold_out-AttributeType, is_open, kind_ty, map_value, out-AttributeType, plain_name, record_of, roll-Type, set_of, tree_of, trees_of, ty_of, type_step, uid_value}
 use Rattle.cedar_types.proofs.MembershipLemmas.{IsBoth, IsMembershipSoFar, IsMembershipSoFar-more, IsMembership-test}
-use Rattle.cedar_types.specs.MembershipAnswer.{Answer, IsMembership}
-use Rattle.cedar_type_rules.specs.Fields.{field_names}
-use Rattle.cedar_types.specs.EntityKind.{kind_ty}
-use Rattle.cedar_type_rules.specs.Has.{Has, MayHave, Meets, HasFieldsBy, FieldsMeet, MayGive, SomeEntry, HasUid}
-use Rattle.cedar_type_rules.specs.OpenTag.{is_open}
-use Rattle.cedar_types.specs.Meaning.{ty_of, fields_of, attribute_of, type_step, attribute_step, attributes_step}
-use Rattle.cedar_type_rules.specs.Ty.{Ty, set_of, record_of, extension_of, Fields, field}
-use Rattle.cedar_types.specs.declared.attributes.AttributeType.{AttributeType, out-AttributeType, fold_out-AttributeType}
-use Rattle.cedar_types.specs.declared.attributes.Attributes.{Attributes}
-use Rattle.cedar_types.specs.declared.entity_kind.EntityKind.{EntityKind}
-use Rattle.cedar_below.specs.PlainUid.{PlainUid}
 use Rattle.std.specs.Bool.{Decides}
-use Rattle.cedar_type_rules.specs.declared.open_tag.OpenTag.{OpenTag}
-use Rattle.cedar_types.specs.declared.types.Type.{«Type», roll-Type, fold-roll-Type}
 use Rattle.cedar_types.specs.declared.types.Type.TheOpen as layer
 use Rattle.cedar_types.specs.declared.types.Type.TheVariants as type
 

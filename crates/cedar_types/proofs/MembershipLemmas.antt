@@ -1,18 +1,7 @@
 -- Answers of membership, brought together one after another.
 use Rattle.std.proofs.Common.{◌≡◌, ◌↔◌, ◌⊎◌, inl, inr, Bool, true, false, Ok, Err, refl, sym, IfErr, Option, Some, None, IsSome}
 use Rattle.std.specs.Bool.{Decides}
-use Rattle.cedar_below.specs.Name.{plain_name}
-use Rattle.cedar_below.specs.PlainName.{PlainName}
-use Rattle.cedar_below.specs.CoreSchemaType.{argument_types, result_type}
-use Rattle.cedar_below.specs.CoreTy.{core_extension}
-use Rattle.cedar_below.specs.Extensions.{function_named}
-use Rattle.cedar_below.specs.Fits.{Gives, IsUnknown, ArgumentsFit}
-use Rattle.cedar_below.specs.Tree.{Trees}
-use Rattle.cedar_below.specs.declared.extension.Extensions.{Extensions}
-use Rattle.cedar_below.specs.declared.extension.ExtensionFunction.{ExtensionFunction}
-use Rattle.cedar_below.specs.declared.extension.ExtensionFunctionLookupError.{ExtensionFunctionLookupError}
-use Rattle.cedar_type_rules.specs.Has.{MayGive}
-use Rattle.cedar_types.specs.MembershipAnswer.{Answer, IsMembership}
+use Rattle.cedar_types.specs.Words.{Answer, ArgumentsFit, ExtensionFunction, ExtensionFunctionLookupError, Extensions, Gives, IsMembership, IsUnknown, MayGive, PlainName, Trees, argument_types, core_extension, function_named, plain_name, result_type}
 
 -- a test decides a part in which no call stands
 pub IsMembership-test : (b : Bool) (H : Type 0) (M : PlainName → Type 0) → Decides b H → IsMembership (Ok b) H H M

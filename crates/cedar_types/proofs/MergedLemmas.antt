@@ -10,15 +10,12 @@ use Rattle.std.specs.List.{dedup, dedup_from}
 use Rattle.std.specs.Ordering.{is_lt}
 use Rattle.std.specs.List.Retain.{IsFiltered, DiffersFromLast}
 use Rattle.std.specs.List.Sorted.{IsPermutation, IsSorted, IsStrictlySortedBy}
-use Rattle.cedar_below.specs.EntityType.{type_name}
-use Rattle.cedar_below.specs.PlainName.{PlainName, name_cmp}
+use Rattle.cedar_types.specs.Words.{EntityType, IsUnionOf, PlainName, name_cmp, type_name}
 use Rattle.cedar_below.specs.contracts.entity_type.EntityTypeEq.TheImpl as entity_type_equal
 use Rattle.cedar_below.specs.contracts.entity_type.EntityTypeOrd.TheImpl as entity_type_ord
 use Rattle.cedar_below.specs.contracts.entity_type.EntityTypePartialEq.TheImpl as entity_type_eq
-use Rattle.cedar_below.specs.declared.entity_type.EntityType.{EntityType}
 use Rattle.cedar_below.proofs.Names.{entity_type_eq-same, entity_type_ord-name_cmp}
 use Rattle.cedar_below.proofs.Ordered.{IsStrictlySortedBy-map}
-use Rattle.cedar_type_rules.specs.EntityUnion.{IsUnionOf}
 use Rattle.cedar_name_map.proofs.RisingLemmas.{some_item}
 use Rattle.cedar_types.proofs.MemberLemmas.{Contains-named}
 use Rattle.cedar_types.proofs.UnionLemmas.{Contains-names}

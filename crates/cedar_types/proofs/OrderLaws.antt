@@ -5,15 +5,10 @@ use Rattle.std.specs.Ordering.{bool_cmp, nat_cmp, ordering_then}
 use Rattle.std.specs.declared.cmp.Ordering.{Ordering}
 use Rattle.std.specs.declared.string.String.{String}
 use Rattle.cedar_below.proofs.Names.{name_ord-name_cmp}
-use Rattle.cedar_below.specs.Text.{text_cmp}
+use Rattle.cedar_types.specs.Words.{AttributeType, Attributes, ComparesBy, Fields, Ty, «Type», any_entity, any_set, attribute_cmp, attribute_of, attribute_step, attributes_step, extension_of, fields_cmp, fields_from, fields_of, fields_of-rolled, fold-roll-Type, folded_layer, ind-AttributeType, ind-Attributes, ind-Type, kind_rank, map-AttributeType, map-Attributes, map-Type, out-AttributeType, out-Attributes, out-Type, out-roll-Attributes, plain_entry, record_of, roll-AttributeType, roll-Attributes, roll-Type, roll-out-Attributes, roll-out-Type, set_of, text_cmp, truth, ty_cmp, ty_of, type_step, union_of}
 use Rattle.cedar_type_rules.proofs.CompareLemmas.{ties_from, bool_cmp-is, open_tag_cmp-is}
-use Rattle.cedar_type_rules.specs.CompareLaws.{ComparesBy}
-use Rattle.cedar_type_rules.specs.Order.{kind_rank, ty_cmp, fields_cmp, attribute_cmp}
-use Rattle.cedar_type_rules.specs.Ty.{Ty, truth, any_entity, union_of, any_set, set_of, record_of, extension_of, Fields, fields_from}
-use Rattle.cedar_types.specs.Layers.{fields_of-rolled, folded_layer, plain_entry}
 use Rattle.cedar_types.proofs.CompareLemmas.{kind_cmp-is}
 use Rattle.cedar_types.proofs.EqualityLaws.{layer_shape, shape-folded_layer, attribute_of-parts, types-Decides, attributes-Decides, attribute-Decides}
-use Rattle.cedar_types.specs.Meaning.{ty_of, attribute_of, fields_of, type_step, attribute_step, attributes_step}
 use Rattle.cedar_types.specs.contracts.attributes.AttributesHash.TheImpl as attributes_hash
 use Rattle.cedar_types.specs.contracts.attributes.AttributesOrd.TheImpl as attributes_ord
 use Rattle.cedar_types.specs.contracts.attributes.AttributesPartialEq.TheImpl as attributes_eq
@@ -23,9 +18,6 @@ use Rattle.cedar_types.specs.contracts.attributes.AttributeTypePartialEq.TheImpl
 use Rattle.cedar_types.specs.contracts.types.TypeHash.TheImpl as type_hash
 use Rattle.cedar_types.specs.contracts.types.TypeOrd.TheImpl as type_ord
 use Rattle.cedar_types.specs.contracts.types.TypePartialEq.TheImpl as type_eq
-use Rattle.cedar_types.specs.declared.attributes.AttributeType.{AttributeType, ind-AttributeType, roll-AttributeType, out-AttributeType, map-AttributeType}
-use Rattle.cedar_types.specs.declared.attributes.Attributes.{Attributes, ind-Attributes, roll-Attributes, out-Attributes, roll-out-Attributes, out-roll-Attributes, map-Attributes}
-use Rattle.cedar_types.specs.declared.types.Type.{«Type», roll-Type, out-Type, roll-out-Type, ind-Type, map-Type, fold-roll-Type}
 use Rattle.cedar_types.specs.declared.types.Type.TheOpen as layer
 
 -- a type is ordered as what it stands for

@@ -4,20 +4,8 @@ use Rattle.std.specs.Bool.{Decides}
 use Rattle.std.specs.Option.{is_some}
 use Rattle.std.specs.declared.string.String.{String}
 use Rattle.cedar_below.proofs.Lists.{Contains-cons, Contains-cons_cases}
-use Rattle.cedar_below.specs.Tree.{Tree}
-use Rattle.cedar_below.specs.declared.extension.Extensions.{Extensions}
-use Rattle.cedar_below.specs.declared.value.Value.{Value}
-use Rattle.cedar_type_rules.specs.Has.{Has}
-use Rattle.cedar_type_rules.specs.Stated.{FieldsRequireAll, IsSampled, RequiresAll}
-use Rattle.cedar_type_rules.specs.Ty.{Ty, Fields, fields_from}
+use Rattle.cedar_types.specs.Words.{AttributeType, Attributes, Extensions, Fields, FieldsRequireAll, Has, IsSampled, RequiresAll, Tree, Ty, «Type», Value, attribute_of, fields_from, fields_of, fields_of-pairs, out-AttributeType, pairs_of, plain_attributes, ty_of, value_tree, value_trees}
 use Rattle.cedar_types.proofs.EqualityLaws.{attribute_of-parts}
-use Rattle.cedar_types.specs.Attributes.{plain_attributes}
-use Rattle.cedar_types.specs.Layers.{pairs_of, fields_of-pairs}
-use Rattle.cedar_types.specs.Meaning.{ty_of, attribute_of, fields_of}
-use Rattle.cedar_types.specs.Samples.{value_tree, value_trees}
-use Rattle.cedar_types.specs.declared.attributes.AttributeType.{AttributeType, out-AttributeType}
-use Rattle.cedar_types.specs.declared.attributes.Attributes.{Attributes}
-use Rattle.cedar_types.specs.declared.types.Type.{«Type»}
 
 -- the attributes that are left tell a fact of all of them
 abbrev pub TellsLeft : (Fields → Type 0) → Attributes → List (String Global × AttributeType) → Type 0

@@ -8,27 +8,13 @@ use Rattle.std.specs.declared.cmp.Ordering.TheVariants.{Less}
 use Rattle.std.specs.declared.string.String.{String}
 use Rattle.cedar_below.proofs.Inclusion.{rest_alone, part_fails}
 use Rattle.cedar_below.proofs.Texts.{text_cmp-total}
-use Rattle.cedar_below.specs.Lists.{Included}
-use Rattle.cedar_below.specs.Text.{Text, text_cmp}
-use Rattle.cedar_below.specs.declared.validation_mode.ValidationMode.{ValidationMode}
-use Rattle.cedar_below.specs.declared.validation_mode.ValidationMode.TheVariants.{Strict, Permissive}
+use Rattle.cedar_types.specs.Words.{AttributeBelow, AttributeType, Attributes, ByName, ClosedAttributes, Fields, FieldsBelow, Included, IsSortedByName, IsSortedByName-fields, NamesBelow, OpenTag, Permissive, Strict, Text, ValidationMode, attribute_of, field_at, field_names, field_names-pairs, fields_from, fields_of, fields_of-pairs, out-Attributes, pairs_of, plain_attributes, text_cmp}
 use Rattle.cedar_type_rules.proofs.AntisymmetryLaws.{Included-same}
 use Rattle.cedar_type_rules.proofs.SubtypeLaws.{FieldsBelow-names}
 use Rattle.cedar_type_rules.proofs.SubtypeLemmas.{HasBelow, HasBelow-Decides, HasBelow-none}
-use Rattle.cedar_type_rules.specs.Below.{AttributeBelow, FieldsBelow, NamesBelow}
-use Rattle.cedar_type_rules.specs.Fields.{IsSortedByName, field_names}
-use Rattle.cedar_type_rules.specs.Ty.{Fields, fields_from, field_at}
-use Rattle.cedar_type_rules.specs.declared.open_tag.OpenTag.{OpenTag}
-use Rattle.cedar_type_rules.specs.declared.open_tag.OpenTag.TheVariants.{ClosedAttributes}
-use Rattle.cedar_types.specs.Layers.{IsSortedByName-fields, field_names-pairs, fields_of-pairs, pairs_of}
 use Rattle.cedar_types.proofs.FieldLemmas.{field_at-pairs, length-fields}
 use Rattle.cedar_name_map.proofs.RisingLemmas.{Included-back, Ahead, AllBelow, Ahead-first, Ahead-sought, Ahead-next, sought-Decides, sought-next}
 use Rattle.cedar_name_map.proofs.SearchLemmas.{text_of, text_at, value_at-place, value_at-missed}
-use Rattle.cedar_types.specs.Attributes.{plain_attributes}
-use Rattle.cedar_types.specs.Meaning.{fields_of, attribute_of}
-use Rattle.cedar_types.specs.declared.attributes.Attributes.{Attributes, out-Attributes}
-use Rattle.cedar_types.specs.declared.attributes.AttributeType.{AttributeType}
-use Rattle.cedar_name_map.specs.declared.by_name.ByName.{ByName}
 
 -- pairs of a name and an attribute
 abbrev Pairs : Type 0

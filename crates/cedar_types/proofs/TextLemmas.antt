@@ -3,15 +3,7 @@ use Rattle.std.proofs.Common.{◌≡◌, ◌∙◌, refl, sym, ap, List, [], ◌
 use Rattle.std.proofs.lemmas.List.{append-nil}
 use Rattle.std.specs.List.{flat_map}
 use Rattle.std.specs.declared.string.String.{String}
-use Rattle.cedar_below.specs.PlainName.{PlainName, name_text}
-use Rattle.cedar_below.specs.Text.{Text}
-use Rattle.cedar_type_rules.specs.Ty.{fields_from}
-use Rattle.cedar_type_rules.specs.TypeText.{names_text, mark_text, ty_text, fields_text}
-use Rattle.cedar_types.specs.Attributes.{plain_attributes}
-use Rattle.cedar_types.specs.Layers.{pairs_of, fields_of-pairs}
-use Rattle.cedar_types.specs.Meaning.{attribute_of, fields_of}
-use Rattle.cedar_types.specs.declared.attributes.AttributeType.{AttributeType}
-use Rattle.cedar_types.specs.declared.attributes.Attributes.{Attributes}
+use Rattle.cedar_types.specs.Words.{AttributeType, Attributes, PlainName, Text, attribute_of, fields_from, fields_of, fields_of-pairs, fields_text, mark_text, name_text, names_text, pairs_of, plain_attributes, ty_text}
 
 -- the first name, and each other one behind a comma
 pub names_text-first : (first : PlainName) (others : List PlainName)

@@ -1,22 +1,9 @@
 -- The kinds of types, and joins of types of unlike kinds.
 use Rattle.std.proofs.Common.{◌≡◌, ◌≢◌, ℕ, refl, sym, ap, ◌∙◌, arith, Bool, Option}
-use Rattle.cedar_below.specs.PlainName.{PlainName}
-use Rattle.cedar_below.specs.declared.validation_mode.ValidationMode.{ValidationMode}
+use Rattle.cedar_types.specs.Words.{AttributeType, Attributes, Below, BoolType, EntityKind, Fields, HaveOwnBound, IsHelp, OpenTag, PlainName, Ty, «Type», ValidationMode, any_entity, any_set, attribute_step, attributes_step, extension_of, fold-roll-Type, kind_rank, long, never, out-Type, record_of, roll-Type, roll-out-Type, set_of, text, truth, ty_of, type_step, union_of}
 use Rattle.cedar_type_rules.proofs.AnsweredLemmas.{unlike_shapes}
-use Rattle.cedar_type_rules.specs.Below.{Below}
-use Rattle.cedar_type_rules.specs.Help.{IsHelp}
-use Rattle.cedar_type_rules.specs.Order.{kind_rank}
-use Rattle.cedar_type_rules.specs.OwnBound.{HaveOwnBound}
-use Rattle.cedar_type_rules.specs.Ty.{Ty, Fields, never, truth, long, text, any_entity, union_of, any_set, set_of, record_of, extension_of}
-use Rattle.cedar_type_rules.specs.declared.bool_type.BoolType.{BoolType}
 use Rattle.cedar_type_rules.specs.declared.join_error.LubHelp.TheVariants as help
-use Rattle.cedar_type_rules.specs.declared.open_tag.OpenTag.{OpenTag}
 use Rattle.cedar_types.proofs.EqualityLaws.{layer_shape, shape-folded_layer}
-use Rattle.cedar_types.specs.Meaning.{ty_of, type_step, attribute_step, attributes_step}
-use Rattle.cedar_types.specs.declared.attributes.Attributes.{Attributes}
-use Rattle.cedar_types.specs.declared.attributes.AttributeType.{AttributeType}
-use Rattle.cedar_types.specs.declared.entity_kind.EntityKind.{EntityKind}
-use Rattle.cedar_types.specs.declared.types.Type.{«Type», roll-Type, out-Type, roll-out-Type, fold-roll-Type}
 use Rattle.cedar_types.specs.declared.types.Type.TheOpen as layer
 use Rattle.cedar_types.specs.declared.types.Type.TheVariants as type
 use Rattle.std.specs.declared.alloc.Global.{Global}

@@ -3,10 +3,7 @@ use Rattle.std.proofs.Common.{◌≡◌, ◌<◌, ◌+◌, ℕ, ◌∷◌, ◌++
 use Rattle.std.proofs.lemmas.List.{map_more, get_or-map, length-map}
 use Rattle.std.proofs.lemmas.List.Elements.{Contains-push_cases}
 use Rattle.std.specs.List.Sorted.{IsStrictlySortedBy}
-use Rattle.cedar_below.specs.EntityType.{type_name}
-use Rattle.cedar_below.specs.declared.entity_type.EntityType.{EntityType}
-use Rattle.cedar_below.specs.PlainName.{PlainName, name_cmp}
-use Rattle.cedar_type_rules.specs.EntityUnion.{AreDisjoint}
+use Rattle.cedar_types.specs.Words.{AreDisjoint, EntityType, PlainName, name_cmp, type_name}
 
 -- a single name is in order
 pub IsStrictlySortedBy-one : (name : PlainName) → IsStrictlySortedBy name_cmp (name ∷ [])

@@ -13,11 +13,8 @@ use Rattle.cedar_below.proofs.Inclusion.{Included-none}
 use Rattle.cedar_below.proofs.Lists.{Contains-preimage}
 use Rattle.cedar_below.proofs.Names.{entity_type_ord-name_cmp, entity_type_ord-Equal}
 use Rattle.cedar_below.proofs.PlainNames.{name_cmp-total}
-use Rattle.cedar_below.specs.EntityType.{type_name}
-use Rattle.cedar_below.specs.Lists.{Included}
-use Rattle.cedar_below.specs.PlainName.{PlainName, name_cmp}
+use Rattle.cedar_types.specs.Words.{EntityType, Included, PlainName, name_cmp, type_name}
 use Rattle.cedar_below.specs.contracts.entity_type.EntityTypeOrd.TheImpl as entity_type_ord
-use Rattle.cedar_below.specs.declared.entity_type.EntityType.{EntityType}
 use Rattle.cedar_name_map.proofs.RisingLemmas.{seen_at-rises, Contains-seen_at}
 
 module _ (types : List EntityType) (up : IsStrictlySortedBy name_cmp (map type_name types)) (ty : EntityType) where

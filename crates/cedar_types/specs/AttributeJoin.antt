@@ -1,8 +1,6 @@
 use Rattle.std.specs.Prelude.{◌≡◌, ◌⊎◌, ◌&&◌, Bool, Option, Some, None, Result, Ok, Err}
 use Rattle.cedar_below.specs.declared.validation_mode.ValidationMode.TheVariants.{Strict, Permissive}
-use Rattle.cedar_type_rules.specs.Help.{IsHelp, IsFlagHelp}
-use Rattle.cedar_type_rules.specs.OwnBound.{HaveOwnBound, IsLeastOwnBound}
-use Rattle.cedar_type_rules.specs.Ty.{Ty}
+use Rattle.cedar_type_rules.specs.Words.{HaveOwnBound, IsFlagHelp, IsHelp, IsLeastOwnBound, Ty}
 use Rattle.cedar_type_rules.specs.declared.join_error.JoinError.{JoinError}
 use Rattle.cedar_type_rules.specs.declared.join_error.JoinError.TheVariants as error
 use Rattle.cedar_types.specs.Meaning.{attribute_of}

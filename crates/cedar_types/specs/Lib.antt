@@ -10,3 +10,4 @@ pub mod MembershipAnswer
 pub mod Samples
 pub mod TypesInOrder
 pub mod WellFormedTypes
+pub mod Words

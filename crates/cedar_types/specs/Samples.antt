@@ -1,7 +1,5 @@
 use Rattle.std.specs.Prelude.{List, map}
-use Rattle.cedar_below.specs.RestrictedExpr.{tree_of}
-use Rattle.cedar_below.specs.Tree.{Tree}
-use Rattle.cedar_below.specs.Value.{value_expr}
+use Rattle.cedar_below.specs.Words.{Tree, tree_of, value_expr}
 use Rattle.cedar_below.specs.declared.value.Value.{Value}
 
 -- what a value stands for, as of the expression that it is given by

@@ -1,7 +1,6 @@
 use Rattle.std.specs.Prelude.{List, map}
 use Rattle.std.specs.List.Sorted.{IsStrictlySortedBy, IsStrictlySortedBy-prop}
-use Rattle.cedar_below.specs.EntityType.{type_name}
-use Rattle.cedar_below.specs.PlainName.{name_cmp}
+use Rattle.cedar_below.specs.Words.{name_cmp, type_name}
 use Rattle.cedar_below.specs.declared.entity_type.EntityType.{EntityType}
 
 -- entity types stand in the order of their names, each once

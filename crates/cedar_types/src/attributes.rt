@@ -6,17 +6,7 @@ ghost use Rattle.std.specs.Option.{option_copied, option_map};
 ghost use Rattle.std.specs.declared.alloc.Global.{Global};
 ghost use Rattle.std.specs.declared.rc.Rc.{Rc};
 ghost use Rattle.std.specs.declared.string.String.{String};
-ghost use Rattle.cedar_below.specs.Text.{Text};
-ghost use Rattle.cedar_below.specs.declared.loc.Loc.{Loc};
-ghost use Rattle.cedar_type_rules.specs.Fields.{HoldsLast, IsSortedByName, field_names};
-ghost use Rattle.cedar_types.specs.Attributes.{plain_attributes, plain_required};
-ghost use Rattle.cedar_name_map.specs.ByName.{AreSortedByName, value_at};
-ghost use Rattle.cedar_types.specs.Located.{located, located_at, located_attributes, located_required, KeepsLast};
-ghost use Rattle.cedar_types.specs.Meaning.{ty_of, attribute_of, fields_of, attribute_loc};
-ghost use Rattle.cedar_type_rules.specs.Ty.{end, field_at, fields_from};
-ghost use Rattle.cedar_type_rules.specs.TypeText.{fields_text};
-ghost use Rattle.cedar_types.specs.declared.attributes.AttributeType.{AttributeType};
-ghost use Rattle.cedar_types.specs.declared.types.Type.{«Type»};
+ghost use Rattle.cedar_types.specs.Words.{AreSortedByName, AttributeType, HoldsLast, IsSortedByName, KeepsLast, Loc, Text, «Type», attribute_loc, attribute_of, end, field_at, field_names, fields_from, fields_of, fields_text, located, located_at, located_attributes, located_required, plain_attributes, plain_required, ty_of, value_at};
 
 use crate::show::write_attribute;
 use crate::types::Type;

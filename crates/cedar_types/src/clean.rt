@@ -1,8 +1,7 @@
 //! Whether the any-set stands nowhere in a type.
 
 ghost use Rattle.std.specs.Prelude.{◌↔◌, IsTrue};
-ghost use Rattle.cedar_type_rules.specs.Clean.{IsClean, AreClean};
-ghost use Rattle.cedar_types.specs.Meaning.{ty_of, fields_of};
+ghost use Rattle.cedar_types.specs.Words.{AreClean, IsClean, fields_of, ty_of};
 
 use crate::attributes::Attributes;
 use crate::types::Type;

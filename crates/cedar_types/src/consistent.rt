@@ -2,15 +2,7 @@
 
 ghost use Rattle.std.specs.Prelude.{◌≡◌, ◌⊎◌, ◌↔◌, IsTrue, true, false};
 ghost use Rattle.std.specs.List.{AllByRecursion};
-ghost use Rattle.cedar_below.specs.CoreSchemaType.{core_ty_of, core_fields_of};
-ghost use Rattle.cedar_below.specs.CoreTy.{core_entity, core_record};
-ghost use Rattle.cedar_below.specs.EntityType.{type_name};
-ghost use Rattle.cedar_type_rules.specs.Consistent.{IsConsistent};
-ghost use Rattle.cedar_type_rules.specs.Ty.{record_of};
-ghost use Rattle.cedar_type_rules.specs.declared.open_tag.OpenTag.TheVariants.{OpenAttributes};
-ghost use Rattle.cedar_types.specs.Attributes.{plain_attributes};
-ghost use Rattle.cedar_types.specs.EntityKind.{kind_ty};
-ghost use Rattle.cedar_types.specs.Meaning.{ty_of, fields_of};
+ghost use Rattle.cedar_types.specs.Words.{IsConsistent, OpenAttributes, core_entity, core_fields_of, core_record, core_ty_of, fields_of, kind_ty, plain_attributes, record_of, ty_of, type_name};
 
 use crate::attributes::{AttributeType, Attributes};
 use crate::entity_kind::EntityKind;

@@ -5,13 +5,8 @@ ghost use Rattle.std.specs.BTreeMap.{insert_entry};
 ghost use Rattle.std.specs.String.{string_cmp};
 ghost use Rattle.std.specs.declared.alloc.Global.{Global};
 ghost use Rattle.std.specs.declared.string.String.{String};
-ghost use Rattle.cedar_below.specs.CoreSchemaType.{core_ty_of, core_fields_of};
-ghost use Rattle.cedar_below.specs.CoreTy.{core_set};
-ghost use Rattle.cedar_type_rules.specs.CoreFault.{IsCoreFault, IsFieldsFault};
-ghost use Rattle.cedar_type_rules.specs.CoreOf.{core_of, core_fields};
+ghost use Rattle.cedar_types.specs.Words.{IsCoreFault, IsFieldsFault, core_fields, core_fields_of, core_of, core_set, core_ty_of, fields_of, kind_ty, ty_of};
 ghost use Rattle.cedar_type_rules.specs.declared.core_type_fault.CoreTypeFault.TheVariants as fault;
-ghost use Rattle.cedar_types.specs.EntityKind.{kind_ty};
-ghost use Rattle.cedar_types.specs.Meaning.{ty_of, fields_of};
 
 use crate::attributes::Attributes;
 use crate::entity_kind::EntityKind;

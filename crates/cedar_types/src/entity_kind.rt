@@ -15,9 +15,7 @@ pub enum EntityKind {
 impl EntityKind {
     ghost use Rattle.std.specs.Prelude.{◌≡◌, IfOk};
     ghost use Rattle.std.specs.Option.{option_copied, option_map};
-    ghost use Rattle.cedar_types.specs.EntityLUB.{lub_names};
-    ghost use Rattle.cedar_types.specs.EntityKind.{kind_ty};
-    ghost use Rattle.cedar_type_rules.specs.EntityTypes.{kind_names};
+    ghost use Rattle.cedar_types.specs.Words.{kind_names, kind_ty, lub_names};
 
     /// The union that the entity's type is one of, if one is known.
     pub fn as_entity_lub(&self) -> Option<&EntityLUB>

@@ -2,8 +2,7 @@
 
 ghost use Rattle.std.specs.Prelude.{◌≡◌, ◌≢◌, ◌++◌, [], length, map, true, IfOk};
 ghost use Rattle.std.specs.List.Sorted.{IsPermutation, IsSorted, IsStrictlySortedBy};
-ghost use Rattle.cedar_below.specs.EntityType.{type_name};
-ghost use Rattle.cedar_below.specs.PlainName.{name_cmp};
+ghost use Rattle.cedar_below.specs.Words.{name_cmp, type_name};
 ghost use Rattle.cedar_types.specs.TypesInOrder.{AreInOrder, AreInOrder-prop};
 
 use cedar_below::{EntityType, Held, M};
@@ -78,12 +77,8 @@ impl EntityLUB {
     ghost use Rattle.std.specs.List.Sorted.{IsStrictlySortedBy};
     ghost use Rattle.std.specs.Option.{option_copied, option_map};
     ghost use Rattle.std.specs.Slice.Iter.{iter_rest};
-    ghost use Rattle.cedar_below.specs.EntityType.{type_name};
-    ghost use Rattle.cedar_below.specs.PlainName.{name_cmp};
+    ghost use Rattle.cedar_types.specs.Words.{AreDisjoint, EntityType, IsUnionOf, lub_names, lub_types, name_cmp, only_name, only_type, type_name};
     ghost use Rattle.std.specs.declared.cmp.Ordering.TheVariants.{Less};
-    ghost use Rattle.cedar_below.specs.declared.entity_type.EntityType.{EntityType};
-    ghost use Rattle.cedar_types.specs.EntityLUB.{lub_names, lub_types, only_type};
-    ghost use Rattle.cedar_type_rules.specs.EntityUnion.{only_name, AreDisjoint, IsUnionOf};
 
     /// The union of a single entity type. Out of memory is the only refusal.
     pub fn single_entity(alloc: Global, ty: EntityType) -> M<Self>

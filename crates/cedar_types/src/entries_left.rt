@@ -3,9 +3,7 @@
 ghost use Rattle.std.specs.Prelude.{◌≡◌, ◌≢◌, None};
 ghost use Rattle.std.specs.Option.{option_copied};
 ghost use Rattle.std.specs.declared.cmp.Ordering.TheVariants.{Less};
-ghost use Rattle.cedar_below.specs.Text.{Text, text_cmp};
-ghost use Rattle.cedar_name_map.specs.ByName.{AreSortedByName, value_at};
-ghost use Rattle.cedar_types.specs.EntriesLeft.{entries_left};
+ghost use Rattle.cedar_types.specs.Words.{AreSortedByName, Text, entries_left, text_cmp, value_at};
 
 use cedar_below::RestrictedExpr;
 use std::cmp::Ordering;

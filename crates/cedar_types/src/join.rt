@@ -3,20 +3,8 @@
 ghost use Rattle.std.specs.Prelude.{◌≡◌, ◌&&◌, ◌↔◌, ◌++◌, [], ◌∷◌, IfOk, IfSome, None, OnOk, map, string_bytes};
 ghost use Rattle.std.specs.declared.alloc.Global.{Global};
 ghost use Rattle.std.specs.declared.string.String.{String};
-ghost use Rattle.cedar_below.specs.Text.{Text};
+ghost use Rattle.cedar_types.specs.Words.{Below, ClosedAttributes, IsAnswerOrMemory, IsHandedOn, IsJoinAnswer, IsLeastOwnBound, IsPermissiveAttribute, IsReduceAnswer, IsStrictAttribute, IsUnplaced, Text, «Type», attribute_loc, attribute_of, attribute_ty, either_open, fields_of, kind_ty, listed_at, located_at, lub_ty, never, record_of, ty_of};
 ghost use Rattle.cedar_below.specs.declared.validation_mode.ValidationMode.TheVariants as mode;
-ghost use Rattle.cedar_type_rules.specs.Below.{Below};
-ghost use Rattle.cedar_type_rules.specs.JoinAnswer.{IsJoinAnswer, IsReduceAnswer, IsAnswerOrMemory};
-ghost use Rattle.cedar_type_rules.specs.OpenTag.{either_open};
-ghost use Rattle.cedar_type_rules.specs.OwnBound.{IsLeastOwnBound};
-ghost use Rattle.cedar_type_rules.specs.Ty.{never, record_of};
-ghost use Rattle.cedar_type_rules.specs.declared.open_tag.OpenTag.TheVariants.{ClosedAttributes};
-ghost use Rattle.cedar_types.specs.AttributeJoin.{attribute_ty, IsPermissiveAttribute, IsStrictAttribute};
-ghost use Rattle.cedar_types.specs.EntityKind.{kind_ty};
-ghost use Rattle.cedar_types.specs.EntityLUB.{lub_ty};
-ghost use Rattle.cedar_types.specs.Located.{listed_at, located_at, IsUnplaced, IsHandedOn};
-ghost use Rattle.cedar_types.specs.Meaning.{ty_of, fields_of, attribute_of, attribute_loc};
-ghost use Rattle.cedar_types.specs.declared.types.Type.{«Type»};
 
 use crate::attributes::{AttributeType, Attributes};
 use crate::entity_kind::EntityKind;

@@ -3,13 +3,7 @@
 ghost use Rattle.std.specs.Prelude.{◌≡◌};
 ghost use Rattle.cedar_type_rules.proofs.AntisymmetryLaws.{Below-same};
 ghost use Rattle.cedar_type_rules.proofs.JoinsOf as joins_of;
-ghost use Rattle.cedar_type_rules.specs.Below.{Below};
-ghost use Rattle.cedar_type_rules.specs.Clean.{IsClean};
-ghost use Rattle.cedar_type_rules.specs.Joining.{AnswersJoinOf};
-ghost use Rattle.cedar_types.specs.EntityKind.{kind_ty};
-ghost use Rattle.cedar_types.specs.EntityLUB.{lub_ty};
-ghost use Rattle.cedar_types.specs.Meaning.{ty_of};
-ghost use Rattle.cedar_types.specs.WellFormedTypes.{IsWellFormed-type, kind_formed, lub_formed};
+ghost use Rattle.cedar_types.specs.Words.{AnswersJoinOf, Below, IsClean, IsWellFormed-type, kind_formed, kind_ty, lub_formed, lub_ty, ty_of};
 
 use crate::entity_kind::EntityKind;
 use crate::entity_lub::EntityLUB;

@@ -1,19 +1,7 @@
 //! Membership of values in types.
 
 ghost use Rattle.std.specs.Prelude.{◌≡◌, ◌↔◌, ◌⊎◌, IsTrue, true, false, IfErr};
-ghost use Rattle.cedar_below.specs.Fits.{Gives, IsUnknown, NamesListed};
-ghost use Rattle.cedar_below.specs.EntityUID.{uid_of};
-ghost use Rattle.cedar_below.specs.Lists.{Included};
-ghost use Rattle.cedar_below.specs.Name.{plain_name};
-ghost use Rattle.cedar_below.specs.RestrictedExpr.{tree_of, trees_of, entries_of};
-ghost use Rattle.cedar_below.specs.Tree.{EachTree, SomeTree, entry_names};
-ghost use Rattle.cedar_below.specs.Value.{value_expr};
-ghost use Rattle.cedar_types.specs.MembershipAnswer.{IsMembership};
-ghost use Rattle.cedar_type_rules.specs.Fields.{field_names};
-ghost use Rattle.cedar_types.specs.EntityKind.{kind_ty};
-ghost use Rattle.cedar_type_rules.specs.Has.{Has, MayHave, Meets, HasFieldsBy, FieldsMeet, MayGive, HasTruth, HasUid};
-ghost use Rattle.cedar_type_rules.specs.OpenTag.{is_open};
-ghost use Rattle.cedar_types.specs.Meaning.{ty_of, fields_of};
+ghost use Rattle.cedar_types.specs.Words.{EachTree, FieldsMeet, Gives, Has, HasFieldsBy, HasTruth, HasUid, Included, IsMembership, IsUnknown, MayGive, MayHave, Meets, NamesListed, SomeTree, entries_of, entry_names, field_names, fields_of, is_open, kind_ty, plain_name, tree_of, trees_of, ty_of, uid_of, value_expr};
 
 use crate::attributes::Attributes;
 use crate::entity_kind::EntityKind;

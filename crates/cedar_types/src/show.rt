@@ -3,12 +3,7 @@
 ghost use Rattle.std.specs.Prelude.{◌≡◌, ◌++◌, Some, codes, map, string_bytes};
 ghost use Rattle.std.specs.Fmt.{WritesOnOk};
 ghost use Rattle.std.specs.List.{flat_map};
-ghost use Rattle.cedar_below.specs.EntityType.{type_name};
-ghost use Rattle.cedar_below.specs.PlainName.{name_text};
-ghost use Rattle.cedar_type_rules.specs.TypeText.{names_text, union_text, tag_text, mark_text, ty_text};
-ghost use Rattle.cedar_types.specs.EntityKind.{kind_ty};
-ghost use Rattle.cedar_types.specs.EntityLUB.{lub_names};
-ghost use Rattle.cedar_types.specs.Meaning.{ty_of, attribute_of};
+ghost use Rattle.cedar_types.specs.Words.{attribute_of, kind_ty, lub_names, mark_text, name_text, names_text, tag_text, ty_of, ty_text, type_name, union_text};
 
 use crate::attributes::AttributeType;
 use crate::entity_kind::EntityKind;

@@ -2,10 +2,7 @@
 //! stated with them, in which all attributes are required too.
 
 ghost use Rattle.std.specs.Prelude.{◌≡◌, ◌↔◌, IsTrue, Contains, IfSome, None};
-ghost use Rattle.cedar_type_rules.specs.Has.{Has};
-ghost use Rattle.cedar_type_rules.specs.Stated.{AreInhabitedWith, FieldsRequireAll, IsInhabited, IsInhabitedWith, IsSampled, IsStated, IsStatedWith, RequiresAll};
-ghost use Rattle.cedar_types.specs.Meaning.{ty_of, fields_of};
-ghost use Rattle.cedar_types.specs.Samples.{value_tree, value_trees};
+ghost use Rattle.cedar_types.specs.Words.{AreInhabitedWith, FieldsRequireAll, Has, IsInhabited, IsInhabitedWith, IsSampled, IsStated, IsStatedWith, RequiresAll, fields_of, ty_of, value_tree, value_trees};
 
 use crate::attributes::Attributes;
 use crate::types::Type;

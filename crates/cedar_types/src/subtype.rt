@@ -1,12 +1,7 @@
 //! Subtyping of types and of entity kinds.
 
 ghost use Rattle.std.specs.Prelude.{◌≡◌, ◌↔◌, IsTrue, map, string_bytes};
-ghost use Rattle.cedar_below.specs.Lists.{Included};
-ghost use Rattle.cedar_type_rules.specs.Below.{Below, FieldsBelow, AttributeBelow, FlagsBelow, OpennessBelow, NamesBelow};
-ghost use Rattle.cedar_type_rules.specs.Fields.{IsSortedByName, field_names};
-ghost use Rattle.cedar_types.specs.EntityKind.{kind_ty};
-ghost use Rattle.cedar_types.specs.EntityLUB.{lub_names, lub_ty};
-ghost use Rattle.cedar_types.specs.Meaning.{ty_of, fields_of, attribute_of};
+ghost use Rattle.cedar_types.specs.Words.{AttributeBelow, Below, FieldsBelow, FlagsBelow, Included, IsSortedByName, NamesBelow, OpennessBelow, attribute_of, field_names, fields_of, kind_ty, lub_names, lub_ty, ty_of};
 
 use crate::attributes::{AttributeType, Attributes};
 use crate::entity_kind::EntityKind;

@@ -2,30 +2,9 @@
 
 ghost use Rattle.std.specs.Prelude.{◌≡◌, ◌≢◌, ◌↔◌, List, [], ◌∷◌, map, Result, Ok, Err, IsOkAnd};
 ghost use Rattle.std.specs.List.{AllByRecursion};
-ghost use Rattle.cedar_below.specs.FeedsVariant.{FeedsVariantFirst};
-ghost use Rattle.cedar_below.specs.Lists.{Included};
-ghost use Rattle.cedar_below.specs.declared.validation_mode.ValidationMode.{ValidationMode};
+ghost use Rattle.cedar_types.specs.Words.{Agree, AreTexts, AreWellFormed, Attributes, Below, ComparesBy, EntityKind, FeedsVariantFirst, Included, IsAnswerOrMemory, IsClean, IsCleanBound, IsJoinAnswer, IsLeastAnswer, IsLeastOwnBound, IsReduceAnswer, IsSortedByName, IsWellFormed, JoinAnswer, JoinError, SubtypingIsInclusionAndNamesOf, SubtypingIsInclusionOf, «Type», ValidationMode, attribute_cmp, attribute_of, field_names, fields_cmp, fields_of, is_of_union, kind_rank, kind_ty, lub_names, never, ty_cmp, ty_of, union_cmp};
 ghost use Rattle.cedar_below.specs.declared.validation_mode.ValidationMode.TheVariants as mode;
-ghost use Rattle.cedar_type_rules.specs.Agree.{Agree};
-ghost use Rattle.cedar_type_rules.specs.Below.{Below};
-ghost use Rattle.cedar_type_rules.specs.Bound.{IsCleanBound};
-ghost use Rattle.cedar_type_rules.specs.Clean.{IsClean};
-ghost use Rattle.cedar_type_rules.specs.JoinAnswer.{JoinAnswer, IsLeastAnswer, IsJoinAnswer, IsReduceAnswer, IsAnswerOrMemory};
-ghost use Rattle.cedar_type_rules.specs.OwnBound.{IsLeastOwnBound};
-ghost use Rattle.cedar_type_rules.specs.Ty.{never};
-ghost use Rattle.cedar_type_rules.specs.declared.join_error.JoinError.{JoinError};
 ghost use Rattle.cedar_type_rules.specs.declared.join_error.JoinError.TheVariants as error;
-ghost use Rattle.cedar_type_rules.specs.Fields.{IsSortedByName, field_names};
-ghost use Rattle.cedar_type_rules.specs.CompareLaws.{ComparesBy};
-ghost use Rattle.cedar_type_rules.specs.Order.{ty_cmp, fields_cmp, attribute_cmp, union_cmp, kind_rank};
-ghost use Rattle.cedar_type_rules.specs.InclusionLaws.{SubtypingIsInclusionOf, SubtypingIsInclusionAndNamesOf};
-ghost use Rattle.cedar_types.specs.EntityKind.{is_of_union, kind_ty};
-ghost use Rattle.cedar_types.specs.declared.attributes.Attributes.{Attributes};
-ghost use Rattle.cedar_types.specs.declared.entity_kind.EntityKind.{EntityKind};
-ghost use Rattle.cedar_types.specs.declared.types.Type.{«Type»};
-ghost use Rattle.cedar_types.specs.EntityLUB.{lub_names};
-ghost use Rattle.cedar_types.specs.Meaning.{ty_of, attribute_of, fields_of};
-ghost use Rattle.cedar_type_rules.specs.WellFormed.{IsWellFormed, AreWellFormed, AreTexts};
 
 use crate::attributes::{AttributeType, Attributes};
 use crate::entity_kind::EntityKind;

@@ -2,11 +2,7 @@
 
 ghost use Rattle.std.specs.Prelude.{◌≡◌, ◌↔◌, IsTrue};
 ghost use Rattle.std.specs.Option.{option_copied, option_map};
-ghost use Rattle.cedar_type_rules.specs.Disjoint.{AreDisjointTypes};
-ghost use Rattle.cedar_type_rules.specs.EntityTypes.{kind_names};
-ghost use Rattle.cedar_types.specs.EntityLUB.{lub_names};
-ghost use Rattle.cedar_type_rules.specs.EntityTypes.{is_entity, set_or_kind_names};
-ghost use Rattle.cedar_types.specs.Meaning.{ty_of};
+ghost use Rattle.cedar_types.specs.Words.{AreDisjointTypes, is_entity, kind_names, lub_names, set_or_kind_names, ty_of};
 
 use crate::entity_lub::EntityLUB;
 use crate::types::Type;

@@ -1,11 +1,6 @@
 use Rattle.std.specs.Prelude.{true, false, List, [], ◌∷◌, ◌++◌, Some, None, codes}
-use Rattle.cedar_below.specs.PlainName.{PlainName, action_word}
-use Rattle.cedar_below.specs.Text.{Text}
-use Rattle.cedar_names.specs.ActionBody.{requests}
-use Rattle.cedar_names.specs.Declaration.{Declaration, Body, common_type, entity_type, action}
-use Rattle.cedar_names.specs.EntityBody.{standard, enumerated, external}
-use Rattle.cedar_names.specs.Expr.{Expr, record_expr, set_expr, long_expr, named, Members, no_member, member}
-use Rattle.cedar_names.specs.Reference.{Reference, reference_to}
+use Rattle.cedar_below.specs.Words.{PlainName, Text, action_word}
+use Rattle.cedar_names.specs.Words.{Body, Declaration, Expr, Members, Reference, action, common_type, entity_type, enumerated, external, long_expr, member, named, no_member, record_expr, reference_to, requests, set_expr, standard}
 use Rattle.cedar_names.specs.declared.json_schema.reference_type.ReferenceType.{ReferenceType}
 use Rattle.cedar_names.specs.declared.json_schema.reference_type.ReferenceType.TheVariants.{Entity, CommonOrEntity}
 use Rattle.cedar_declarations.specs.Bag.{Bag, alias_name}

@@ -1,14 +1,7 @@
 use Rattle.std.specs.Prelude.{true, false, List, [], ◌∷◌, None, codes}
-use Rattle.cedar_below.specs.PlainName.{PlainName, action_word}
-use Rattle.cedar_below.specs.PlainUid.{PlainUid}
-use Rattle.cedar_below.specs.Text.{Text}
-use Rattle.cedar_declarations.specs.Bag.{Bag, alias_name}
-use Rattle.cedar_declarations.specs.EntityTypeKind.{EntityTypeKind, standard_kind}
-use Rattle.cedar_declarations.specs.PlainSchema.{PlainSchema, SchemaAction, SchemaEntityType, defined_action, external_action}
-use Rattle.cedar_names.specs.Declaration.{entity_type}
-use Rattle.cedar_names.specs.EntityBody.{standard}
-use Rattle.cedar_names.specs.Expr.{long_expr, member, named, no_member, record_expr}
-use Rattle.cedar_names.specs.Reference.{reference_to}
+use Rattle.cedar_below.specs.Words.{PlainName, PlainUid, Text, action_word}
+use Rattle.cedar_declarations.specs.Words.{Bag, EntityTypeKind, PlainSchema, SchemaAction, SchemaEntityType, alias_name, defined_action, external_action, standard_kind}
+use Rattle.cedar_names.specs.Words.{entity_type, long_expr, member, named, no_member, record_expr, reference_to, standard}
 use Rattle.cedar_names.specs.declared.json_schema.reference_type.ReferenceType.TheVariants.{Entity}
 use Rattle.cedar_type_rules.specs.Ty.{Fields, Ty, end, field, long, record_of, union_of}
 use Rattle.cedar_type_rules.specs.declared.open_tag.OpenTag.TheVariants.{ClosedAttributes}

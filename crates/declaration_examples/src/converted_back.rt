@@ -1,15 +1,9 @@
 //! Worked examples of what can be converted back, and what can't.
 
 ghost use Rattle.std.specs.Prelude.{◌≡◌, [], ◌∷◌, None, Option, codes};
-ghost use Rattle.cedar_below.specs.PlainName.{PlainName};
-ghost use Rattle.cedar_declarations.specs.Bag.{alias_name};
-ghost use Rattle.cedar_declarations.specs.EntityTypeKind.{enumerated_kind, standard_kind};
-ghost use Rattle.cedar_declarations.specs.ConvertedBack.{IsWritable, IsConvertedBack, type_written};
-ghost use Rattle.cedar_type_rules.specs.Ty.{Ty, any_entity, any_set, end, extension_of, never, record_of, set_of, truth, union_of};
+ghost use Rattle.declaration_examples.specs.Words.{IsConvertedBack, IsWritable, PlainName, Ty, action_attribute, action_entry, action_named, action_within, alias_name, any_entity, any_set, end, enumerated_kind, extension_of, group_of, never, one_type, plain_kind, record_of, sample_bag, sample_schema, schema_of_entries, set_of, standard_kind, truth, type_entry, type_written, union_of, with_attribute, within_sample};
 ghost use Rattle.cedar_type_rules.specs.declared.bool_type.BoolType.TheVariants as truth_type;
 ghost use Rattle.cedar_type_rules.specs.declared.open_tag.OpenTag.TheVariants as openness;
-ghost use Rattle.declaration_examples.specs.Samples.{within_sample};
-ghost use Rattle.declaration_examples.specs.WrittenSamples.{action_attribute, action_entry, action_named, action_within, group_of, one_type, plain_kind, sample_bag, sample_schema, schema_of_entries, type_entry, with_attribute};
 
 /// A schema and its bag, whole: parents and attributes are written in full, flags stay, and an
 /// action says what it is for.

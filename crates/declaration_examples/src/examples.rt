@@ -2,28 +2,8 @@
 //! them.
 
 ghost use Rattle.std.specs.Prelude.{◌≡◌, ℤ, List, [], ◌∷◌, None, true, false, codes};
-ghost use Rattle.cedar_below.specs.PlainName.{PlainName, action_word};
-ghost use Rattle.cedar_below.specs.Tree.{map_value, number_value, entry, no_entry};
-ghost use Rattle.cedar_below.specs.declared.extension.Extensions.{Extensions};
-ghost use Rattle.cedar_names.specs.EntityBody.{standard, external, kind_body};
-ghost use Rattle.cedar_names.specs.Expr.{named, record_expr, no_member};
-ghost use Rattle.cedar_names.specs.Reference.{Reference, reference_to};
-ghost use Rattle.cedar_names.specs.declared.json_schema.entity_type.EntityTypeKind.{EntityTypeKind};
-ghost use Rattle.cedar_names.specs.declared.json_schema.raw_name.RawName.{RawName};
-ghost use Rattle.cedar_names.specs.RawExpr.{raw_reference};
+ghost use Rattle.declaration_examples.specs.Words.{Admits, ElaboratesTo, EntitySays, EntityTypeKind, Extensions, HasToResolve, IsDescendant, IsFault, PlainName, RawName, Reference, ResolvesTo, SameBag, action_word, actions_bag, alias_bag, alias_name, apart_bag, both_bag, built_in_name, common_type_cycle, cycle_bag, defined_names, definitions, duplicate_entity_type, entity_here, entry, enumerated_below, external, external_bag, external_below_enumerated, kind_body, known_tint_bag, linked_bag, long, map_value, named, nested_bag, no_entry, no_member, number_value, open_bag, open_record, optional_record, painted_bag, principal_bag, raw_reference, record_expr, refer_here, refer_within, reference_to, ring_bag, shadow_bag, standard, text, tint_bag, together_bag, type_shadowing, undeclared_entity_types, union_of, within_sample};
 ghost use Rattle.cedar_names.specs.declared.json_schema.reference_type.ReferenceType.TheVariants as to;
-ghost use Rattle.cedar_declarations.specs.Admits.{Admits};
-ghost use Rattle.cedar_declarations.specs.Bag.{alias_name, built_in_name, definitions, defined_names};
-ghost use Rattle.cedar_declarations.specs.Counted.{HasToResolve};
-ghost use Rattle.cedar_declarations.specs.Names.{ResolvesTo};
-ghost use Rattle.cedar_declarations.specs.Descent.{IsDescendant};
-ghost use Rattle.cedar_declarations.specs.Fault.{open_record, undeclared_entity_types, type_shadowing, duplicate_entity_type, common_type_cycle, external_below_enumerated, enumerated_below};
-ghost use Rattle.cedar_declarations.specs.IllFormed.{IsFault};
-ghost use Rattle.declaration_examples.specs.Samples.{within_sample, refer_here, refer_within, entity_here, cycle_bag, both_bag, alias_bag, shadow_bag, actions_bag, tint_bag, known_tint_bag, painted_bag, linked_bag, apart_bag, together_bag, ring_bag, principal_bag, nested_bag, open_bag, external_bag, optional_record};
-ghost use Rattle.cedar_declarations.specs.SameBag.{SameBag};
-ghost use Rattle.cedar_declarations.specs.Together.{EntitySays};
-ghost use Rattle.cedar_declarations.specs.ElaboratesTo.{ElaboratesTo};
-ghost use Rattle.cedar_type_rules.specs.Ty.{long, text, union_of};
 
 /// Two common types that refer to each other are a cycle, and each is named; a built-in type that
 /// one of them refers to is not, nor is its alias.

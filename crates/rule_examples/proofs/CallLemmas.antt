@@ -1,12 +1,7 @@
 -- Calls of functions whose signatures are known.
 use Rattle.std.proofs.Common.{[], refl}
 use Rattle.cedar_below.proofs.TreeLemmas.{ArgumentsFit-no_types}
-use Rattle.cedar_below.specs.Fits.{Gives}
-use Rattle.cedar_below.specs.PlainName.{PlainName}
-use Rattle.cedar_below.specs.Text.{Text}
-use Rattle.cedar_below.specs.Tree.{Trees, tree, text_value}
-use Rattle.cedar_below.specs.declared.extension.Extensions.{Extensions}
-use Rattle.rule_examples.specs.TakesText.{TakesText}
+use Rattle.rule_examples.specs.Words.{Extensions, Gives, PlainName, TakesText, Text, Trees, text_value, tree}
 
 -- a function that takes a text gives a value where its first argument is one
 pub Gives-text : (extensions : Extensions) (name ty : PlainName) (word : Text) (rest : Trees)

@@ -3,27 +3,13 @@ use Rattle.std.proofs.Common.{◌≡◌, ◌<◌, ℕ, zero, suc, inl, inr, Bool
 use Rattle.std.proofs.lemmas.Str.{IsUtf8-from_ascii}
 use Rattle.std.specs.List.Sorted.{IsStrictlySortedBy}
 use Rattle.cedar_below.proofs.Lists.{Contains-cons, Contains-cons_cases}
-use Rattle.cedar_below.specs.IsValue.{IsText}
-use Rattle.cedar_below.specs.Text.{Text}
-use Rattle.cedar_below.specs.declared.validation_mode.ValidationMode.{ValidationMode}
-use Rattle.cedar_below.specs.declared.validation_mode.ValidationMode.TheVariants.{Strict, Permissive}
+use Rattle.rule_examples.specs.Words.{Below, ClosedAttributes, False, HasField, HaveOwnBound, IsHelp, IsJoinAnswer, IsReduceAnswer, IsText, IsWellFormed, JoinAnswer, LubHelp, OpenAttributes, OpenTag, Permissive, Strict, Text, Ty, ValidationMode, any_set, bar_and_false, bar_and_text, end, field, long, never, open_y, optional_y, record_of, required_y, set_of_longs, set_of_truths, text, text_y, twice_y, unit_record}
 use Rattle.cedar_type_rules.proofs.ApartLemmas.{AreApart-truth_text}
 use Rattle.rule_examples.proofs.JoinExamples.{sets_join-apart, records_join-strict}
 use Rattle.cedar_type_rules.proofs.JoinLemmas.{upper_is_join}
 use Rattle.cedar_type_rules.proofs.ReduceLemmas.{reduced_once, refused_first}
 use Rattle.cedar_type_rules.proofs.SubtypeLaws.{HasBelow-of, HasField-named}
-use Rattle.cedar_type_rules.specs.Below.{Below, HasField}
-use Rattle.cedar_type_rules.specs.Help.{IsHelp}
-use Rattle.cedar_type_rules.specs.JoinAnswer.{IsJoinAnswer, IsReduceAnswer, JoinAnswer}
-use Rattle.cedar_type_rules.specs.OwnBound.{HaveOwnBound}
-use Rattle.rule_examples.specs.Samples.{bar_and_false, bar_and_text, required_y, optional_y, text_y, open_y, twice_y, unit_record, set_of_truths, set_of_longs}
-use Rattle.cedar_type_rules.specs.Ty.{Ty, never, long, text, any_set, record_of, end, field}
-use Rattle.cedar_type_rules.specs.WellFormed.{IsWellFormed}
-use Rattle.cedar_type_rules.specs.declared.bool_type.BoolType.TheVariants.{False}
-use Rattle.cedar_type_rules.specs.declared.join_error.LubHelp.{LubHelp}
 use Rattle.cedar_type_rules.specs.declared.join_error.LubHelp.TheVariants as help
-use Rattle.cedar_type_rules.specs.declared.open_tag.OpenTag.{OpenTag}
-use Rattle.cedar_type_rules.specs.declared.open_tag.OpenTag.TheVariants.{OpenAttributes, ClosedAttributes}
 
 -- a name is among itself alone
 among_itself : (name : Text) → Contains (name ∷ []) name

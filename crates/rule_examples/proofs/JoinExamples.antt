@@ -2,19 +2,9 @@
 use Rattle.std.proofs.Common.{◌≡◌, inl, inr, true, refl, sym, ap, ◌∙◌, [], ◌∷◌, List, Contains, codes}
 use Rattle.cedar_below.proofs.Inclusion.{Included-none, Included-cons, Included-head}
 use Rattle.cedar_below.proofs.Lists.{Contains-cons}
-use Rattle.cedar_below.specs.Lists.{Included}
-use Rattle.cedar_below.specs.PlainName.{PlainName}
-use Rattle.cedar_below.specs.declared.validation_mode.ValidationMode.{ValidationMode}
-use Rattle.cedar_below.specs.declared.validation_mode.ValidationMode.TheVariants.{Strict, Permissive}
+use Rattle.rule_examples.specs.Words.{Below, ClosedAttributes, False, Fields, HaveOwnBound, Included, IsLeastOwnBound, IsOwnBound, OpenAttributes, Permissive, PlainName, Strict, Ty, ValidationMode, any_entity, any_set, any_set_and_long, bar_and_false, bar_and_text, bar_entity, bar_name, end, field, field_names, foo_entity, foo_name, foo_or_bar, long, long_and_long, open_bar, open_t, record_of, set_of, set_of_longs, set_of_truths, text, truth, union_of}
 use Rattle.cedar_type_rules.proofs.ApartLemmas.{texts_differ, AreApart, AreApart-truth_long, AreApart-truth_text, AreApart-any_set_long, HasOnly, IsPair, IsPair-other, kept_below, unnamed}
 use Rattle.cedar_type_rules.proofs.SubtypeLaws.{HasField-named}
-use Rattle.cedar_type_rules.specs.Fields.{field_names}
-use Rattle.cedar_type_rules.specs.Below.{Below}
-use Rattle.cedar_type_rules.specs.OwnBound.{HaveOwnBound, IsOwnBound, IsLeastOwnBound}
-use Rattle.rule_examples.specs.Samples.{bar_and_false, bar_and_text, open_bar, any_set_and_long, long_and_long, open_t, set_of_truths, set_of_longs, foo_entity, bar_entity, foo_or_bar, foo_name, bar_name}
-use Rattle.cedar_type_rules.specs.Ty.{Ty, truth, long, text, any_entity, union_of, any_set, set_of, record_of, Fields, end, field}
-use Rattle.cedar_type_rules.specs.declared.open_tag.OpenTag.TheVariants.{OpenAttributes, ClosedAttributes}
-use Rattle.cedar_type_rules.specs.declared.bool_type.BoolType.TheVariants.{False}
 
 -- one name is included in names that have it
 Included-one : (name : PlainName) (names : List PlainName) → Contains names name → Included (name ∷ []) names

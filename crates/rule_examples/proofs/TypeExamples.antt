@@ -2,14 +2,7 @@
 use Rattle.std.proofs.Common.{inl, inr, true, false, refl, [], ◌∷◌, codes, arith}
 use Rattle.cedar_below.proofs.Inclusion.{Included-none}
 use Rattle.cedar_below.proofs.Lists.{Contains-cons}
-use Rattle.cedar_below.specs.CoreTy.{core_record, core_end}
-use Rattle.cedar_below.specs.Tree.{map_value, no_entry, entry}
-use Rattle.cedar_below.specs.declared.extension.Extensions.{Extensions}
-use Rattle.cedar_type_rules.specs.Consistent.{IsConsistent}
-use Rattle.cedar_type_rules.specs.Disjoint.{AreDisjointTypes}
-use Rattle.cedar_type_rules.specs.InclusionLaws.{ValuesIncluded, ListsNames}
-use Rattle.rule_examples.specs.Samples.{foo_name, bar_name, foo_entity, foo_or_bar, required_y, optional_y, unit_record}
-use Rattle.cedar_type_rules.specs.Ty.{long}
+use Rattle.rule_examples.specs.Words.{AreDisjointTypes, Extensions, IsConsistent, ListsNames, ValuesIncluded, bar_name, core_end, core_record, entry, foo_entity, foo_name, foo_or_bar, long, map_value, no_entry, optional_y, required_y, unit_record}
 
 -- a record without attributes has the one with an optional attribute
 pub inclusion-included : (extensions : Extensions) → ValuesIncluded extensions unit_record optional_y

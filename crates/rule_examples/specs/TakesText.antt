@@ -1,8 +1,5 @@
 use Rattle.std.specs.Prelude.{◌≡◌, [], ◌∷◌, Some}
-use Rattle.cedar_below.specs.CoreSchemaType.{argument_types, result_type}
-use Rattle.cedar_below.specs.CoreTy.{core_text, core_extension}
-use Rattle.cedar_below.specs.Fits.{IsKnown}
-use Rattle.cedar_below.specs.PlainName.{PlainName}
+use Rattle.cedar_below.specs.Words.{IsKnown, PlainName, argument_types, core_extension, core_text, result_type}
 use Rattle.cedar_below.specs.declared.extension.ExtensionFunction.{ExtensionFunction}
 use Rattle.cedar_below.specs.declared.extension.Extensions.{Extensions}
 

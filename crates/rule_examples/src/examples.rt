@@ -1,29 +1,9 @@
 //! Worked examples of what is said of types.
 
 ghost use Rattle.std.specs.Prelude.{◌≡◌, true, false, [], ◌∷◌, Some, None, Ok, Err, codes};
-ghost use Rattle.cedar_below.specs.CoreTy.{core_truth, core_long, core_set, core_empty_set, core_record, core_entity, core_end, core_field};
-ghost use Rattle.cedar_below.specs.Fits.{IsUnknown};
-ghost use Rattle.cedar_below.specs.PlainName.{PlainName};
-ghost use Rattle.cedar_below.specs.declared.extension.Extensions.{Extensions};
-ghost use Rattle.cedar_below.specs.declared.validation_mode.ValidationMode.{ValidationMode};
+ghost use Rattle.rule_examples.specs.Words.{AreDisjointTypes, Below, Extensions, HaveOwnBound, IsBound, IsClean, IsConsistent, IsJoinAnswer, IsLeastOwnBound, IsReduceAnswer, IsStated, IsUnknown, JoinAnswer, ListsNames, LubHelp, PlainName, ValidationMode, ValuesIncluded, any_set, any_set_and_long, bar_and_false, bar_and_text, bar_entity, core_empty_set, core_end, core_entity, core_field, core_long, core_of, core_record, core_set, core_truth, foo_entity, foo_name, foo_or_bar, ip_type, long, long_and_long, never, open_bar, open_t, open_y, optional_y, required_y, set_of, set_of_longs, set_of_truths, text_y, truth, twice_y, ty_text, unit_record};
 ghost use Rattle.cedar_below.specs.declared.validation_mode.ValidationMode.TheVariants as mode;
-ghost use Rattle.cedar_type_rules.specs.Below.{Below};
-ghost use Rattle.cedar_type_rules.specs.Bound.{IsBound};
-ghost use Rattle.cedar_type_rules.specs.Clean.{IsClean};
-ghost use Rattle.cedar_type_rules.specs.Consistent.{IsConsistent};
-ghost use Rattle.cedar_type_rules.specs.CoreOf.{core_of};
-ghost use Rattle.cedar_type_rules.specs.Disjoint.{AreDisjointTypes};
-ghost use Rattle.cedar_type_rules.specs.InclusionLaws.{ValuesIncluded, ListsNames};
-ghost use Rattle.cedar_type_rules.specs.JoinAnswer.{IsJoinAnswer, IsReduceAnswer, JoinAnswer};
-ghost use Rattle.cedar_type_rules.specs.OwnBound.{HaveOwnBound, IsLeastOwnBound};
-ghost use Rattle.rule_examples.specs.Samples.{foo_name, ip_type, set_of_truths, set_of_longs, foo_entity, bar_entity, foo_or_bar};
-ghost use Rattle.rule_examples.specs.Samples.{bar_and_false, bar_and_text, open_bar, any_set_and_long, long_and_long, open_t};
-ghost use Rattle.rule_examples.specs.Samples.{required_y, optional_y, text_y, open_y, twice_y, unit_record};
-ghost use Rattle.cedar_type_rules.specs.Stated.{IsStated};
-ghost use Rattle.cedar_type_rules.specs.Ty.{never, truth, long, any_set, set_of};
-ghost use Rattle.cedar_type_rules.specs.TypeText.{ty_text};
 ghost use Rattle.cedar_type_rules.specs.declared.bool_type.BoolType.TheVariants as bool_type;
-ghost use Rattle.cedar_type_rules.specs.declared.join_error.LubHelp.{LubHelp};
 ghost use Rattle.cedar_type_rules.specs.declared.join_error.LubHelp.TheVariants as help;
 
 /// Joins of records: in permissive mode a name whose types don't join is dropped, and the join is

@@ -1,22 +1,8 @@
 //! Worked examples of subtyping, of agreement and of membership.
 
 ghost use Rattle.std.specs.Prelude.{◌≢◌, true, false, [], ◌∷◌, codes, pos};
-ghost use Rattle.cedar_below.specs.Fits.{IsUnknown};
-ghost use Rattle.cedar_below.specs.PlainName.{PlainName};
-ghost use Rattle.cedar_below.specs.Text.{Text};
-ghost use Rattle.cedar_below.specs.Tree.{Tree, number_value, text_value, uid_value, set_value, map_value, call_value};
-ghost use Rattle.cedar_below.specs.Tree.{Trees, no_tree, tree, no_entry, entry};
-ghost use Rattle.cedar_below.specs.declared.extension.Extensions.{Extensions};
-ghost use Rattle.cedar_below.specs.declared.validation_mode.ValidationMode.{ValidationMode};
-ghost use Rattle.cedar_below.specs.declared.validation_mode.ValidationMode.TheVariants.{Strict, Permissive};
-ghost use Rattle.cedar_type_rules.specs.Agree.{Agree};
-ghost use Rattle.cedar_type_rules.specs.Below.{Below};
-ghost use Rattle.cedar_type_rules.specs.Has.{Has, MayHave, Meets};
-ghost use Rattle.rule_examples.specs.TakesText.{TakesText};
-ghost use Rattle.cedar_type_rules.specs.Ty.{Ty, never, truth, long, text, any_entity, union_of, any_set, set_of, record_of, extension_of};
-ghost use Rattle.cedar_type_rules.specs.Ty.{end, field};
+ghost use Rattle.rule_examples.specs.Words.{Agree, Below, ClosedAttributes, Extensions, Has, IsUnknown, MayHave, Meets, OpenAttributes, Permissive, PlainName, Strict, TakesText, Text, Tree, Trees, Ty, ValidationMode, any_entity, any_set, call_value, end, entry, extension_of, field, long, map_value, never, no_entry, no_tree, number_value, record_of, set_of, set_value, text, text_value, tree, truth, uid_value, union_of};
 ghost use Rattle.cedar_type_rules.specs.declared.bool_type.BoolType.TheVariants as bool_type;
-ghost use Rattle.cedar_type_rules.specs.declared.open_tag.OpenTag.TheVariants.{OpenAttributes, ClosedAttributes};
 
 /// Sets are below sets of more, and all are below the any-set.
 pub fn sets_by_example()

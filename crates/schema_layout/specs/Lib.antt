@@ -1,2 +1,3 @@
 pub mod LaidOut
 pub mod SameTokens
+pub mod Words

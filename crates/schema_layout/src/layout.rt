@@ -1,17 +1,9 @@
 //! Documents, laid out.
 
 ghost use Rattle.std.specs.Prelude.{◌≡◌, ◌++◌, ◌<◌, Err, IfOk, None, OnOk, ◌∷◌, All, get_or, length, map, string_bytes};
-ghost use Rattle.std.specs.Borrow.{Bor};
-ghost use Rattle.std.specs.declared.alloc.Global.{Global};
+ghost use Rattle.schema_layout.specs.Words.{Bor, Global, HasNumbers, IsLayoutOf, IsPermutation, ItemsHaveNumbers, MembersHaveNumbers, SameTokens, Text, begin_array, begin_object, items_tokens, items_view, json_tokens, members_tokens, members_view, tokens, value_view};
 ghost use Rattle.json.specs.declared.value.Value.{Value as Tree};
-ghost use Rattle.schema_layout.specs.LaidOut.{IsLayoutOf};
-ghost use Rattle.schema_layout.specs.SameTokens.{SameTokens, Text};
-ghost use Rattle.std.specs.List.Sorted.{IsPermutation};
 ghost use Rattle.json.specs.Json.{document as document_of};
-ghost use Rattle.json.specs.Lex.{tokens};
-ghost use Rattle.json.specs.Token.{begin_array, begin_object};
-ghost use Rattle.json.specs.Tree.{HasNumbers, ItemsHaveNumbers, MembersHaveNumbers, items_tokens, json_tokens, members_tokens};
-ghost use Rattle.json.specs.Value.{items_view, members_view, value_view};
 
 use crate::fault::LayoutFault;
 use crate::shape::Shape;

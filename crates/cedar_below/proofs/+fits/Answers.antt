@@ -1,10 +1,6 @@
 use Rattle.std.proofs.Common.{Bool, not, ◌==◌, ◌∙◌, ap, sym, string_bytes}
 use Rattle.std.specs.Bool.{Decides}
-use Rattle.cedar_below.specs.CoreSchemaType.{core_ty_of, core_attribute_of}
-use Rattle.cedar_below.specs.CoreTy.{CoreTy}
-use Rattle.cedar_below.specs.Fits.{Fits, EntryFits}
-use Rattle.cedar_below.specs.RestrictedExpr.{tree_of, entries_of}
-use Rattle.cedar_below.specs.Tree.{Tree, entry_at}
+use Rattle.cedar_below.specs.Words.{CoreTy, EntryFits, Fits, Tree, core_attribute_of, core_ty_of, entries_of, entry_at, tree_of}
 use Rattle.cedar_below.proofs.Inclusion.{rest_alone, part_fails}
 use Rattle.cedar_below.proofs.TreeLemmas.{EntryFits-Some, EntryFits-None, not-Decides, tree_of-set, tree_of-record, tree_of-call, core_ty_of-set, core_ty_of-empty_set, core_ty_of-extension, core_ty_of-record, core_attribute_of-parts, no_tree-Decides, drop-at}
 use Rattle.cedar_below.proofs.+fits.Goals as goal

@@ -1,9 +1,5 @@
 use Rattle.std.proofs.Common.{◌↔◌, drop, map, string_bytes}
-use Rattle.cedar_below.specs.CoreSchemaType.{core_ty_of, core_attribute_of, core_fields_of}
-use Rattle.cedar_below.specs.CoreTy.{core_fields_from}
-use Rattle.cedar_below.specs.Fits.{Fits, FieldsFit}
-use Rattle.cedar_below.specs.RestrictedExpr.{trees_of, entries_of}
-use Rattle.cedar_below.specs.Tree.{EachTree}
+use Rattle.cedar_below.specs.Words.{EachTree, FieldsFit, Fits, core_attribute_of, core_fields_from, core_fields_of, core_ty_of, entries_of, trees_of}
 use Rattle.cedar_below.proofs.+fits.Given as goal
 
 abbrev pub invariant-fits::all_fit-loop-value : goal.invariant-fits::all_fit-loop-value

@@ -1,17 +1,7 @@
 //! What references resolve to.
 
 ghost use Rattle.std.specs.Prelude.{IfOk, IfErr, MatchOption, Contains, map};
-ghost use Rattle.cedar_below.specs.InternalName.{name_of};
-ghost use Rattle.cedar_below.specs.Lists.{HoldsPairwise};
-ghost use Rattle.cedar_below.specs.PlainName.{PlainName};
-ghost use Rattle.cedar_declarations.specs.Names.{IsDefined, ResolvesTo};
-ghost use Rattle.cedar_declarations.specs.Occurrences.{IsFirst};
-ghost use Rattle.cedar_fragments.specs.HeldNames.{StandsWhere, held_names};
-ghost use Rattle.cedar_fragments.specs.Refused.{IsRefused, IsRefusedAmong};
-ghost use Rattle.cedar_names.specs.ConditionalExpr.{positional_reference};
-ghost use Rattle.cedar_names.specs.ConditionalName.{conditional_reference};
-ghost use Rattle.cedar_names.specs.PossibleNames.{names_of};
-ghost use Rattle.cedar_names.specs.Reference.{Reference};
+ghost use Rattle.cedar_fragments.specs.Words.{HoldsPairwise, IsDefined, IsFirst, IsRefused, IsRefusedAmong, PlainName, Reference, ResolvesTo, StandsWhere, conditional_reference, held_names, name_of, names_of, positional_reference};
 
 use crate::defs::all_defs::AllDefs;
 use cedar_below::{InternalName, M, NonEmpty};

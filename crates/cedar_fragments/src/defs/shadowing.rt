@@ -2,15 +2,7 @@
 
 ghost use Rattle.std.specs.Prelude.{◌≡◌, ◌⊎◌, IfOk, IfErr, OnOk, MatchOption, map, Contains, string_bytes};
 ghost use Rattle.std.specs.List.{AllByRecursion};
-ghost use Rattle.cedar_below.specs.EntityUID.{uid_of};
-ghost use Rattle.cedar_below.specs.InternalName.{name_of};
-ghost use Rattle.cedar_below.specs.PlainName.{PlainName, IsUnqualified};
-ghost use Rattle.cedar_below.specs.PlainUid.{PlainUid};
-ghost use Rattle.cedar_declarations.specs.Fault.{out_of_memory};
-ghost use Rattle.cedar_declarations.specs.SchemaError.{fault_of};
-ghost use Rattle.cedar_declarations.specs.Shadowing.{ShadowsType};
-ghost use Rattle.cedar_fragments.specs.HeldNames.{held_names};
-ghost use Rattle.cedar_fragments.specs.ShadowedNames.{type_names, IsShadowing, NoTypeShadows, NoActionShadows, IsPlainAction};
+ghost use Rattle.cedar_fragments.specs.Words.{IsPlainAction, IsShadowing, IsUnqualified, NoActionShadows, NoTypeShadows, PlainName, PlainUid, ShadowsType, fault_of, held_names, name_of, out_of_memory, type_names, uid_of};
 
 use crate::defs::all_defs::AllDefs;
 use cedar_below::{EntityUID, InternalName, M, put};

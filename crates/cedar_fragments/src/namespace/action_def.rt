@@ -1,7 +1,6 @@
 //! An action that a definition declares.
 
-ghost use Rattle.cedar_below.specs.EntityUID.{uid_of};
-ghost use Rattle.cedar_below.specs.PlainName.{IsActionType};
+ghost use Rattle.cedar_below.specs.Words.{IsActionType, uid_of};
 
 use crate::namespace::actions::ActionFragment;
 use cedar_below::EntityUID;

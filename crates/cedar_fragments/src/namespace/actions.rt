@@ -2,29 +2,10 @@
 
 ghost use Rattle.std.specs.Prelude.{◌≡◌, ◌⊎◌, ◌↔◌, IfOk, IfErr, OnOk, map, Contains, string_bytes, []};
 ghost use Rattle.std.specs.Option.{option_map};
-ghost use Rattle.cedar_below.specs.EntityType.{type_name};
-ghost use Rattle.cedar_below.specs.Id.{id_text};
-ghost use Rattle.cedar_below.specs.Identifier.{reserved_word};
-ghost use Rattle.cedar_below.specs.PlainName.{action_word};
-ghost use Rattle.cedar_declarations.specs.Fault.{Fault, reserved_name, out_of_memory};
-ghost use Rattle.cedar_declarations.specs.SchemaError.{fault_of};
+ghost use Rattle.cedar_fragments.specs.Words.{Fault, HasAttributes, IsDefinitionFault, IsSound, NamesAllWithAttributes, Reference, ReferenceType, Text, action_body, action_declarations, action_defs, action_fragment_body, action_fragment_declarations, action_word, applies_to, fault_of, fragment_parent, fragment_requests, id_text, name_within, namespace_name, out_of_memory, parent_action, parent_actions, path_within, positional_reference, raw_reference, requests_by, reserved_name, reserved_word, text_cmp, type_name, uid_of, with_attributes};
 ghost use Rattle.std.specs.List.{AllByRecursion};
 ghost use Rattle.std.specs.Slice.Iter.{iter_rest};
 ghost use Rattle.std.specs.List.Sorted.{IsStrictlySortedBy};
-ghost use Rattle.cedar_below.specs.EntityUID.{uid_of};
-ghost use Rattle.cedar_below.specs.Text.{Text, text_cmp};
-ghost use Rattle.cedar_declarations.specs.IllFormed.{HasAttributes};
-ghost use Rattle.cedar_fragments.specs.ActionDeclarations.{fragment_parent, fragment_requests, action_fragment_body, action_fragment_declarations};
-ghost use Rattle.cedar_fragments.specs.DefinitionFault.{IsDefinitionFault, IsSound, NamesAllWithAttributes};
-ghost use Rattle.cedar_fragments.specs.Located.{action_defs};
-ghost use Rattle.cedar_fragments.specs.WithAttributes.{with_attributes};
-ghost use Rattle.cedar_names.specs.Declaration.{action_declarations};
-ghost use Rattle.cedar_names.specs.ActionBody.{parent_action, parent_actions, requests_by, applies_to, action_body};
-ghost use Rattle.cedar_names.specs.ConditionalExpr.{positional_reference};
-ghost use Rattle.cedar_names.specs.NamespaceName.{namespace_name};
-ghost use Rattle.cedar_names.specs.RawExpr.{raw_reference};
-ghost use Rattle.cedar_names.specs.Reference.{Reference, name_within, path_within};
-ghost use Rattle.cedar_names.specs.declared.json_schema.reference_type.ReferenceType.{ReferenceType};
 ghost use Rattle.cedar_names.specs.declared.json_schema.conditional_name.ConditionalName.{ConditionalName as Conditional};
 ghost use Rattle.cedar_names.specs.declared.json_schema.raw_name.RawName.{RawName as Raw};
 

@@ -2,12 +2,7 @@
 
 ghost use Rattle.std.specs.Prelude.{◌≡◌, IfOk};
 ghost use Rattle.std.specs.Slice.Iter.{iter_rest};
-ghost use Rattle.cedar_fragments.specs.Located.{common_type_defs, located_common_names, written_common_names};
-ghost use Rattle.cedar_fragments.specs.TypeDeclarations.{common_type_declarations};
-ghost use Rattle.cedar_names.specs.ConditionalExpr.{positional_reference};
-ghost use Rattle.cedar_names.specs.Declaration.{common_declarations};
-ghost use Rattle.cedar_names.specs.NamespaceName.{namespace_name};
-ghost use Rattle.cedar_names.specs.RawExpr.{raw_reference};
+ghost use Rattle.cedar_fragments.specs.Words.{common_declarations, common_type_declarations, common_type_defs, located_common_names, namespace_name, positional_reference, raw_reference, written_common_names};
 ghost use Rattle.cedar_names.specs.declared.json_schema.conditional_name.ConditionalName.{ConditionalName as Conditional};
 ghost use Rattle.cedar_names.specs.declared.json_schema.raw_name.RawName.{RawName as Raw};
 

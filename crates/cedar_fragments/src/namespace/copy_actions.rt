@@ -1,13 +1,7 @@
 //! Copies of actions.
 
 ghost use Rattle.std.specs.Prelude.{IfOk, Some};
-ghost use Rattle.cedar_fragments.specs.ActionDeclarations.{action_fragment_body, action_fragment_declaration, action_fragment_declarations, fragment_parent, fragment_requests};
-ghost use Rattle.cedar_fragments.specs.FragmentCopies.{DeclaresSame, LocatesSame};
-ghost use Rattle.cedar_fragments.specs.FragmentLocs.{action_def_locs, action_fragment_locs, actions_locs, parent_locs, requests_locs};
-ghost use Rattle.cedar_names.specs.Copies.{LocatesAlike, RefersAlike, ShowsSame};
-ghost use Rattle.cedar_names.specs.Reference.{Reference};
-ghost use Rattle.cedar_names.specs.TypeLocs.{Locs};
-ghost use Rattle.cedar_names.specs.declared.json_schema.reference_type.ReferenceType.{ReferenceType};
+ghost use Rattle.cedar_fragments.specs.Words.{DeclaresSame, LocatesAlike, LocatesSame, Locs, Reference, ReferenceType, RefersAlike, ShowsSame, action_def_locs, action_fragment_body, action_fragment_declaration, action_fragment_declarations, action_fragment_locs, actions_locs, fragment_parent, fragment_requests, parent_locs, requests_locs};
 
 use crate::namespace::action_def::ActionDef;
 use crate::namespace::actions::{ActionFragment, ActionParent, ActionRequests, ActionsDef};

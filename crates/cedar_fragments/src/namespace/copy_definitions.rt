@@ -2,15 +2,7 @@
 
 ghost use Rattle.std.specs.Prelude.{◌≡◌, IfOk};
 ghost use Rattle.std.specs.Option.{option_map};
-ghost use Rattle.cedar_fragments.specs.DefinitionsPairwise.{declarations_pairwise};
-ghost use Rattle.cedar_fragments.specs.FragmentCopies.{DeclaresSame, LocatesSame};
-ghost use Rattle.cedar_fragments.specs.FragmentDeclarations.{definition_declarations, fragment_declarations};
-ghost use Rattle.cedar_fragments.specs.FragmentLocs.{definition_locs, fragment_locs};
-ghost use Rattle.cedar_fragments.specs.FragmentNamespaces.{fragment_namespaces};
-ghost use Rattle.cedar_fragments.specs.Located.{definition_common_names, definition_loc, definition_name, fragment_common_names, located_name, named_namespaces};
-ghost use Rattle.cedar_names.specs.Reference.{Reference};
-ghost use Rattle.cedar_names.specs.TypeLocs.{Locs};
-ghost use Rattle.cedar_names.specs.declared.json_schema.reference_type.ReferenceType.{ReferenceType};
+ghost use Rattle.cedar_fragments.specs.Words.{DeclaresSame, LocatesSame, Locs, Reference, ReferenceType, declarations_pairwise, definition_common_names, definition_declarations, definition_loc, definition_locs, definition_name, fragment_common_names, fragment_declarations, fragment_locs, fragment_namespaces, located_name, named_namespaces};
 
 use crate::namespace::definition::ValidatorNamespaceDef;
 use crate::namespace::fragment::ValidatorSchemaFragment;

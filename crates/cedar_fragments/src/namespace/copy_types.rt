@@ -2,13 +2,7 @@
 
 ghost use Rattle.std.specs.Prelude.{◌≡◌, IfOk, map};
 ghost use Rattle.std.specs.Option.{option_map};
-ghost use Rattle.cedar_fragments.specs.FragmentLocs.{common_type_locs, common_types_locs, entity_fragment_locs, entity_type_locs, entity_types_locs, tags_locs};
-ghost use Rattle.cedar_fragments.specs.Located.{common_type_defs, located_common_names, located_name};
-ghost use Rattle.cedar_fragments.specs.TypeDeclarations.{common_type_declaration, common_type_declarations, entity_type_declaration, entity_type_declarations, fragment_body};
-ghost use Rattle.cedar_names.specs.Copies.{LocatesAlike, RefersAlike, ShowsSame};
-ghost use Rattle.cedar_names.specs.Reference.{Reference};
-ghost use Rattle.cedar_names.specs.TypeExpr.{type_expr};
-ghost use Rattle.cedar_names.specs.declared.json_schema.reference_type.ReferenceType.{ReferenceType};
+ghost use Rattle.cedar_fragments.specs.Words.{LocatesAlike, Reference, ReferenceType, RefersAlike, ShowsSame, common_type_declaration, common_type_declarations, common_type_defs, common_type_locs, common_types_locs, entity_fragment_locs, entity_type_declaration, entity_type_declarations, entity_type_locs, entity_types_locs, fragment_body, located_common_names, located_name, tags_locs, type_expr};
 
 use crate::namespace::common_types::{CommonTypeDef, CommonTypeDefs};
 use crate::namespace::entity_type_def::EntityTypeDef;

@@ -4,10 +4,7 @@
 ghost use Rattle.std.specs.Prelude.{◌≡◌, map, length};
 ghost use Rattle.std.specs.Iterator.{at_most};
 ghost use Rattle.std.specs.Map.Iter.{TakesFirst, deref};
-ghost use Rattle.cedar_below.specs.EntityType.{type_name};
-ghost use Rattle.cedar_below.specs.EntityUID.{uid_of};
-ghost use Rattle.cedar_below.specs.InternalName.{name_of};
-ghost use Rattle.cedar_fragments.specs.HeldNames.{definition_names};
+ghost use Rattle.cedar_fragments.specs.Words.{definition_names, name_of, type_name, uid_of};
 
 use crate::namespace::action_def::ActionDef;
 use crate::namespace::common_types::CommonTypeDef;

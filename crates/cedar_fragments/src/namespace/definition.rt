@@ -3,15 +3,8 @@
 ghost use Rattle.std.specs.Prelude.{◌≡◌, ◌⊎◌, IfOk, IfErr, OnOk};
 ghost use Rattle.std.specs.List.{AllByRecursion};
 ghost use Rattle.std.specs.Option.{option_copied, option_map};
-ghost use Rattle.cedar_below.specs.InternalName.{name_of};
-ghost use Rattle.cedar_declarations.specs.Fault.{out_of_memory};
-ghost use Rattle.cedar_declarations.specs.SchemaError.{fault_of};
-ghost use Rattle.cedar_fragments.specs.DefinitionFault.{HasNoDefinitionFault, IsDefinitionFault, IsSound, NamesAllWithAttributes};
-ghost use Rattle.cedar_fragments.specs.FragmentDeclarations.{conditional_definition, definition_namespace};
-ghost use Rattle.cedar_fragments.specs.Located.{definition_common_names, definition_loc, definition_name, located_name, written_common_names};
+ghost use Rattle.cedar_fragments.specs.Words.{HasNoDefinitionFault, IsDefinitionFault, IsSound, NamesAllWithAttributes, conditional_definition, definition_common_names, definition_loc, definition_name, definition_namespace, fault_of, located_name, name_of, namespace_name, out_of_memory, raw_declarations, written_common_names};
 ghost use Rattle.cedar_names.specs.declared.json_schema.conditional_name.ConditionalName.{ConditionalName as Conditional};
-ghost use Rattle.cedar_names.specs.Declaration.{raw_declarations};
-ghost use Rattle.cedar_names.specs.NamespaceName.{namespace_name};
 
 use crate::namespace::actions::ActionsDef;
 use crate::namespace::common_types::CommonTypeDefs;

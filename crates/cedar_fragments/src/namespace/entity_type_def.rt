@@ -1,7 +1,6 @@
 //! An entity type that a definition declares.
 
-ghost use Rattle.cedar_below.specs.EntityType.{type_name};
-ghost use Rattle.cedar_below.specs.PlainName.{IsActionType};
+ghost use Rattle.cedar_below.specs.Words.{IsActionType, type_name};
 
 use crate::namespace::entity_types::EntityTypeFragment;
 use cedar_below::EntityType;

@@ -3,26 +3,9 @@
 ghost use Rattle.std.specs.Prelude.{◌≡◌, ◌⊎◌, IfOk, IfErr, OnOk, map, Contains, []};
 ghost use Rattle.std.specs.List.{AllByRecursion};
 ghost use Rattle.std.specs.Slice.Iter.{iter_rest};
-ghost use Rattle.cedar_below.specs.EntityType.{type_name};
-ghost use Rattle.cedar_below.specs.Identifier.{reserved_word};
-ghost use Rattle.cedar_below.specs.PlainName.{IsActionType};
-ghost use Rattle.cedar_below.specs.UnreservedId.{unreserved_id_text};
-ghost use Rattle.cedar_declarations.specs.Counted.{entity_parents};
-ghost use Rattle.cedar_names.specs.Reference.{Reference};
-ghost use Rattle.cedar_names.specs.declared.json_schema.reference_type.ReferenceType.{ReferenceType};
-ghost use Rattle.cedar_declarations.specs.Fault.{Fault, action_entity_type, reserved_name, out_of_memory};
-ghost use Rattle.cedar_declarations.specs.SchemaError.{fault_of};
-ghost use Rattle.cedar_fragments.specs.DefinitionFault.{IsDefinitionFault, IsSound, NamesNoAttributes};
-ghost use Rattle.cedar_fragments.specs.Located.{entity_type_defs};
-ghost use Rattle.cedar_fragments.specs.TypeDeclarations.{fragment_body, entity_type_declarations};
-ghost use Rattle.cedar_names.specs.Declaration.{entity_declarations};
-ghost use Rattle.cedar_names.specs.Reference.{name_within, path_within};
+ghost use Rattle.cedar_fragments.specs.Words.{Fault, IsActionType, IsDefinitionFault, IsSound, NamesNoAttributes, Reference, ReferenceType, action_entity_type, entity_declarations, entity_parents, entity_type_declarations, entity_type_defs, fault_of, fragment_body, name_within, namespace_name, out_of_memory, path_within, positional_expr, positional_reference, raw_entity_body, raw_expr, raw_reference, reserved_name, reserved_word, standard, type_name, unreserved_id_text};
 ghost use Rattle.cedar_names.specs.declared.json_schema.raw_name.RawName.{RawName as Raw};
 ghost use Rattle.std.specs.Option.{option_map};
-ghost use Rattle.cedar_names.specs.ConditionalExpr.{positional_reference, positional_expr};
-ghost use Rattle.cedar_names.specs.EntityBody.{raw_entity_body, standard};
-ghost use Rattle.cedar_names.specs.NamespaceName.{namespace_name};
-ghost use Rattle.cedar_names.specs.RawExpr.{raw_reference, raw_expr};
 ghost use Rattle.cedar_names.specs.declared.json_schema.conditional_name.ConditionalName.{ConditionalName as Conditional};
 ghost use Rattle.cedar_names.specs.declared.json_schema.reference_type.ReferenceType.TheVariants.{Entity as entity};
 

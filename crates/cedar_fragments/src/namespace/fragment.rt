@@ -3,16 +3,7 @@
 ghost use Rattle.std.specs.Prelude.{◌≡◌, ◌⊎◌, [], ◌∷◌, IfOk, IfErr, OnOk};
 ghost use Rattle.std.specs.List.{AllByRecursion};
 ghost use Rattle.std.specs.Option.{option_map};
-ghost use Rattle.cedar_below.specs.InternalName.{name_of};
-ghost use Rattle.cedar_below.specs.Name.{plain_name};
-ghost use Rattle.cedar_declarations.specs.Fault.{out_of_memory};
-ghost use Rattle.cedar_declarations.specs.SchemaError.{fault_of};
-ghost use Rattle.cedar_fragments.specs.DefinitionFault.{HasNoDefinitionFault, IsDefinitionFault, IsSound};
-ghost use Rattle.cedar_fragments.specs.DefinitionsPairwise.{conditional_pairwise, located_namespaces, raw_pairwise, raw_located_namespaces};
-ghost use Rattle.cedar_fragments.specs.FragmentDeclarations.{conditional_fragment};
-ghost use Rattle.cedar_fragments.specs.FragmentFault.{NamesAllOfADefinition};
-ghost use Rattle.cedar_fragments.specs.Located.{fragment_common_names, located_name, located_plain_name, named_namespaces, raw_common_names, raw_namespaces};
-ghost use Rattle.cedar_names.specs.Declaration.{raw_fragment};
+ghost use Rattle.cedar_fragments.specs.Words.{HasNoDefinitionFault, IsDefinitionFault, IsSound, NamesAllOfADefinition, conditional_fragment, conditional_pairwise, fault_of, fragment_common_names, located_name, located_namespaces, located_plain_name, name_of, named_namespaces, out_of_memory, plain_name, raw_common_names, raw_fragment, raw_located_namespaces, raw_namespaces, raw_pairwise};
 ghost use Rattle.cedar_names.specs.declared.json_schema.conditional_name.ConditionalName.{ConditionalName as Conditional};
 
 use crate::namespace::definition::ValidatorNamespaceDef;

@@ -1,10 +1,7 @@
 //! Full names of what is declared.
 
 ghost use Rattle.std.specs.Prelude.{◌≡◌, IfOk, map};
-ghost use Rattle.cedar_below.specs.Id.{id_text};
-ghost use Rattle.cedar_below.specs.InternalName.{name_of, name_loc};
-ghost use Rattle.cedar_names.specs.NamespaceName.{namespace_name};
-ghost use Rattle.cedar_names.specs.Reference.{name_within, path_within};
+ghost use Rattle.cedar_fragments.specs.Words.{id_text, name_loc, name_of, name_within, namespace_name, path_within};
 
 use cedar_below::{Id, InternalName, Loc, M};
 use std::alloc::Global;

@@ -2,16 +2,7 @@
 
 ghost use Rattle.std.specs.Prelude.{◌≡◌, ◌∷◌, [], IfOk, IfErr};
 ghost use Rattle.std.specs.Option.{option_map};
-ghost use Rattle.cedar_below.specs.InternalName.{name_of};
-ghost use Rattle.cedar_declarations.specs.Fault.{out_of_memory};
-ghost use Rattle.cedar_declarations.specs.SchemaError.{fault_of};
-ghost use Rattle.cedar_fragments.specs.DeclaredAs.{declared_as};
-ghost use Rattle.cedar_fragments.specs.FragmentDeclarations.{conditional_definition, definition_namespace};
-ghost use Rattle.cedar_fragments.specs.GivenCommonTypes.{given_common_type, given_common_types};
-ghost use Rattle.cedar_fragments.specs.TypeDeclarations.{common_type_declarations};
-ghost use Rattle.cedar_names.specs.ConditionalExpr.{positional_reference, positional_expr};
-ghost use Rattle.cedar_names.specs.Declaration.{common_type};
-ghost use Rattle.cedar_names.specs.NamespaceName.{namespace_name};
+ghost use Rattle.cedar_fragments.specs.Words.{common_type, common_type_declarations, conditional_definition, declared_as, definition_namespace, fault_of, given_common_type, given_common_types, name_of, namespace_name, out_of_memory, positional_expr, positional_reference};
 ghost use Rattle.cedar_names.specs.declared.json_schema.conditional_name.ConditionalName.{ConditionalName as Conditional};
 
 use crate::namespace::actions::ActionsDef;

@@ -5,11 +5,8 @@ ghost use Rattle.std.specs.Iterator.{IsFinite, Drains, at_most};
 ghost use Rattle.std.specs.List.{flat_map};
 ghost use Rattle.std.specs.Map.Iter.{TakesFirst};
 ghost use Rattle.std.specs.Option.{option_copied, option_map};
-ghost use Rattle.cedar_below.specs.InternalName.{name_of};
-ghost use Rattle.cedar_fragments.specs.FragmentDeclarations.{definition_declarations, fragment_declarations, definition_namespace};
-ghost use Rattle.cedar_fragments.specs.FragmentNamespaces.{fragment_namespaces};
+ghost use Rattle.cedar_fragments.specs.Words.{Reference, definition_declarations, definition_namespace, fragment_declarations, fragment_namespaces, name_of};
 ghost use Rattle.cedar_fragments.specs.declared.namespace.definition.ValidatorNamespaceDef.{ValidatorNamespaceDef as Definition};
-ghost use Rattle.cedar_names.specs.Reference.{Reference};
 ghost use Rattle.cedar_names.specs.declared.json_schema.reference_type.ReferenceType.{ReferenceType as Kind};
 
 use crate::namespace::definition::ValidatorNamespaceDef;

@@ -2,25 +2,9 @@
 
 ghost use Rattle.std.specs.Prelude.{◌≡◌, IfOk, IfErr, OnOk, MatchOption, Some, map, Contains, string_bytes};
 ghost use Rattle.std.specs.List.{flat_map};
-ghost use Rattle.cedar_below.specs.EntityType.{type_name};
-ghost use Rattle.cedar_below.specs.InternalName.{name_of};
-ghost use Rattle.cedar_below.specs.Lists.{HoldsPairwise};
-ghost use Rattle.cedar_below.specs.PlainName.{PlainName};
+ghost use Rattle.cedar_fragments.specs.Words.{HasToResolveFor, HoldsPairwise, IsFirst, IsPrincipalOrResource, IsRequested, IsRequestedIn, IsUnresolvable, IsUnresolvableBag, IsUnresolvableIn, NoneIsReserved, PlainName, ResolvesBag, ResolvesBody, ResolvesParent, ResolvesReference, ResolvesRequests, action, action_fragment_body, action_fragment_declarations, action_fragment_locs, actions_locs, fault_of, fragment_parent, fragment_requests, held_names, name_of, names_of, no_locs, parent_locs, positional_reference, requests_locs, resolved_action_type, resolved_reference, type_name};
 ghost use Rattle.cedar_below.specs.declared.entity_type.EntityType.{EntityType as ActionEntityType};
 ghost use Rattle.cedar_below.specs.declared.internal_name.InternalName.{InternalName as Full};
-ghost use Rattle.cedar_declarations.specs.Counted.{IsPrincipalOrResource};
-ghost use Rattle.cedar_declarations.specs.Occurrences.{IsFirst};
-ghost use Rattle.cedar_declarations.specs.SchemaError.{fault_of};
-ghost use Rattle.cedar_declarations.specs.Resolved.{ResolvesReference, ResolvesParent, ResolvesRequests, ResolvesBody, ResolvesBag};
-ghost use Rattle.cedar_declarations.specs.ResolvedExpr.{resolved_reference};
-ghost use Rattle.cedar_fragments.specs.ActionDeclarations.{fragment_parent, fragment_requests, action_fragment_body, action_fragment_declarations};
-ghost use Rattle.cedar_fragments.specs.FragmentDeclarations.{resolved_action_type};
-ghost use Rattle.cedar_fragments.specs.FragmentLocs.{action_fragment_locs, actions_locs, no_locs, parent_locs, requests_locs};
-ghost use Rattle.cedar_fragments.specs.HeldNames.{held_names};
-ghost use Rattle.cedar_fragments.specs.QualifyFault.{HasToResolveFor, IsRequestedIn, IsRequested, IsUnresolvable, IsUnresolvableIn, IsUnresolvableBag, NoneIsReserved};
-ghost use Rattle.cedar_names.specs.ConditionalExpr.{positional_reference};
-ghost use Rattle.cedar_names.specs.Declaration.{action};
-ghost use Rattle.cedar_names.specs.PossibleNames.{names_of};
 ghost use Rattle.cedar_names.specs.declared.json_schema.conditional_name.ConditionalName.{ConditionalName as Conditional};
 ghost use Rattle.cedar_names.specs.declared.json_schema.reference_type.ReferenceType.TheVariants.{Entity as entity};
 

@@ -3,15 +3,7 @@
 ghost use Rattle.std.specs.Prelude.{◌≡◌, IfOk, IfErr, OnOk};
 ghost use Rattle.cedar_below.specs.declared.entity_type.EntityType.{EntityType as ActionEntityType};
 ghost use Rattle.cedar_below.specs.declared.internal_name.InternalName.{InternalName as Full};
-ghost use Rattle.cedar_below.specs.Lists.{HoldsPairwise};
-ghost use Rattle.cedar_declarations.specs.SchemaError.{fault_of};
-ghost use Rattle.cedar_declarations.specs.Resolved.{ResolvesBag};
-ghost use Rattle.cedar_fragments.specs.DefinitionsPairwise.{conditional_pairwise, located_namespaces, locs_pairwise, resolved_in_turn};
-ghost use Rattle.cedar_fragments.specs.FragmentDeclarations.{definition_namespace, conditional_definition, conditional_fragment, resolved_definition, resolved_fragment};
-ghost use Rattle.cedar_fragments.specs.FragmentLocs.{definition_locs, no_locs};
-ghost use Rattle.cedar_fragments.specs.HeldNames.{held_names};
-ghost use Rattle.cedar_fragments.specs.Located.{definition_loc, definition_name};
-ghost use Rattle.cedar_fragments.specs.QualifyFault.{IsRequested, IsUnresolvableBag, NoneIsReserved};
+ghost use Rattle.cedar_fragments.specs.Words.{HoldsPairwise, IsRequested, IsUnresolvableBag, NoneIsReserved, ResolvesBag, conditional_definition, conditional_fragment, conditional_pairwise, definition_loc, definition_locs, definition_name, definition_namespace, fault_of, held_names, located_namespaces, locs_pairwise, no_locs, resolved_definition, resolved_fragment, resolved_in_turn};
 ghost use Rattle.cedar_names.specs.declared.json_schema.conditional_name.ConditionalName.{ConditionalName as Conditional};
 
 use crate::defs::AllDefs;

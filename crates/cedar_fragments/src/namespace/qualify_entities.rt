@@ -3,18 +3,7 @@
 ghost use Rattle.std.specs.Prelude.{◌≡◌, IfOk, IfErr, Some};
 ghost use Rattle.std.specs.Option.{option_map};
 ghost use Rattle.cedar_below.specs.declared.internal_name.InternalName.{InternalName as Full};
-ghost use Rattle.cedar_declarations.specs.Counted.{HasToResolve};
-ghost use Rattle.cedar_declarations.specs.Mentions.{Refers};
-ghost use Rattle.cedar_declarations.specs.Resolved.{ResolvesTags, ResolvesEntityBody, ResolvesBag};
-ghost use Rattle.cedar_declarations.specs.ResolvedExpr.{resolved_reference, resolved_expr};
-ghost use Rattle.cedar_fragments.specs.FragmentLocs.{common_types_locs, entity_fragment_locs, entity_types_locs, no_locs, tags_locs};
-ghost use Rattle.cedar_fragments.specs.HeldNames.{held_names};
-ghost use Rattle.cedar_fragments.specs.QualifyFault.{HasToResolveIn};
-ghost use Rattle.cedar_fragments.specs.Refused.{IsRefusedAmong};
-ghost use Rattle.cedar_fragments.specs.TypeDeclarations.{common_type_declarations, fragment_body, entity_type_declarations};
-ghost use Rattle.cedar_names.specs.ConditionalExpr.{positional_reference, positional_expr};
-ghost use Rattle.cedar_names.specs.Declaration.{entity_type};
-ghost use Rattle.cedar_names.specs.Expr.{Expr};
+ghost use Rattle.cedar_fragments.specs.Words.{Expr, HasToResolve, HasToResolveIn, IsRefusedAmong, Refers, ResolvesBag, ResolvesEntityBody, ResolvesTags, common_type_declarations, common_types_locs, entity_fragment_locs, entity_type, entity_type_declarations, entity_types_locs, fragment_body, held_names, no_locs, positional_expr, positional_reference, resolved_expr, resolved_reference, tags_locs};
 ghost use Rattle.cedar_names.specs.declared.json_schema.conditional_name.ConditionalName.{ConditionalName as Conditional};
 
 use crate::defs::AllDefs;

@@ -1,16 +1,8 @@
 //! Types over conditional names become types over full names.
 
 ghost use Rattle.std.specs.Prelude.{◌≡◌, IfOk, IfErr, map, Contains};
-ghost use Rattle.cedar_below.specs.Lists.{HoldsPairwise};
+ghost use Rattle.cedar_fragments.specs.Words.{HoldsPairwise, IsRefusedAmong, Refers, Resolves, ResolvesReference, held_names, no_locs, positional_expr, positional_record, positional_reference, positional_variant, record_locs, resolved_expr, resolved_record, resolved_reference, resolved_variant, type_locs, variant_locs};
 ghost use Rattle.cedar_below.specs.declared.internal_name.InternalName.{InternalName as Full};
-ghost use Rattle.cedar_declarations.specs.Mentions.{Refers};
-ghost use Rattle.cedar_declarations.specs.Resolved.{Resolves, ResolvesReference};
-ghost use Rattle.cedar_declarations.specs.ResolvedExpr.{resolved_reference, resolved_expr, resolved_variant, resolved_record};
-ghost use Rattle.cedar_fragments.specs.FragmentLocs.{no_locs};
-ghost use Rattle.cedar_fragments.specs.HeldNames.{held_names};
-ghost use Rattle.cedar_fragments.specs.Refused.{IsRefusedAmong};
-ghost use Rattle.cedar_names.specs.ConditionalExpr.{positional_reference, positional_expr, positional_variant, positional_record};
-ghost use Rattle.cedar_names.specs.TypeLocs.{record_locs, type_locs, variant_locs};
 ghost use Rattle.cedar_names.specs.declared.json_schema.conditional_name.ConditionalName.{ConditionalName as Conditional};
 ghost use Rattle.cedar_names.specs.declared.json_schema.reference_type.ReferenceType.TheVariants.{Entity as entity};
 

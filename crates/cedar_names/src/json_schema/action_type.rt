@@ -3,8 +3,7 @@
 ghost use Rattle.std.specs.Fmt.{WritesOnOk};
 ghost use Rattle.std.specs.Option.{option_map};
 ghost use Rattle.std.specs.Prelude.{string_bytes};
-ghost use Rattle.cedar_names.specs.ConditionalName.{conditional_reference};
-ghost use Rattle.cedar_names.specs.ReferenceText.{action_reference_text, written_type_text};
+ghost use Rattle.cedar_names.specs.Words.{action_reference_text, conditional_reference, written_type_text};
 
 use crate::json_schema::conditional_name::{ConditionalName, write_possibilities};
 use crate::json_schema::entity_type::AttributesOrContext;

@@ -1,9 +1,7 @@
 //! Base names of common types.
 
 ghost use Rattle.std.specs.Prelude.{◌≡◌, ◌↔◌, IsTrue, IsSome, IfSome, IfErr, IfOk};
-ghost use Rattle.cedar_below.specs.Identifier.{IsIdentifier, reserved_word};
-ghost use Rattle.cedar_below.specs.NameFault.{IsNameFault};
-ghost use Rattle.cedar_below.specs.UnreservedId.{unreserved_id_text};
+ghost use Rattle.cedar_below.specs.Words.{IsIdentifier, IsNameFault, reserved_word, unreserved_id_text};
 ghost use Rattle.cedar_names.specs.ReservedTypeWord.{IsReservedTypeWord};
 
 use cedar_below::{M, NameFault, UnreservedId};

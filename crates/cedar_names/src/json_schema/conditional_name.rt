@@ -2,12 +2,7 @@
 
 ghost use Rattle.std.specs.Fmt.{WritesOnOk};
 ghost use Rattle.std.specs.Prelude.{◌≡◌, ◌∷◌, [], IfOk, codes, map};
-ghost use Rattle.cedar_below.specs.InternalName.{name_of, name_loc};
-ghost use Rattle.cedar_below.specs.Joined.{each_after};
-ghost use Rattle.cedar_below.specs.PlainName.{name_text};
-ghost use Rattle.cedar_names.specs.ConditionalName.{possibilities_of, possibility_locs, reference_type_of};
-ghost use Rattle.cedar_names.specs.PossibleNames.{names_of, locs_of};
-ghost use Rattle.cedar_names.specs.ReferenceText.{possibilities_text};
+ghost use Rattle.cedar_names.specs.Words.{each_after, locs_of, name_loc, name_of, name_text, names_of, possibilities_of, possibilities_text, possibility_locs, reference_type_of};
 
 use crate::json_schema::reference_type::ReferenceType;
 use cedar_below::{InternalName, M, NonEmpty};

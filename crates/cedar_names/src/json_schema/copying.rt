@@ -1,9 +1,7 @@
 //! Copies of types.
 
 ghost use Rattle.std.specs.Prelude.{IfOk};
-ghost use Rattle.cedar_names.specs.Copies.{IsRecordCopy, IsTypeCopy, IsVariantCopy, LocatesAlike, RefersAlike, ShowsSame};
-ghost use Rattle.cedar_names.specs.TypeLocs.{type_locs};
-ghost use Rattle.cedar_names.specs.TypeExpr.{type_expr};
+ghost use Rattle.cedar_names.specs.Words.{IsRecordCopy, IsTypeCopy, IsVariantCopy, LocatesAlike, RefersAlike, ShowsSame, type_expr, type_locs};
 
 use crate::json_schema::fragment_name::FragmentName;
 use crate::json_schema::type_of::{RecordType, Type, TypeOfAttribute, TypeVariant};

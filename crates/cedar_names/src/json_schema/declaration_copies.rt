@@ -1,9 +1,7 @@
 //! Copies of declarations.
 
 ghost use Rattle.std.specs.Prelude.{IfOk};
-ghost use Rattle.cedar_below.specs.Lists.{HoldsPairwise};
-ghost use Rattle.cedar_names.specs.Copies.{IsTypeCopy};
-ghost use Rattle.cedar_names.specs.DeclarationCopies.{AreEntriesCopied, IsActionReferenceCopy, IsActionTypeCopy, IsApplySpecCopy, IsCommonTypeCopy, IsDefinitionCopy, IsEntityTypeCopy, IsFragmentCopy, IsKindCopy, IsNamespaceCopy, IsStandardCopy, IsTextCopy, IsValueCopy};
+ghost use Rattle.cedar_names.specs.Words.{AreEntriesCopied, HoldsPairwise, IsActionReferenceCopy, IsActionTypeCopy, IsApplySpecCopy, IsCommonTypeCopy, IsDefinitionCopy, IsEntityTypeCopy, IsFragmentCopy, IsKindCopy, IsNamespaceCopy, IsStandardCopy, IsTextCopy, IsTypeCopy, IsValueCopy};
 
 use crate::json_schema::action_type::{ActionEntityUID, ActionType, ApplySpec};
 use crate::json_schema::common_type_id::CommonTypeId;

@@ -1,9 +1,7 @@
 //! Types over raw names become types over conditional names, in the namespace that they stand in.
 
 ghost use Rattle.std.specs.Prelude.{◌≡◌, IfOk};
-ghost use Rattle.cedar_names.specs.ConditionalExpr.{conditional_expr, conditional_variant, conditional_record, positional_expr, positional_variant, positional_record, ReferencesFit};
-ghost use Rattle.cedar_names.specs.NamespaceName.{namespace_name};
-ghost use Rattle.cedar_names.specs.RawExpr.{raw_expr, raw_variant, raw_record};
+ghost use Rattle.cedar_names.specs.Words.{ReferencesFit, conditional_expr, conditional_record, conditional_variant, namespace_name, positional_expr, positional_record, positional_variant, raw_expr, raw_record, raw_variant};
 
 use crate::json_schema::conditional_name::ConditionalName;
 use crate::json_schema::raw_name::RawName;

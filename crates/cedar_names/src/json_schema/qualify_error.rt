@@ -3,10 +3,7 @@
 ghost use Rattle.std.specs.Fmt.{WritesOnOk};
 ghost use Rattle.std.specs.Prelude.{◌≡◌, Some, codes, map};
 ghost use Rattle.cedar_below.specs.declared.memory.Memory.{Memory as WantOfMemory};
-ghost use Rattle.cedar_below.specs.Joined.{each_after};
-ghost use Rattle.cedar_below.specs.NonEmpty.{items_of};
-ghost use Rattle.cedar_names.specs.ConditionalName.{conditional_reference};
-ghost use Rattle.cedar_names.specs.ReferenceText.{reference_kind_text, qualify_text, undeclared_text, undeclared_types_text};
+ghost use Rattle.cedar_names.specs.Words.{conditional_reference, each_after, items_of, qualify_text, reference_kind_text, undeclared_text, undeclared_types_text};
 ghost use Rattle.cedar_names.specs.declared.json_schema.qualify_error.QualifyError.TheVariants.{Memory as MemoryFault};
 
 use crate::json_schema::conditional_name::{ConditionalName, write_possibilities};

@@ -1,15 +1,7 @@
 //! Names as they were written.
 
-ghost use Rattle.std.specs.Prelude.{◌≡◌, IfOk, IfErr, None};
-ghost use Rattle.cedar_below.specs.InternalName.{name_of, name_loc};
-ghost use Rattle.cedar_below.specs.NameFault.{IsNameFault};
-ghost use Rattle.cedar_below.specs.NameText.{IsNameText};
-ghost use Rattle.cedar_below.specs.PlainName.{name_text};
-ghost use Rattle.std.specs.Prelude.{map};
-ghost use Rattle.cedar_names.specs.ConditionalName.{conditional_reference, possibilities_of, possibility_locs};
-ghost use Rattle.cedar_names.specs.NamespaceName.{namespace_name};
-ghost use Rattle.cedar_names.specs.RawName.{raw_name, raw_loc};
-ghost use Rattle.cedar_names.specs.Reference.{reference_to, name_within, qualified_name};
+ghost use Rattle.std.specs.Prelude.{◌≡◌, IfOk, IfErr, None, map};
+ghost use Rattle.cedar_names.specs.Words.{IsNameFault, IsNameText, conditional_reference, name_loc, name_of, name_text, name_within, namespace_name, possibilities_of, possibility_locs, qualified_name, raw_loc, raw_name, reference_to};
 
 use crate::json_schema::conditional_name::ConditionalName;
 use crate::json_schema::reference_type::ReferenceType;
@@ -131,8 +123,7 @@ impl RawName {
 
 impl fmt::Display for RawName {
     ghost use Rattle.std.specs.Prelude.{Some};
-    ghost use Rattle.cedar_below.specs.PlainName.{name_text};
-    ghost use Rattle.cedar_names.specs.RawName.{raw_name};
+    ghost use Rattle.cedar_names.specs.Words.{name_text, raw_name};
 
     ghost output = { λ name. Some (name_text (raw_name name)) };
 

@@ -1,8 +1,7 @@
 //! The test of whether references fit the places where they stand.
 
 ghost use Rattle.std.specs.Prelude.{◌≡◌, ◌↔◌, IsTrue};
-ghost use Rattle.cedar_names.specs.ConditionalExpr.{conditional_variant, conditional_record, positional_variant, positional_record, ReferencesFit};
-ghost use Rattle.cedar_names.specs.ConditionalName.{reference_type_of};
+ghost use Rattle.cedar_names.specs.Words.{ReferencesFit, conditional_record, conditional_variant, positional_record, positional_variant, reference_type_of};
 
 use crate::json_schema::conditional_name::ConditionalName;
 use crate::json_schema::reference_type::ReferenceType;

@@ -1,11 +1,6 @@
 use Rattle.std.proofs.Common.{◌≡◌, true}
-use Rattle.cedar_below.specs.CoreSchemaType.{core_fields_of}
-use Rattle.cedar_below.specs.CoreTy.{core_record}
-use Rattle.cedar_type_rules.specs.Consistent.{IsConsistent}
-use Rattle.cedar_type_rules.specs.Ty.{record_of}
-use Rattle.cedar_type_rules.specs.declared.open_tag.OpenTag.TheVariants.{OpenAttributes}
+use Rattle.cedar_types.specs.Words.{IsConsistent, OpenAttributes, core_fields_of, core_record, fields_of, record_of}
 use Rattle.cedar_types.proofs.ConsistentSteps.{ConsistentSoFar}
-use Rattle.cedar_types.specs.Meaning.{fields_of}
 use Rattle.cedar_types.proofs.+consistent.Given as goal
 
 abbrev pub invariant-consistent::records_fit-loop-name : goal.invariant-consistent::records_fit-loop-name

@@ -3,20 +3,10 @@ use Rattle.std.proofs.Math.ListN.{drop_of_length-le}
 use Rattle.std.specs.BTreeMap.{get_by_text}
 use Rattle.std.specs.Option.{option_copied}
 use Rattle.cedar_below.proofs.TreeLemmas.{drop-at, tree_of-uid, tree_of-set, tree_of-record, tree_of-call}
-use Rattle.cedar_below.specs.EntityUID.{uid_of}
-use Rattle.cedar_below.specs.RestrictedExpr.{tree_of, entries_of}
-use Rattle.cedar_below.specs.Tree.{entry_at}
-use Rattle.cedar_name_map.specs.ByName.{value_at}
-use Rattle.cedar_types.specs.MembershipAnswer.{Answer}
-use Rattle.cedar_types.specs.EntriesLeft.{entries_left}
-use Rattle.cedar_types.specs.Attributes.{plain_attributes}
-use Rattle.cedar_types.specs.Meaning.{ty_of, fields_of, attribute_of}
-use Rattle.cedar_type_rules.specs.Ty.{Ty, fields_from}
-use Rattle.cedar_types.specs.declared.attributes.Attributes.{out-Attributes}
+use Rattle.cedar_types.specs.Words.{Answer, Ty, attribute_of, entries_left, entries_of, entry_at, fields_from, fields_of, fields_of-pairs, out-Attributes, plain_attributes, tree_of, ty_of, uid_of, value_at}
 use Rattle.cedar_types.specs.declared.types.Type.TheVariants as type
 use Rattle.cedar_types.proofs.EntriesLeftSteps.{Serves-first, Serves-next}
 use Rattle.cedar_types.proofs.MembershipLemmas.{IsMembershipSoFar-none, IsMembershipSoFar-all, IsMembershipSoFar-stops}
-use Rattle.cedar_types.specs.Layers.{fields_of-pairs}
 use Rattle.cedar_types.proofs.MemberParts.{IsMembershipFor, IsMembershipFor-at, IsMembershipFor-uid, IsMembershipFor-listed, IsMembershipFor-unlisted, IsMembershipForEntry, IsMembershipForEntry-Some, IsMembershipForEntry-None, ElementsSoFar-more, FieldsSoFar-more, attribute_of-parts, ty_of-set, ty_of-record, ty_of-entity, ty_of-extension}
 use Rattle.cedar_types.proofs.+member.Goals as goal
 use Rattle.cedar_types.proofs.+member.Goals.{member::fields_have-in-Some, member::fields_have-in-None}

@@ -1,12 +1,6 @@
 use Rattle.std.proofs.Common.{drop, ◌+◌, ◌*◌}
-use Rattle.cedar_below.specs.RestrictedExpr.{trees_of, entries_of}
-use Rattle.cedar_types.specs.Attributes.{plain_attributes}
-use Rattle.cedar_types.specs.Meaning.{ty_of, fields_of}
-use Rattle.cedar_type_rules.specs.Ty.{fields_from}
-use Rattle.cedar_types.specs.declared.attributes.Attributes.{size-Attributes}
-use Rattle.cedar_types.specs.declared.types.Type.{size-Type}
+use Rattle.cedar_types.specs.Words.{entries_left, entries_of, fields_from, fields_of, plain_attributes, size-Attributes, size-Type, trees_of, ty_of}
 use Rattle.cedar_types.proofs.EntriesLeftSteps.{Serves}
-use Rattle.cedar_types.specs.EntriesLeft.{entries_left}
 use Rattle.cedar_types.proofs.MemberParts.{ElementsSoFar, FieldsSoFar}
 use Rattle.cedar_types.proofs.+member.Given as goal
 

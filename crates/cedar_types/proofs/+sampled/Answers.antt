@@ -3,13 +3,9 @@ use Rattle.std.proofs.Math.ListN.{drop_of_length-le}
 use Rattle.std.specs.Bool.{Decides}
 use Rattle.std.specs.Option.{is_some}
 use Rattle.cedar_below.proofs.TreeLemmas.{drop-at}
-use Rattle.cedar_below.specs.Name.{plain_name}
-use Rattle.cedar_type_rules.specs.Stated.{AreInhabitedWith, IsInhabitedWith}
-use Rattle.cedar_type_rules.specs.Ty.{Ty, extension_of}
+use Rattle.cedar_types.specs.Words.{AreInhabitedWith, IsInhabitedWith, Ty, extension_of, plain_name, ty_of, value_trees}
 use Rattle.cedar_types.proofs.MemberParts.{ty_of-extension}
 use Rattle.cedar_types.proofs.StatedSteps.{left-fails, left-first, left-next, sampled-Decides, type_same}
-use Rattle.cedar_types.specs.Meaning.{ty_of}
-use Rattle.cedar_types.specs.Samples.{value_trees}
 use Rattle.cedar_types.proofs.+sampled.Goals as goal
 
 -- at first all attributes are left

@@ -1,7 +1,6 @@
 use Rattle.std.proofs.Common.{drop}
-use Rattle.cedar_type_rules.specs.Stated.{AreInhabitedWith}
+use Rattle.cedar_types.specs.Words.{AreInhabitedWith, value_trees}
 use Rattle.cedar_types.proofs.StatedSteps.{TellsLeft}
-use Rattle.cedar_types.specs.Samples.{value_trees}
 use Rattle.cedar_types.proofs.+sampled.Given as goal
 
 abbrev pub invariant-stated::are_sampled-loop-attribute : goal.invariant-stated::are_sampled-loop-attribute

@@ -2,9 +2,8 @@ use Rattle.std.proofs.Common.{◌≡◌, ◌∙◌, ◌++◌, refl, sym, ap, cod
 use Rattle.std.proofs.Output.{has_written_append, has_written_of_eq}
 use Rattle.std.proofs.lemmas.List.{take_all}
 use Rattle.std.specs.List.{flat_map}
-use Rattle.cedar_type_rules.specs.TypeText.{fields_text}
+use Rattle.cedar_types.specs.Words.{fields_of, fields_text}
 use Rattle.cedar_types.proofs.TextLemmas.{entry_text, fields_text-pairs}
-use Rattle.cedar_types.specs.Meaning.{fields_of}
 use Rattle.cedar_types.proofs.+show.Goals as goal
 
 pub attributes::AttributesDisplay::fmt-returns-clause-writes : goal.attributes::AttributesDisplay::fmt-returns-clause-writes

@@ -1,7 +1,5 @@
 use Rattle.std.proofs.Common.{drop}
-use Rattle.cedar_types.specs.declared.attributes.Attributes.{size-Attributes}
-use Rattle.cedar_types.specs.declared.attributes.AttributeType.{size-AttributeType}
-use Rattle.cedar_types.specs.declared.types.Type.{size-Type}
+use Rattle.cedar_types.specs.Words.{size-AttributeType, size-Attributes, size-Type}
 use Rattle.cedar_types.proofs.SubtypeSteps.{WalkedBelow}
 use Rattle.cedar_types.proofs.+subtype.Given as goal
 

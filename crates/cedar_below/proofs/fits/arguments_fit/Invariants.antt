@@ -1,9 +1,7 @@
 use Rattle.std.proofs.Common.{◌↔◌, map}
 use Rattle.std.specs.Iterator.Adapters.{zip_first, zip_second}
 use Rattle.std.specs.Slice.Iter.{iter_rest}
-use Rattle.cedar_below.specs.CoreSchemaType.{core_ty_of}
-use Rattle.cedar_below.specs.Fits.{ArgumentsFit}
-use Rattle.cedar_below.specs.RestrictedExpr.{trees_of}
+use Rattle.cedar_below.specs.Words.{ArgumentsFit, core_ty_of, trees_of}
 use Rattle.cedar_below.proofs.fits.arguments_fit.Given as goal
 
 abbrev pub invariant-loop-arg : goal.invariant-loop-arg

@@ -1,10 +1,6 @@
 use Rattle.std.proofs.Common.{ap, sym, subst, ◌∙◌, string_bytes, map}
 use Rattle.std.proofs.lemmas.Simd.{map-map}
-use Rattle.cedar_below.specs.CoreSchemaType.{core_fields_of}
-use Rattle.cedar_below.specs.CoreTy.{core_names}
-use Rattle.cedar_below.specs.Fits.{NamesListed}
-use Rattle.cedar_below.specs.RestrictedExpr.{entries_of}
-use Rattle.cedar_below.specs.Tree.{entry_names}
+use Rattle.cedar_below.specs.Words.{NamesListed, core_fields_of, core_names, entries_of, entry_names}
 use Rattle.cedar_below.proofs.Inclusion.{Included-step, Included-head}
 use Rattle.cedar_below.proofs.TreeLemmas.{entry_names-entries, listed-Decides}
 use Rattle.cedar_below.proofs.fits.names_listed.Goals as goal

@@ -1,9 +1,5 @@
 use Rattle.std.proofs.Common.{◌↔◌, map, string_bytes}
-use Rattle.cedar_below.specs.CoreSchemaType.{core_fields_of}
-use Rattle.cedar_below.specs.CoreTy.{core_names}
-use Rattle.cedar_below.specs.Lists.{Included}
-use Rattle.cedar_below.specs.RestrictedExpr.{entries_of}
-use Rattle.cedar_below.specs.Tree.{entry_names}
+use Rattle.cedar_below.specs.Words.{Included, core_fields_of, core_names, entries_of, entry_names}
 use Rattle.cedar_below.proofs.fits.names_listed.Given as goal
 
 abbrev pub invariant-loop-name : goal.invariant-loop-name

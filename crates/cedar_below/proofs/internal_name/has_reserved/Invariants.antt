@@ -1,6 +1,5 @@
 use Rattle.std.proofs.Common.{◌≡◌, ◌<◌, ℕ, map, get_or}
-use Rattle.cedar_below.specs.Id.{id_text}
-use Rattle.cedar_below.specs.Identifier.{reserved_word}
+use Rattle.cedar_below.specs.Words.{id_text, reserved_word}
 use Rattle.cedar_below.proofs.internal_name.has_reserved.Given as goal
 
 abbrev pub invariant-loop-part : goal.invariant-loop-part

@@ -1,10 +1,7 @@
 use Rattle.std.proofs.Common.{◌≡◌, ◌+◌, drop, ap, ◌∙◌, string_bytes}
 use Rattle.cedar_below.proofs.TreeLemmas.{drop-at, tree_of-call, tree_of-record, tree_of-uid}
 use Rattle.cedar_below.proofs.ValueLemmas.{IsName-plain_name}
-use Rattle.cedar_below.specs.EntityUID.{uid_of}
-use Rattle.cedar_below.specs.Name.{plain_name}
-use Rattle.cedar_below.specs.RestrictedExpr.{entries_of, tree_of, trees_of}
-use Rattle.cedar_below.specs.Tree.{call_value, map_value, text_value, uid_value}
+use Rattle.cedar_below.specs.Words.{call_value, entries_of, map_value, plain_name, text_value, tree_of, trees_of, uid_of, uid_value}
 use Rattle.cedar_below.proofs.ValueCopies.{copied_at, copied_more, entries_all, entries_more, texts_sorted, tree_of-text, uid_real}
 use Rattle.std.proofs.lemmas.Str.{IsUtf8-string_bytes}
 use Rattle.cedar_below.proofs.value_copies.+copying.Goals as goal

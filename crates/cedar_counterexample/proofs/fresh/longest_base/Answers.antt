@@ -1,8 +1,6 @@
 use Rattle.std.proofs.Common.{◌≡◌, ◌≤◌, ap, ◌∙◌, length, arith}
 use Rattle.std.proofs.lemmas.Grind.{common_steps}
-use Rattle.cedar_below.specs.EntityType.{type_name}
-use Rattle.cedar_below.specs.PlainName.{PlainName}
-use Rattle.cedar_types.specs.EntityLUB.{lub_names}
+use Rattle.cedar_counterexample.specs.Words.{PlainName, lub_names, type_name}
 use Rattle.cedar_counterexample.proofs.FreshLemmas.{longest_next}
 use Rattle.cedar_counterexample.proofs.fresh.longest_base.Goals as goal
 

@@ -1,8 +1,6 @@
 use Rattle.std.proofs.Common.{map}
 use Rattle.std.specs.Slice.Iter.{iter_rest}
-use Rattle.cedar_below.specs.EntityType.{type_name}
-use Rattle.cedar_below.specs.PlainName.{PlainName}
-use Rattle.cedar_types.specs.EntityLUB.{lub_names}
+use Rattle.cedar_counterexample.specs.Words.{PlainName, lub_names, type_name}
 use Rattle.cedar_counterexample.proofs.FreshLemmas.{LongestSoFar}
 use Rattle.cedar_counterexample.proofs.fresh.longest_base.Given as goal
 

@@ -1,7 +1,5 @@
 use Rattle.std.proofs.Common.{map, string_bytes}
-use Rattle.cedar_below.specs.Text.{Text}
-use Rattle.cedar_type_rules.specs.Fields.{field_names}
-use Rattle.cedar_types.specs.Meaning.{fields_of}
+use Rattle.cedar_counterexample.specs.Words.{Text, field_names, fields_of}
 use Rattle.cedar_counterexample.proofs.FreshLemmas.{LongestSoFar}
 use Rattle.cedar_counterexample.proofs.fresh.longest_name.Given as goal
 

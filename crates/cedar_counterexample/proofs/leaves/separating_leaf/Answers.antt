@@ -1,13 +1,9 @@
 use Rattle.std.proofs.Common.{ap, ◌∙◌}
 use Rattle.std.proofs.lemmas.Result.{IfOk-weaker}
 use Rattle.std.specs.Option.{option_map}
-use Rattle.cedar_below.specs.RestrictedExpr.{tree_of}
-use Rattle.cedar_below.specs.Tree.{no_tree, set_value, tree}
-use Rattle.cedar_type_rules.specs.Has.{Has}
+use Rattle.cedar_counterexample.specs.Words.{Has, IsCounterexampleAnswer, no_tree, set_value, tree, tree_of, ty_of}
 use Rattle.cedar_counterexample.proofs.TypeCounterexamples.{any_set_separates, ty_of-any_set}
-use Rattle.cedar_counterexample.specs.Counterexample.{IsCounterexampleAnswer}
 use Rattle.cedar_types.proofs.MemberParts.{ty_of-entity, ty_of-set}
-use Rattle.cedar_types.specs.Meaning.{ty_of}
 use Rattle.cedar_types.specs.declared.types.Type.TheVariants as type
 use Rattle.cedar_counterexample.proofs.leaves.separating_leaf.Goals as goal
 

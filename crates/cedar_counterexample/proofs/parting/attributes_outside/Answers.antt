@@ -1,16 +1,8 @@
 use Rattle.std.proofs.Common.{refl}
 use Rattle.cedar_type_rules.proofs.StatedLemmas.{IsInhabited-with}
 use Rattle.cedar_type_rules.proofs.ValueInclusion.{inclusion_by_parts}
-use Rattle.cedar_type_rules.specs.Ty.{record_of}
-use Rattle.cedar_type_rules.specs.WellFormed.{IsWellFormed}
-use Rattle.cedar_type_rules.specs.declared.open_tag.OpenTag.{OpenTag}
+use Rattle.cedar_counterexample.specs.Words.{AreTexts-fields, AreWellFormed-fields, Attributes, IsSortedByName-fields, IsWellFormed, OpenTag, fields_of, record_found, record_of, value_trees}
 use Rattle.cedar_counterexample.proofs.TypeCounterexamples.{separated_outside}
-use Rattle.cedar_counterexample.specs.Counterexample.{record_found}
-use Rattle.cedar_types.specs.Layers.{IsSortedByName-fields}
-use Rattle.cedar_types.specs.Meaning.{fields_of}
-use Rattle.cedar_types.specs.Samples.{value_trees}
-use Rattle.cedar_types.specs.WellFormedTypes.{AreTexts-fields, AreWellFormed-fields}
-use Rattle.cedar_types.specs.declared.attributes.Attributes.{Attributes}
 use Rattle.cedar_counterexample.proofs.parting.attributes_outside.Goals as goal
 
 -- attributes are those of a well-formed record

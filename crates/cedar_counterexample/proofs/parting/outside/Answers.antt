@@ -1,9 +1,7 @@
 use Rattle.std.proofs.Common.{refl}
 use Rattle.cedar_type_rules.proofs.StatedLemmas.{IsInhabited-with}
 use Rattle.cedar_type_rules.proofs.ValueInclusion.{inclusion_by_parts}
-use Rattle.cedar_types.specs.Meaning.{ty_of}
-use Rattle.cedar_types.specs.Samples.{value_trees}
-use Rattle.cedar_types.specs.WellFormedTypes.{IsWellFormed-type}
+use Rattle.cedar_counterexample.specs.Words.{IsWellFormed-type, ty_of, value_trees}
 use Rattle.cedar_counterexample.proofs.parting.outside.Goals as goal
 
 pub returns-in-None-clause-none : goal.returns-in-None-clause-none

@@ -1,12 +1,8 @@
 use Rattle.std.proofs.Common.{◌≡◌, ◌↔◌, None}
 use Rattle.std.proofs.lemmas.Result.{IfOk-weaker}
-use Rattle.cedar_below.specs.declared.validation_mode.ValidationMode.TheVariants.{Permissive}
+use Rattle.cedar_counterexample.specs.Words.{Below, IsWellFormed-type, Permissive, ty_of, value_trees}
 use Rattle.cedar_type_rules.proofs.StatedLemmas.{IsStated-with}
 use Rattle.cedar_type_rules.proofs.ValueInclusion.{inclusion}
-use Rattle.cedar_type_rules.specs.Below.{Below}
-use Rattle.cedar_types.specs.Meaning.{ty_of}
-use Rattle.cedar_types.specs.Samples.{value_trees}
-use Rattle.cedar_types.specs.WellFormedTypes.{IsWellFormed-type}
 use Rattle.cedar_counterexample.proofs.parting.separating_value.Goals as goal
 
 pub returns-clause-none : goal.returns-clause-none

@@ -1,7 +1,4 @@
-use Rattle.cedar_below.specs.RestrictedExpr.{entries_of}
-use Rattle.cedar_type_rules.specs.Ty.{fields_from}
-use Rattle.cedar_types.specs.Attributes.{plain_attributes}
-use Rattle.cedar_types.specs.Meaning.{fields_of, ty_of}
+use Rattle.cedar_counterexample.specs.Words.{entries_of, fields_from, fields_of, plain_attributes, ty_of}
 use Rattle.cedar_counterexample.proofs.FillingLemmas.{FillingSoFar}
 use Rattle.cedar_counterexample.proofs.Sizes.{fields_size, ty_size}
 use Rattle.cedar_counterexample.proofs.samples.+samples.Given as goal

@@ -1,12 +1,7 @@
 use Rattle.std.proofs.Common.{◌≡◌, ◌∷◌, [], ap, inl, map, refl, subst, sym, ◌∙◌, Contains}
 use Rattle.std.specs.Slice.Iter.{iter_rest}
 use Rattle.cedar_below.proofs.Lists.{Contains-cons}
-use Rattle.cedar_below.specs.EntityType.{type_name}
-use Rattle.cedar_below.specs.PlainName.{PlainName}
-use Rattle.cedar_type_rules.specs.Has.{HasUid}
-use Rattle.cedar_types.specs.EntityKind.{kind_ty}
-use Rattle.cedar_types.specs.EntityLUB.{lub_names}
-use Rattle.cedar_types.specs.declared.entity_kind.EntityKind.{EntityKind}
+use Rattle.cedar_counterexample.specs.Words.{EntityKind, HasUid, PlainName, kind_ty, lub_names, type_name}
 use Rattle.cedar_counterexample.proofs.FillingLemmas.{entity_sample}
 use Rattle.cedar_counterexample.proofs.samples.sample_entity.Goals as goal
 

@@ -1,14 +1,7 @@
 use Rattle.std.proofs.lemmas.Result.{IfOk-weaker}
 use Rattle.cedar_below.proofs.ValueCopies.{no_entries}
-use Rattle.cedar_below.specs.RestrictedExpr.{entries_of}
-use Rattle.cedar_below.specs.Tree.{Entries, map_value}
-use Rattle.cedar_type_rules.specs.Has.{Has}
-use Rattle.cedar_type_rules.specs.Ty.{record_of}
-use Rattle.cedar_type_rules.specs.declared.open_tag.OpenTag.{OpenTag}
+use Rattle.cedar_counterexample.specs.Words.{Entries, Has, IsSortedByName-fields, OpenTag, entries_of, fields_of, map_value, record_of, value_entries}
 use Rattle.cedar_counterexample.proofs.FillingLemmas.{record_sample}
-use Rattle.cedar_counterexample.specs.ValueEntries.{value_entries}
-use Rattle.cedar_types.specs.Layers.{IsSortedByName-fields}
-use Rattle.cedar_types.specs.Meaning.{fields_of}
 use Rattle.cedar_counterexample.proofs.sampling.sample_attributes.Goals as goal
 
 pub returns-clause-has : goal.returns-clause-has

@@ -1,7 +1,5 @@
 use Rattle.std.proofs.Common.{◌+◌}
-use Rattle.cedar_type_rules.specs.Ty.{fields_from}
-use Rattle.cedar_types.specs.Attributes.{plain_attributes}
-use Rattle.cedar_types.specs.Meaning.{attribute_of, fields_of, ty_of}
+use Rattle.cedar_counterexample.specs.Words.{attribute_of, fields_from, fields_of, plain_attributes, ty_of}
 use Rattle.cedar_counterexample.proofs.Sizes.{fields_size, ty_size}
 use Rattle.cedar_counterexample.proofs.StartLemmas.{CounterexampleSoFar}
 use Rattle.cedar_counterexample.proofs.separating.+separating.Given as goal

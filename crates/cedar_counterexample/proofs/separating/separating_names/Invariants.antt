@@ -1,6 +1,4 @@
-use Rattle.cedar_type_rules.specs.Ty.{fields_from}
-use Rattle.cedar_types.specs.Attributes.{plain_attributes}
-use Rattle.cedar_types.specs.Meaning.{fields_of}
+use Rattle.cedar_counterexample.specs.Words.{fields_from, fields_of, plain_attributes}
 use Rattle.cedar_counterexample.proofs.StartLemmas.{NamesSoFar}
 use Rattle.cedar_counterexample.proofs.separating.separating_names.Given as goal
 

@@ -1,12 +1,9 @@
 use Rattle.std.proofs.Common.{inr, [], string_bytes, subst, ◌∙◌}
 use Rattle.std.proofs.lemmas.Str.{IsUtf8-string_bytes}
-use Rattle.cedar_below.specs.RestrictedExpr.{tree_of}
+use Rattle.cedar_counterexample.specs.Words.{Has, attribute_of, start_through, tree_of}
 use Rattle.cedar_type_rules.proofs.SubtypeLaws.{HasField-name}
-use Rattle.cedar_type_rules.specs.Has.{Has}
 use Rattle.cedar_counterexample.proofs.StartLemmas.{missing_start, other_start}
-use Rattle.cedar_counterexample.specs.Counterexample.{start_through}
 use Rattle.cedar_types.proofs.StatedSteps.{flag_same, type_same}
-use Rattle.cedar_types.specs.Meaning.{attribute_of}
 use Rattle.cedar_counterexample.proofs.separating.start_without.Goals as goal
 
 pub returns-then-attribute : goal.returns-then-attribute

@@ -1,9 +1,5 @@
 use Rattle.std.proofs.Common.{[], refl}
-use Rattle.cedar_below.specs.EntityType.{type_name}
-use Rattle.cedar_below.specs.PlainName.{PlainName}
-use Rattle.cedar_type_rules.specs.Has.{HasUid}
-use Rattle.cedar_types.specs.EntityKind.{kind_ty}
-use Rattle.cedar_types.specs.declared.entity_kind.EntityKind.{EntityKind}
+use Rattle.cedar_counterexample.specs.Words.{EntityKind, HasUid, PlainName, kind_ty, type_name}
 use Rattle.cedar_counterexample.proofs.FillingLemmas.{entity_apart, entity_sample}
 use Rattle.cedar_counterexample.proofs.unions.separating_entity.Goals as goal
 

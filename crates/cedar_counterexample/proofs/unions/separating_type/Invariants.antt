@@ -1,7 +1,6 @@
 use Rattle.std.proofs.Common.{map}
 use Rattle.std.specs.Slice.Iter.{iter_rest}
-use Rattle.cedar_below.specs.EntityType.{type_name}
-use Rattle.cedar_types.specs.EntityLUB.{lub_names}
+use Rattle.cedar_counterexample.specs.Words.{lub_names, type_name}
 use Rattle.cedar_counterexample.proofs.NameLists.{IncludedSoFar}
 use Rattle.cedar_counterexample.proofs.unions.separating_type.Given as goal
 

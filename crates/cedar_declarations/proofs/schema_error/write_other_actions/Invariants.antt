@@ -1,9 +1,7 @@
 use Rattle.std.proofs.Common.{map, codes, take}
 use Rattle.std.specs.Fmt.{HasWritten, IsPlainFormatter}
-use Rattle.cedar_below.specs.Joined.{each_after}
-use Rattle.cedar_declarations.specs.SchemaError.{carried_action}
+use Rattle.cedar_declarations.specs.Words.{action_reference_text, carried_action, each_after}
 use Rattle.cedar_declarations.proofs.schema_error.write_other_actions.Given as goal
-use Rattle.cedar_names.specs.ReferenceText.{action_reference_text}
 
 abbrev pub invariant-loop-action : goal.invariant-loop-action
 invariant-loop-action g l =

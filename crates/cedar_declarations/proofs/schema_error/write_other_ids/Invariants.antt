@@ -1,7 +1,6 @@
 use Rattle.std.proofs.Common.{map, codes, take, string_bytes}
 use Rattle.std.specs.Fmt.{HasWritten, IsPlainFormatter}
-use Rattle.cedar_below.specs.Joined.{each_after}
-use Rattle.cedar_below.specs.UidText.{quoted_text}
+use Rattle.cedar_declarations.specs.Words.{each_after, quoted_text}
 use Rattle.cedar_declarations.proofs.schema_error.write_other_ids.Given as goal
 
 abbrev pub invariant-loop-id : goal.invariant-loop-id

@@ -1,8 +1,6 @@
 use Rattle.std.proofs.Common.{map, codes, take}
 use Rattle.std.specs.Fmt.{HasWritten, IsPlainFormatter}
-use Rattle.cedar_below.specs.EntityType.{type_name}
-use Rattle.cedar_below.specs.Joined.{each_after}
-use Rattle.cedar_below.specs.PlainName.{name_text}
+use Rattle.cedar_declarations.specs.Words.{each_after, name_text, type_name}
 use Rattle.cedar_declarations.proofs.schema_error.write_other_types.Given as goal
 
 abbrev pub invariant-loop-ty : goal.invariant-loop-ty

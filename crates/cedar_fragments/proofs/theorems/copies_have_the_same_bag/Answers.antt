@@ -1,7 +1,5 @@
-use Rattle.cedar_declarations.specs.ResolvedExpr.{resolved_reference}
+use Rattle.cedar_fragments.specs.Words.{positional_reference, resolved_action_type, resolved_reference}
 use Rattle.cedar_fragments.proofs.CopyLemmas.{positional_alike, resolved_alike, action_type_alike}
-use Rattle.cedar_fragments.specs.FragmentDeclarations.{resolved_action_type}
-use Rattle.cedar_names.specs.ConditionalExpr.{positional_reference}
 use Rattle.cedar_fragments.proofs.theorems.copies_have_the_same_bag.Goals as goal
 
 pub returns-clause-conditional : goal.returns-clause-conditional

@@ -1,7 +1,6 @@
 use Rattle.std.proofs.Common.{refl}
 use Rattle.cedar_fragments.proofs.PlacedFragments.{fragments_fit}
-use Rattle.cedar_names.specs.ConditionalExpr.{positional_reference}
-use Rattle.cedar_names.specs.declared.json_schema.conditional_name.ConditionalName.{ConditionalName}
+use Rattle.cedar_fragments.specs.Words.{ConditionalName, positional_reference}
 use Rattle.cedar_fragments.proofs.theorems.references_fit_their_positions.Goals as goal
 
 pub returns : goal.returns

@@ -1,8 +1,7 @@
 use Rattle.std.proofs.Common.{◌++◌, map}
 use Rattle.std.specs.List.{flat_map}
 use Rattle.cedar_json_places.proofs.InTurn.{IsListing}
-use Rattle.cedar_json_places.specs.Mark.{marked}
-use Rattle.cedar_json_places.specs.Table.{action_marks, namespace_of}
+use Rattle.cedar_json_places.specs.Words.{action_marks, marked, namespace_of}
 use Rattle.cedar_json_places.proofs.listing.list_actions.Given as goal
 
 abbrev pub invariant-loop-id : goal.invariant-loop-id

@@ -2,10 +2,7 @@ use Rattle.std.proofs.Common.{◌≡◌, List, [], ◌∷◌, Option, Some, map,
 use Rattle.std.specs.List.{slice_get}
 use Rattle.std.specs.declared.alloc.Global.{Global}
 use Rattle.std.specs.declared.string.String.{String}
-use Rattle.cedar_below.specs.Text.{Text}
-use Rattle.cedar_below.specs.declared.loc.Loc.{Loc}
-use Rattle.cedar_json_places.specs.Mark.{Mark, Marks, marked}
-use Rattle.cedar_json_places.specs.Place.{IsAttributedAction, IsAttributedPlace, IsFirstPlace}
+use Rattle.cedar_json_places.specs.Words.{IsAttributedAction, IsAttributedPlace, IsFirstPlace, Loc, Mark, Marks, Text, marked}
 use Rattle.cedar_json_places.proofs.place.attributed_place.Goals as goal
 
 -- the place of the first action that has attributes and an id

@@ -1,7 +1,5 @@
 use Rattle.std.proofs.Common.{Option, drop, map}
-use Rattle.cedar_below.specs.declared.loc.Loc.{Loc}
-use Rattle.cedar_json_places.specs.Mark.{marked}
-use Rattle.cedar_json_places.specs.Place.{IsFirstPlace, IsSought}
+use Rattle.cedar_json_places.specs.Words.{IsFirstPlace, IsSought, Loc, marked}
 use Rattle.cedar_json_places.proofs.place.first_place.Given as goal
 
 abbrev pub invariant-loop-it : goal.invariant-loop-it

@@ -1,9 +1,5 @@
 use Rattle.std.proofs.Common.{subst, sym, ◌∙◌, map}
-use Rattle.cedar_below.specs.Text.{Text}
-use Rattle.cedar_below.specs.declared.loc.Loc.{Loc}
-use Rattle.cedar_declarations.specs.declared.schema_error.SchemaError.{SchemaError}
-use Rattle.cedar_json_places.specs.Mark.{Mark, marked}
-use Rattle.cedar_json_places.specs.Place.{IsExtensionType, IsFirstPlace, IsPlaceOf}
+use Rattle.cedar_json_places.specs.Words.{IsExtensionType, IsFirstPlace, IsPlaceOf, Loc, Mark, SchemaError, Text, marked}
 use Rattle.cedar_json_places.proofs.place.place_of.Goals as goal
 
 pub returns-in-UnknownExtensionType : goal.returns-in-UnknownExtensionType

@@ -1,8 +1,7 @@
 use Rattle.std.proofs.Common.{Bool, [], ◌∷◌, ◌++◌, map, cond, ap, sym, ◌∙◌, Vec, Global}
 use Rattle.std.proofs.lemmas.List.{append-nil, map-append}
 use Rattle.cedar_json_places.proofs.TypeMarkLemmas.{record_marks-begun}
-use Rattle.cedar_json_places.specs.Mark.{marked, open_record}
-use Rattle.cedar_json_places.specs.declared.written.WrittenAt.{WrittenAt}
+use Rattle.cedar_json_places.specs.Words.{WrittenAt, marked, open_record}
 use Rattle.cedar_json_places.proofs.type_listing.+types.Goals as goal
 use Rattle.cedar_json_places.proofs.type_listing.+types.Goals.{list_record-then-record_type+in_ok-push, list_record-else-record_type}
 

@@ -1,8 +1,7 @@
 use Rattle.std.proofs.Common.{◌++◌, map}
 use Rattle.cedar_json_places.proofs.InTurn.{IsListing}
 use Rattle.cedar_json_places.proofs.TypeMarkLemmas.{entry_marks}
-use Rattle.cedar_json_places.specs.Mark.{marked}
-use Rattle.cedar_json_places.specs.TypeMarks.{record_marks}
+use Rattle.cedar_json_places.specs.Words.{marked, record_marks}
 use Rattle.cedar_json_places.proofs.type_listing.+types.Given as goal
 
 abbrev pub invariant-list_record-loop-attribute : goal.invariant-list_record-loop-attribute

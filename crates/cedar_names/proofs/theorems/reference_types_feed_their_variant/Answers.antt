@@ -1,9 +1,7 @@
 use Rattle.std.proofs.Common.{refl}
 use Rattle.std.specs.Hash.{le_bytes}
-use Rattle.cedar_below.specs.FeedsVariant.{FeedsVariantFirst}
+use Rattle.cedar_names.specs.Words.{Common, CommonOrEntity, Entity, FeedsVariantFirst, ReferenceType}
 use Rattle.cedar_names.specs.contracts.json_schema.reference_type.ReferenceTypeHash.TheImpl as reference_type_hash
-use Rattle.cedar_names.specs.declared.json_schema.reference_type.ReferenceType.{ReferenceType}
-use Rattle.cedar_names.specs.declared.json_schema.reference_type.ReferenceType.TheVariants.{Common, Entity, CommonOrEntity}
 use Rattle.cedar_names.proofs.theorems.reference_types_feed_their_variant.Goals as goal
 
 -- a reference type is fed as its variant

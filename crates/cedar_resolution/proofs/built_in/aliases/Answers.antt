@@ -1,14 +1,8 @@
 use Rattle.std.proofs.Common.{◌≡◌, ◌++◌, [], ◌∷◌, ap, arith, cond, map, not, sym, ◌∙◌}
 use Rattle.std.proofs.lemmas.List.{nil_from_length}
-use Rattle.cedar_below.specs.Id.{id_text}
-use Rattle.cedar_below.specs.InternalName.{name_of}
+use Rattle.cedar_resolution.specs.Words.{alias_name, collected_common, held_names, id_text, name_of, resolved_expr, type_names}
 use Rattle.cedar_resolution.proofs.KeptSoFar.{KeptSoFar-none, KeptSoFar-next, KeptSoFar-all}
 use Rattle.cedar_resolution.proofs.TakenNames.{taken_is}
-use Rattle.cedar_fragments.specs.HeldNames.{held_names}
-use Rattle.cedar_fragments.specs.ShadowedNames.{type_names}
-use Rattle.cedar_declarations.specs.Bag.{alias_name}
-use Rattle.cedar_declarations.specs.ResolvedExpr.{resolved_expr}
-use Rattle.cedar_resolution.specs.Collected.{collected_common}
 use Rattle.cedar_resolution.proofs.built_in.aliases.Goals as goal
 
 pub loop-word-init : goal.loop-word-init

@@ -1,15 +1,7 @@
 use Rattle.std.proofs.Common.{not}
 use Rattle.std.specs.Vec.Iter.{into_iter_items}
-use Rattle.cedar_below.specs.Id.{id_text}
-use Rattle.cedar_below.specs.Text.{Text}
-use Rattle.cedar_declarations.specs.Bag.{alias_name}
-use Rattle.cedar_declarations.specs.ResolvedExpr.{resolved_expr}
+use Rattle.cedar_resolution.specs.Words.{Expr, Text, alias_name, collected_common, held_names, id_text, is_taken, resolved_expr, type_names}
 use Rattle.cedar_resolution.proofs.KeptSoFar.{KeptSoFar}
-use Rattle.cedar_resolution.specs.BuiltIn.{is_taken}
-use Rattle.cedar_fragments.specs.HeldNames.{held_names}
-use Rattle.cedar_fragments.specs.ShadowedNames.{type_names}
-use Rattle.cedar_names.specs.Expr.{Expr}
-use Rattle.cedar_resolution.specs.Collected.{collected_common}
 use Rattle.cedar_resolution.proofs.built_in.aliases.Given as goal
 
 abbrev pub invariant-loop-word : goal.invariant-loop-word

@@ -1,17 +1,6 @@
 use Rattle.std.proofs.Common.{◌++◌, ap, map, ◌∙◌}
 use Rattle.std.proofs.lemmas.List.{map-append}
-use Rattle.cedar_below.specs.InternalName.{name_of}
-use Rattle.cedar_below.specs.PlainName.{PlainName}
-use Rattle.cedar_below.specs.Text.{Text}
-use Rattle.cedar_below.specs.declared.internal_name.InternalName.{InternalName}
-use Rattle.cedar_resolution.specs.BuiltIn.{free_aliases}
-use Rattle.cedar_fragments.specs.HeldNames.{held_names}
-use Rattle.cedar_fragments.specs.ShadowedNames.{type_names}
-use Rattle.cedar_declarations.specs.Bag.{built_in_name}
-use Rattle.cedar_declarations.specs.ResolvedExpr.{resolved_expr}
-use Rattle.cedar_names.specs.Expr.{Expr}
-use Rattle.cedar_names.specs.declared.json_schema.type_of.Type.{«Type»}
-use Rattle.cedar_resolution.specs.Collected.{collected_common}
+use Rattle.cedar_resolution.specs.Words.{Expr, InternalName, PlainName, Text, «Type», built_in_name, collected_common, free_aliases, held_names, name_of, resolved_expr, type_names}
 use Rattle.cedar_resolution.proofs.built_in.built_in_common_types.Goals as goal
 
 pub returns : goal.returns

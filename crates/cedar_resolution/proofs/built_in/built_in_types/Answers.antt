@@ -1,11 +1,7 @@
 use Rattle.std.proofs.Common.{List, ◌∷◌, codes, map, ap, sym, ◌∙◌}
 use Rattle.std.proofs.lemmas.List.{take_all}
 use Rattle.std.proofs.lemmas.Simd.{map-map}
-use Rattle.cedar_below.specs.Name.{plain_name}
-use Rattle.cedar_below.specs.PlainName.{PlainName}
-use Rattle.cedar_below.specs.Text.{Text}
-use Rattle.cedar_below.specs.declared.name.Name.{Name}
-use Rattle.cedar_names.specs.Expr.{Expr, extension_expr, long_expr, text_expr, truth_expr}
+use Rattle.cedar_resolution.specs.Words.{Expr, Name, PlainName, Text, extension_expr, long_expr, plain_name, text_expr, truth_expr}
 use Rattle.cedar_resolution.proofs.built_in.built_in_types.Goals as goal
 
 -- what an extension type stands for, under its base name

@@ -1,7 +1,5 @@
 use Rattle.std.proofs.Common.{◌≡◌, ◌∷◌, codes, map, take}
-use Rattle.cedar_below.specs.Name.{plain_name}
-use Rattle.cedar_resolution.specs.BuiltIn.{named_types}
-use Rattle.cedar_names.specs.Expr.{extension_expr, long_expr, text_expr, truth_expr}
+use Rattle.cedar_resolution.specs.Words.{extension_expr, long_expr, named_types, plain_name, text_expr, truth_expr}
 use Rattle.cedar_resolution.proofs.built_in.built_in_types.Given as goal
 
 abbrev pub invariant-loop-name : goal.invariant-loop-name

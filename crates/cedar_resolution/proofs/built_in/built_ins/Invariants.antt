@@ -1,11 +1,6 @@
 use Rattle.std.specs.Vec.Iter.{into_iter_items}
-use Rattle.cedar_below.specs.Id.{id_text}
-use Rattle.cedar_below.specs.InternalName.{name_of}
-use Rattle.cedar_below.specs.PlainName.{PlainName}
-use Rattle.cedar_declarations.specs.Bag.{built_in_name}
-use Rattle.cedar_declarations.specs.ResolvedExpr.{resolved_expr}
+use Rattle.cedar_resolution.specs.Words.{Expr, PlainName, built_in_name, id_text, name_of, resolved_expr}
 use Rattle.cedar_fragments.proofs.ListedSoFar.{ListedSoFar}
-use Rattle.cedar_names.specs.Expr.{Expr}
 use Rattle.cedar_resolution.proofs.built_in.built_ins.Given as goal
 
 abbrev pub invariant-loop-word : goal.invariant-loop-word

@@ -1,12 +1,8 @@
 use Rattle.std.proofs.Common.{arith, map, ap, sym, ◌∙◌, refl}
 use Rattle.std.proofs.lemmas.List.{nil_from_length}
 use Rattle.std.specs.Vec.Iter.{into_iter_items}
-use Rattle.cedar_below.specs.declared.entity_type.EntityType.{EntityType}
-use Rattle.cedar_below.specs.declared.internal_name.InternalName.{InternalName}
-use Rattle.cedar_declarations.specs.Bag.{declared_actions}
-use Rattle.cedar_declarations.specs.ResolvedExpr.{resolved_reference}
+use Rattle.cedar_resolution.specs.Words.{EntityType, InternalName, declared_actions, resolved_action_type, resolved_reference}
 use Rattle.cedar_fragments.proofs.DeclaredParts.{actions_declared}
-use Rattle.cedar_fragments.specs.FragmentDeclarations.{resolved_action_type}
 use Rattle.cedar_resolution.proofs.Adding.{add_none, add_next, add_all}
 use Rattle.cedar_resolution.proofs.Items.{action_item}
 use Rattle.cedar_resolution.proofs.collecting.add_actions.Goals as goal

@@ -1,13 +1,7 @@
 use Rattle.std.proofs.Common.{◌≡◌, ◌++◌, map}
 use Rattle.std.specs.Vec.Iter.{into_iter_items}
-use Rattle.cedar_below.specs.declared.entity_type.EntityType.{EntityType}
-use Rattle.cedar_below.specs.declared.internal_name.InternalName.{InternalName}
-use Rattle.cedar_declarations.specs.Bag.{declared_actions}
-use Rattle.cedar_declarations.specs.ResolvedExpr.{resolved_reference}
-use Rattle.cedar_fragments.specs.ActionDeclarations.{action_fragment_declarations}
-use Rattle.cedar_fragments.specs.FragmentDeclarations.{resolved_action_type}
+use Rattle.cedar_resolution.specs.Words.{EntityType, InternalName, action_fragment_declarations, collected_actions, declared_actions, resolved_action_type, resolved_reference}
 use Rattle.cedar_resolution.proofs.Items.{action_item}
-use Rattle.cedar_resolution.specs.Collected.{collected_actions}
 use Rattle.cedar_resolution.proofs.collecting.add_actions.Given as goal
 
 abbrev pub invariant-loop-def : goal.invariant-loop-def

@@ -1,11 +1,7 @@
 use Rattle.std.proofs.Common.{◌≡◌, ◌++◌, map}
 use Rattle.std.specs.Vec.Iter.{into_iter_items}
-use Rattle.cedar_below.specs.declared.internal_name.InternalName.{InternalName}
-use Rattle.cedar_declarations.specs.Bag.{declared_common}
-use Rattle.cedar_declarations.specs.ResolvedExpr.{resolved_reference}
-use Rattle.cedar_fragments.specs.TypeDeclarations.{common_type_declarations}
+use Rattle.cedar_resolution.specs.Words.{InternalName, collected_common, common_type_declarations, declared_common, resolved_reference}
 use Rattle.cedar_resolution.proofs.Items.{common_item}
-use Rattle.cedar_resolution.specs.Collected.{collected_common}
 use Rattle.cedar_resolution.proofs.collecting.add_common_types.Given as goal
 
 abbrev pub invariant-loop-def : goal.invariant-loop-def

@@ -1,5 +1,4 @@
-use Rattle.cedar_declarations.specs.ResolvedExpr.{resolved_reference}
-use Rattle.cedar_fragments.specs.FragmentDeclarations.{resolved_action_type}
+use Rattle.cedar_resolution.specs.Words.{resolved_action_type, resolved_reference}
 use Rattle.cedar_resolution.proofs.CollectedTogether.{collect_parts}
 use Rattle.cedar_resolution.proofs.collecting.add_definition.Goals as goal
 

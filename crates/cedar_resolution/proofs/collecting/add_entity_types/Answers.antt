@@ -1,9 +1,7 @@
 use Rattle.std.proofs.Common.{arith, map, ap, sym, ◌∙◌, refl}
 use Rattle.std.proofs.lemmas.List.{nil_from_length}
 use Rattle.std.specs.Vec.Iter.{into_iter_items}
-use Rattle.cedar_below.specs.declared.internal_name.InternalName.{InternalName}
-use Rattle.cedar_declarations.specs.Bag.{declared_entities}
-use Rattle.cedar_declarations.specs.ResolvedExpr.{resolved_reference}
+use Rattle.cedar_resolution.specs.Words.{InternalName, declared_entities, resolved_reference}
 use Rattle.cedar_fragments.proofs.DeclaredParts.{entities_declared}
 use Rattle.cedar_resolution.proofs.Adding.{add_none, add_next, add_all}
 use Rattle.cedar_resolution.proofs.Items.{entity_item}

@@ -1,8 +1,7 @@
 use Rattle.std.proofs.Common.{arith}
 use Rattle.std.proofs.lemmas.List.{nil_from_length}
 use Rattle.std.specs.Vec.Iter.{into_iter_items}
-use Rattle.cedar_declarations.specs.ResolvedExpr.{resolved_reference}
-use Rattle.cedar_fragments.specs.FragmentDeclarations.{resolved_action_type, resolved_definition}
+use Rattle.cedar_resolution.specs.Words.{resolved_action_type, resolved_definition, resolved_reference}
 use Rattle.cedar_resolution.proofs.CollectedTogether.{collect_none, collect_next, collect_all}
 use Rattle.cedar_resolution.proofs.collecting.add_fragment.Goals as goal
 

@@ -1,8 +1,7 @@
 use Rattle.std.specs.List.{flat_map}
 use Rattle.std.specs.Vec.Iter.{into_iter_items}
-use Rattle.cedar_fragments.specs.FragmentDeclarations.{resolved_fragment}
+use Rattle.cedar_resolution.specs.Words.{resolved_bag, resolved_fragment}
 use Rattle.cedar_resolution.proofs.CollectedTogether.{CollectsTogether}
-use Rattle.cedar_resolution.specs.Collected.{resolved_bag}
 use Rattle.cedar_resolution.proofs.collecting.add_fragments.Given as goal
 
 abbrev pub invariant-loop-fragment : goal.invariant-loop-fragment

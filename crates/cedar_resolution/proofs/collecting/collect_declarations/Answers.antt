@@ -1,7 +1,6 @@
 use Rattle.std.proofs.Common.{ap, ◌++◌, ◌∙◌}
 use Rattle.std.proofs.lemmas.Result.{IfOk-weaker}
-use Rattle.cedar_declarations.specs.Bag.{declared_common, declared_entities, declared_actions}
-use Rattle.cedar_resolution.specs.Collected.{collected_common, collected_entities, collected_actions, resolved_bag}
+use Rattle.cedar_resolution.specs.Words.{collected_actions, collected_common, collected_entities, declared_actions, declared_common, declared_entities, resolved_bag}
 use Rattle.cedar_resolution.proofs.collecting.collect_declarations.Goals as goal
 
 pub returns-clause-common : goal.returns-clause-common

@@ -1,25 +1,9 @@
 use Rattle.std.proofs.Common.{◌≡◌, ◌⊎◌, ◌++◌, List, ap, ◌∙◌, inl, inr}
 use Rattle.std.proofs.lemmas.Result.{err_from_is_err_and}
 use Rattle.std.proofs.lemmas.Simd.{map-map}
-use Rattle.cedar_below.specs.InternalName.{name_of}
-use Rattle.cedar_below.specs.PlainName.{PlainName}
-use Rattle.cedar_below.specs.declared.internal_name.InternalName.{InternalName}
-use Rattle.cedar_declarations.specs.Bag.{aliases, built_ins}
-use Rattle.cedar_declarations.specs.Fault.{out_of_memory}
-use Rattle.cedar_declarations.specs.IllFormed.{IsFault}
-use Rattle.cedar_declarations.specs.ResolvedExpr.{resolved_expr}
-use Rattle.cedar_declarations.specs.SchemaError.{fault_of}
+use Rattle.cedar_resolution.specs.Words.{AllDefs, ConditionalName, Expr, HoldsJust, InternalName, IsFault, PlainName, «Type», ValidatorSchemaFragment, aliases, built_ins, collected_common, conditional_bag, declared_names, fault_of, held_names, name_of, out_of_memory, positional_reference, resolved_expr}
 use Rattle.cedar_fragments.proofs.DeclaredNames.{names_are_declared}
-use Rattle.cedar_fragments.specs.FragmentDeclarations.{conditional_bag}
-use Rattle.cedar_fragments.specs.HeldNames.{held_names, declared_names, HoldsJust}
-use Rattle.cedar_fragments.specs.declared.defs.all_defs.AllDefs.{AllDefs}
-use Rattle.cedar_fragments.specs.declared.namespace.fragment.ValidatorSchemaFragment.{ValidatorSchemaFragment}
-use Rattle.cedar_names.specs.ConditionalExpr.{positional_reference}
-use Rattle.cedar_names.specs.Expr.{Expr}
-use Rattle.cedar_names.specs.declared.json_schema.type_of.Type.{«Type»}
-use Rattle.cedar_names.specs.declared.json_schema.conditional_name.ConditionalName.{ConditionalName}
 use Rattle.cedar_resolution.proofs.DefinedNames.{names_in, just_declared, shadowing_fault, no_type_fault, no_action_fault, same_aliases, same_common, same_entities}
-use Rattle.cedar_resolution.specs.Collected.{collected_common}
 use Rattle.cedar_resolution.proofs.defined.defined_names.Goals as goal
 use Rattle.cedar_resolution.proofs.defined.defined_names.Goals.{After-deref}
 

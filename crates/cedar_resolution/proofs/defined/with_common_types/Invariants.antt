@@ -1,6 +1,5 @@
 use Rattle.std.proofs.Common.{◌≡◌, map, take}
-use Rattle.cedar_below.specs.InternalName.{name_of}
-use Rattle.cedar_fragments.specs.HeldNames.{held_names, HasAlso}
+use Rattle.cedar_resolution.specs.Words.{HasAlso, held_names, name_of}
 use Rattle.cedar_resolution.proofs.defined.with_common_types.Given as goal
 
 abbrev pub invariant-loop-it : goal.invariant-loop-it

@@ -3,8 +3,7 @@ use Rattle.std.proofs.lemmas.List.{nil_from_length}
 use Rattle.cedar_fragments.proofs.FragmentLemmas.{flat_map-included, exit_holds}
 use Rattle.cedar_fragments.proofs.Pairwise.{turn_none, turn_more, turn_all, turn_next}
 use Rattle.cedar_fragments.proofs.ResolvedBags.{resolved_together, unresolvable_included}
-use Rattle.cedar_fragments.specs.FragmentDeclarations.{conditional_fragment, resolved_fragment, conditional_bag}
-use Rattle.cedar_fragments.specs.HeldNames.{held_names}
+use Rattle.cedar_resolution.specs.Words.{conditional_bag, conditional_fragment, held_names, resolved_fragment}
 use Rattle.cedar_resolution.proofs.resolved.qualify_fragments.Goals as goal
 
 -- at first no fragment is resolved

@@ -1,8 +1,7 @@
 use Rattle.std.specs.Vec.Iter.{into_iter_items}
 use Rattle.cedar_fragments.proofs.Pairwise.{TurnSoFar}
 use Rattle.cedar_fragments.proofs.ResolvedBags.{ResolvesUnreservedBag}
-use Rattle.cedar_fragments.specs.FragmentDeclarations.{conditional_fragment, resolved_fragment}
-use Rattle.cedar_fragments.specs.HeldNames.{held_names}
+use Rattle.cedar_resolution.specs.Words.{conditional_fragment, held_names, resolved_fragment}
 use Rattle.cedar_resolution.proofs.resolved.qualify_fragments.Given as goal
 
 abbrev pub invariant-loop-fragment : goal.invariant-loop-fragment

@@ -1,15 +1,5 @@
 use Rattle.std.proofs.Common.{◌≡◌, ◌⊎◌, ◌++◌, List, subst}
-use Rattle.cedar_below.specs.declared.extension.Extensions.{Extensions}
-use Rattle.cedar_declarations.specs.Bag.{aliases, built_ins, defined_names}
-use Rattle.cedar_declarations.specs.Fault.{Fault, out_of_memory}
-use Rattle.cedar_declarations.specs.IllFormed.{IsFault}
-use Rattle.cedar_declarations.specs.SchemaError.{fault_of}
-use Rattle.cedar_fragments.specs.FragmentDeclarations.{conditional_bag, resolved_fragment}
-use Rattle.cedar_fragments.specs.HeldNames.{held_names, HoldsJust}
-use Rattle.cedar_fragments.specs.declared.defs.all_defs.AllDefs.{AllDefs}
-use Rattle.cedar_fragments.specs.declared.namespace.fragment.ValidatorSchemaFragment.{ValidatorSchemaFragment}
-use Rattle.cedar_names.specs.declared.json_schema.conditional_name.ConditionalName.{ConditionalName}
-use Rattle.cedar_resolution.specs.Collected.{collected_common}
+use Rattle.cedar_resolution.specs.Words.{AllDefs, ConditionalName, Extensions, Fault, HoldsJust, IsFault, ValidatorSchemaFragment, aliases, built_ins, collected_common, conditional_bag, defined_names, fault_of, held_names, out_of_memory, resolved_fragment}
 use Rattle.cedar_resolution.proofs.SameNames.{bag_alike}
 use Rattle.cedar_resolution.proofs.ResolutionFaults.{resolution_fault}
 use Rattle.cedar_resolution.proofs.resolved.resolve_fragments.Goals as goal

@@ -1,7 +1,5 @@
-use Rattle.cedar_declarations.specs.Fault.{action_attributes, action_entity_type, reserved_name}
+use Rattle.cedar_resolution.specs.Words.{ConditionalName, action_attributes, action_entity_type, positional_reference, reserved_name}
 use Rattle.cedar_fragments.proofs.SoundFragments.{fragments_have_no_fault}
-use Rattle.cedar_names.specs.ConditionalExpr.{positional_reference}
-use Rattle.cedar_names.specs.declared.json_schema.conditional_name.ConditionalName.{ConditionalName}
 use Rattle.cedar_resolution.proofs.theorems.conditional_definitions_have_no_fault.Goals as goal
 
 pub returns-clause-attributes : goal.returns-clause-attributes

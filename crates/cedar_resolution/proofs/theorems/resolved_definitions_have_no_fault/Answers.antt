@@ -1,9 +1,5 @@
-use Rattle.cedar_below.specs.declared.entity_type.EntityType.{EntityType}
-use Rattle.cedar_below.specs.declared.internal_name.InternalName.{InternalName}
-use Rattle.cedar_declarations.specs.Fault.{action_attributes, action_entity_type, reserved_name}
-use Rattle.cedar_declarations.specs.ResolvedExpr.{resolved_reference}
+use Rattle.cedar_resolution.specs.Words.{EntityType, InternalName, action_attributes, action_entity_type, reserved_name, resolved_action_type, resolved_reference}
 use Rattle.cedar_fragments.proofs.SoundFragments.{fragments_have_no_fault}
-use Rattle.cedar_fragments.specs.FragmentDeclarations.{resolved_action_type}
 use Rattle.cedar_resolution.proofs.theorems.resolved_definitions_have_no_fault.Goals as goal
 
 pub returns-clause-attributes : goal.returns-clause-attributes

@@ -1,5 +1,4 @@
-use Rattle.cedar_below.specs.Fits.{Gives}
-use Rattle.cedar_type_rules.specs.Has.{MayGive}
+use Rattle.cedar_type_rules.specs.Words.{Gives, MayGive}
 use Rattle.cedar_type_rules.proofs.MemberLaws.{HasBy-above}
 use Rattle.cedar_type_rules.proofs.theorems.supertypes_have_the_values.Goals as goal
 

@@ -3,15 +3,10 @@ use Rattle.std.proofs.lemmas.Result.{err_from_is_err_and}
 use Rattle.std.proofs.Math.ListN.{drop_of_length-le}
 use Rattle.std.specs.Option.{option_map}
 use Rattle.cedar_below.proofs.TreeLemmas.{drop-at, core_ty_of-record}
-use Rattle.cedar_below.specs.CoreTy.{core_record}
+use Rattle.cedar_types.specs.Words.{AreSortedByName, core_of, core_record, fields_of-pairs, is_open, ty_of}
 use Rattle.cedar_type_rules.proofs.CompareLemmas.{is_open-eq}
-use Rattle.cedar_type_rules.specs.CoreOf.{core_of}
-use Rattle.cedar_type_rules.specs.OpenTag.{is_open}
-use Rattle.cedar_name_map.specs.ByName.{AreSortedByName}
 use Rattle.cedar_types.proofs.CoredWalk.{cored-fault, cored-next, cored-last}
 use Rattle.cedar_types.proofs.MemberParts.{ty_of-record}
-use Rattle.cedar_types.specs.Layers.{fields_of-pairs}
-use Rattle.cedar_types.specs.Meaning.{ty_of}
 use Rattle.cedar_types.proofs.core_type.+core.Goals as goal
 
 -- an attribute whose type has no core type is the fault

@@ -5,10 +5,7 @@ use Rattle.cedar_below.proofs.Inclusion.{Included-step, Included-head}
 use Rattle.cedar_below.proofs.Ordered.{IsStrictlySortedBy-map}
 use Rattle.cedar_below.proofs.Texts.{text_cmp-total}
 use Rattle.cedar_below.proofs.TreeLemmas.{entry_names-entries}
-use Rattle.cedar_below.specs.Text.{text_cmp}
-use Rattle.cedar_type_rules.specs.Fields.{field_names}
-use Rattle.cedar_types.specs.Meaning.{fields_of}
-use Rattle.cedar_types.specs.Layers.{pairs_of}
+use Rattle.cedar_types.specs.Words.{field_names, fields_of, pairs_of, text_cmp}
 use Rattle.cedar_name_map.proofs.RisingLemmas.{Ahead-first}
 use Rattle.cedar_name_map.proofs.SearchLemmas.{text_of}
 use Rattle.cedar_types.proofs.SubtypeSteps.{IsAt-held, Sought-held, sought-name, sought-on}

@@ -1,11 +1,5 @@
 use Rattle.std.proofs.Common.{◌↔◌, map, string_bytes}
-use Rattle.cedar_below.specs.Lists.{Included}
-use Rattle.cedar_below.specs.RestrictedExpr.{entries_of}
-use Rattle.cedar_below.specs.Text.{text_cmp}
-use Rattle.cedar_below.specs.Tree.{entry_names}
-use Rattle.cedar_type_rules.specs.Fields.{field_names}
-use Rattle.cedar_types.specs.Meaning.{fields_of}
-use Rattle.cedar_types.specs.Layers.{pairs_of}
+use Rattle.cedar_types.specs.Words.{Included, entries_of, entry_names, field_names, fields_of, pairs_of, text_cmp}
 use Rattle.cedar_name_map.proofs.RisingLemmas.{Ahead}
 use Rattle.cedar_name_map.proofs.SearchLemmas.{text_of}
 use Rattle.cedar_types.proofs.member.all_listed.Given as goal

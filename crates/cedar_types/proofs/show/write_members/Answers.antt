@@ -1,7 +1,6 @@
 use Rattle.std.proofs.Common.{◌∙◌, refl, sym, ap, map}
 use Rattle.std.proofs.Output.{has_written_append, has_written_of_eq}
-use Rattle.cedar_below.specs.EntityType.{type_name}
-use Rattle.cedar_type_rules.specs.TypeText.{names_text}
+use Rattle.cedar_types.specs.Words.{names_text, type_name}
 use Rattle.cedar_types.proofs.TextLemmas.{names_text-first}
 use Rattle.cedar_types.proofs.show.write_members.Goals as goal
 

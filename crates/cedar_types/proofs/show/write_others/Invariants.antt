@@ -1,8 +1,7 @@
 use Rattle.std.proofs.Common.{◌++◌, map, codes, take}
 use Rattle.std.specs.List.{flat_map}
 use Rattle.std.specs.Fmt.{HasWritten, IsPlainFormatter}
-use Rattle.cedar_below.specs.EntityType.{type_name}
-use Rattle.cedar_below.specs.PlainName.{name_text}
+use Rattle.cedar_types.specs.Words.{name_text, type_name}
 use Rattle.cedar_types.proofs.show.write_others.Given as goal
 
 abbrev pub invariant-loop-ty : goal.invariant-loop-ty

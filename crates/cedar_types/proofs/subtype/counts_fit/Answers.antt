@@ -1,7 +1,6 @@
 use Rattle.std.proofs.Common.{ap, ◌∙◌}
-use Rattle.cedar_types.specs.Layers.{IsSortedByName-fields}
+use Rattle.cedar_types.specs.Words.{IsSortedByName-fields, fields_of}
 use Rattle.cedar_types.proofs.SubtypeSteps.{NamesBelow-strict, NamesBelow-closed, counts-Decides}
-use Rattle.cedar_types.specs.Meaning.{fields_of}
 use Rattle.cedar_types.proofs.subtype.counts_fit.Goals as goal
 
 pub returns-in-ClosedAttributes : goal.returns-in-ClosedAttributes

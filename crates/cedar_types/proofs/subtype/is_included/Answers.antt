@@ -1,9 +1,7 @@
 use Rattle.std.proofs.Common.{refl}
 use Rattle.std.specs.Slice.Iter.{iter_rest}
 use Rattle.cedar_below.proofs.PlainNames.{name_cmp-total}
-use Rattle.cedar_below.specs.EntityType.{type_name}
-use Rattle.cedar_below.specs.PlainName.{name_cmp}
-use Rattle.cedar_types.specs.EntityLUB.{lub_types, lub_names}
+use Rattle.cedar_types.specs.Words.{lub_names, lub_types, name_cmp, type_name}
 use Rattle.cedar_below.proofs.Inclusion.{Included-step, Included-head}
 use Rattle.cedar_name_map.proofs.RisingLemmas.{sought-Decides, sought-next}
 use Rattle.cedar_types.proofs.UnionSteps.{Included-empty}

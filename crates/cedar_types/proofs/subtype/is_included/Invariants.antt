@@ -1,9 +1,6 @@
 use Rattle.std.proofs.Common.{◌↔◌, map}
 use Rattle.std.specs.Slice.Iter.{iter_rest}
-use Rattle.cedar_below.specs.EntityType.{type_name}
-use Rattle.cedar_below.specs.Lists.{Included}
-use Rattle.cedar_below.specs.PlainName.{name_cmp}
-use Rattle.cedar_types.specs.EntityLUB.{lub_types, lub_names}
+use Rattle.cedar_types.specs.Words.{Included, lub_names, lub_types, name_cmp, type_name}
 use Rattle.cedar_name_map.proofs.RisingLemmas.{Ahead}
 use Rattle.cedar_types.proofs.subtype.is_included.Given as goal
 

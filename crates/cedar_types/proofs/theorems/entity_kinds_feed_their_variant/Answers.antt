@@ -1,7 +1,6 @@
 use Rattle.std.proofs.Common.{refl}
 use Rattle.std.specs.Hash.{le_bytes}
-use Rattle.cedar_below.specs.FeedsVariant.{FeedsVariantFirst}
-use Rattle.cedar_types.specs.EntityKind.{is_of_union}
+use Rattle.cedar_types.specs.Words.{FeedsVariantFirst, is_of_union}
 use Rattle.cedar_types.specs.contracts.entity_kind.EntityKindHash.TheImpl as kind_hash
 use Rattle.cedar_types.specs.declared.entity_kind.EntityKind.TheVariants as kind
 use Rattle.cedar_types.proofs.theorems.entity_kinds_feed_their_variant.Goals as goal

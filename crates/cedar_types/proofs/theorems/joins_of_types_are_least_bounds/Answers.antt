@@ -1,7 +1,6 @@
 use Rattle.cedar_type_rules.proofs.JoinAnswers.{strict_is_permissive}
 use Rattle.cedar_type_rules.proofs.JoinLemmas.{join_unique, join_least_clean, join_commutes}
-use Rattle.cedar_types.specs.WellFormedTypes.{IsWellFormed-type}
-use Rattle.cedar_types.specs.Meaning.{ty_of}
+use Rattle.cedar_types.specs.Words.{IsWellFormed-type, ty_of}
 use Rattle.cedar_types.proofs.theorems.joins_of_types_are_least_bounds.Goals as goal
 
 pub returns-clause-of_clean : goal.returns-clause-of_clean

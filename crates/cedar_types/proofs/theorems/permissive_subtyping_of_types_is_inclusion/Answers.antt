@@ -1,6 +1,5 @@
-use Rattle.cedar_types.specs.Meaning.{ty_of}
+use Rattle.cedar_types.specs.Words.{IsWellFormed-type, ty_of}
 use Rattle.cedar_type_rules.proofs.ValueInclusion.{inclusion, inclusion_and_names}
-use Rattle.cedar_types.specs.WellFormedTypes.{IsWellFormed-type}
 use Rattle.cedar_types.proofs.theorems.permissive_subtyping_of_types_is_inclusion.Goals as goal
 
 pub returns-clause-stated : goal.returns-clause-stated

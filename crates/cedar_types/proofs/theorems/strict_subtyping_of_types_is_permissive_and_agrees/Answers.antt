@@ -1,6 +1,5 @@
-use Rattle.cedar_types.specs.Meaning.{ty_of}
+use Rattle.cedar_types.specs.Words.{IsWellFormed-type, ty_of}
 use Rattle.cedar_type_rules.proofs.AgreeLaws.{Below-strict-both}
-use Rattle.cedar_types.specs.WellFormedTypes.{IsWellFormed-type}
 use Rattle.cedar_types.proofs.theorems.strict_subtyping_of_types_is_permissive_and_agrees.Goals as goal
 
 pub returns : goal.returns

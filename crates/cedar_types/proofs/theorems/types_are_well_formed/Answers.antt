@@ -1,5 +1,4 @@
-use Rattle.cedar_types.specs.Layers.{IsSortedByName-fields}
-use Rattle.cedar_types.specs.WellFormedTypes.{kind_formed, IsWellFormed-type, AreWellFormed-fields, AreTexts-fields}
+use Rattle.cedar_types.specs.Words.{AreTexts-fields, AreWellFormed-fields, IsSortedByName-fields, IsWellFormed-type, kind_formed}
 use Rattle.cedar_types.proofs.theorems.types_are_well_formed.Goals as goal
 
 pub returns-clause-kinds : goal.returns-clause-kinds

@@ -2,15 +2,9 @@ use Rattle.std.proofs.Common.{◌≡◌, refl, ℕ, sym, ap, ◌∙◌}
 use Rattle.std.proofs.lemmas.Option.{same_Some}
 use Rattle.std.specs.Prelude.{slice_get, Some, List, Bool}
 use Rattle.std.specs.Hash.{le_bytes}
-use Rattle.cedar_below.specs.FeedsVariant.{FeedsVariantFirst}
-use Rattle.cedar_type_rules.specs.Order.{kind_rank}
-use Rattle.cedar_type_rules.specs.Ty.{Ty, Fields}
-use Rattle.cedar_types.specs.Meaning.{ty_of, type_step, attribute_step, attributes_step}
+use Rattle.cedar_types.specs.Words.{AttributeType, Attributes, FeedsVariantFirst, Fields, Ty, «Type», attribute_step, attributes_step, fold-roll-Type, kind_rank, out-Type, roll-Type, roll-out-Type, ty_of, type_step}
 use Rattle.cedar_types.specs.contracts.types.TypeHash.TheImpl as type_hash
-use Rattle.cedar_types.specs.declared.types.Type.{«Type», roll-Type, out-Type, roll-out-Type, fold-roll-Type}
 use Rattle.cedar_types.specs.declared.types.Type.TheOpen as layer
-use Rattle.cedar_types.specs.declared.attributes.AttributeType.{AttributeType}
-use Rattle.cedar_types.specs.declared.attributes.Attributes.{Attributes}
 use Rattle.cedar_types.proofs.EqualityLaws.{layer_shape, shape-folded_layer}
 use Rattle.cedar_types.proofs.theorems.types_feed_their_variant.Goals as goal
 

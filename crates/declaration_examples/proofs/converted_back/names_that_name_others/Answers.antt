@@ -1,12 +1,5 @@
 use Rattle.std.proofs.Common.{◌≡◌, [], ◌∷◌, true, Some, ap, codes, refl, inl, inr, arith}
-use Rattle.cedar_below.specs.PlainName.{PlainName, action_word}
-use Rattle.cedar_below.specs.PlainUid.{PlainUid}
-use Rattle.cedar_declarations.specs.Bag.{alias_name}
-use Rattle.cedar_declarations.specs.PlainSchema.{external_action}
-use Rattle.cedar_type_rules.specs.Ty.{end, field, record_of, union_of}
-use Rattle.cedar_type_rules.specs.declared.open_tag.OpenTag.TheVariants.{ClosedAttributes}
-use Rattle.declaration_examples.specs.Samples.{sample_namespace, within_sample}
-use Rattle.declaration_examples.specs.WrittenSamples.{action_named, action_within, type_entry, with_attribute}
+use Rattle.declaration_examples.specs.Words.{ClosedAttributes, PlainName, PlainUid, action_named, action_within, action_word, alias_name, end, external_action, field, record_of, sample_namespace, type_entry, union_of, with_attribute, within_sample}
 use Rattle.declaration_examples.proofs.converted_back.names_that_name_others.Goals as goal
 
 -- the bare name of a type names the one of the namespace, which is another

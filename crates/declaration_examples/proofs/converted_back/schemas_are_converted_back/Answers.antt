@@ -1,19 +1,8 @@
 use Rattle.std.proofs.Common.{◌≡◌, ◌⊎◌, ◌++◌, List, [], ◌∷◌, None, Some, ap, codes, length, refl, inl, inr, subst, sym, ◌∙◌, arith, Contains}
 use Rattle.std.proofs.lemmas.List.Sorted.{IsPermutation-refl}
 use Rattle.cedar_below.proofs.Lists.{Contains-cons, Contains-cons_cases}
-use Rattle.cedar_below.specs.PlainName.{PlainName}
-use Rattle.cedar_below.specs.PlainUid.{PlainUid}
+use Rattle.declaration_examples.specs.Words.{ClosedAttributes, ListsDescendant, PlainName, PlainUid, Reference, SchemaAction, SchemaEntityType, action_named, alias_name, defined_action, end, full_name, plain_kind, record_of, sample_bag, sample_fields, sample_namespace, sample_schema, standard_kind, type_entry, within_sample}
 use Rattle.cedar_declarations.proofs.OccurrenceLemmas.{Contains-single}
-use Rattle.cedar_declarations.specs.Bag.{alias_name}
-use Rattle.cedar_declarations.specs.EntityTypeKind.{standard_kind}
-use Rattle.cedar_declarations.specs.PlainSchema.{SchemaAction, SchemaEntityType, defined_action}
-use Rattle.cedar_declarations.specs.ValidSchema.{ListsDescendant}
-use Rattle.cedar_declarations.specs.ConvertedBack.{full_name}
-use Rattle.cedar_names.specs.Reference.{Reference}
-use Rattle.cedar_type_rules.specs.Ty.{end, record_of}
-use Rattle.cedar_type_rules.specs.declared.open_tag.OpenTag.TheVariants.{ClosedAttributes}
-use Rattle.declaration_examples.specs.Samples.{sample_namespace, within_sample}
-use Rattle.declaration_examples.specs.WrittenSamples.{plain_kind, sample_bag, sample_fields, sample_schema, type_entry, action_named}
 use Rattle.declaration_examples.proofs.converted_back.schemas_are_converted_back.Goals as goal
 
 group : PlainName × SchemaEntityType

@@ -1,11 +1,6 @@
 use Rattle.std.proofs.Common.{◌≡◌, [], ◌∷◌, ap, codes, refl, get_or, length, arith}
-use Rattle.cedar_below.specs.PlainName.{PlainName}
-use Rattle.cedar_below.specs.PlainUid.{PlainUid}
+use Rattle.declaration_examples.specs.Words.{PlainName, PlainUid, action_named, alias_name, enumerated_kind, external_action, plain_kind}
 use Rattle.cedar_declarations.proofs.OccurrenceLemmas.{Contains-single}
-use Rattle.cedar_declarations.specs.Bag.{alias_name}
-use Rattle.cedar_declarations.specs.EntityTypeKind.{enumerated_kind}
-use Rattle.cedar_declarations.specs.PlainSchema.{external_action}
-use Rattle.declaration_examples.specs.WrittenSamples.{action_named, plain_kind}
 use Rattle.declaration_examples.proofs.converted_back.unwritable_hierarchies.Goals as goal
 
 -- `User` isn't the type of actions: the names differ in length

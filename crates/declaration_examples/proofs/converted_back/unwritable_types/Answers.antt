@@ -1,10 +1,6 @@
 use Rattle.std.proofs.Common.{[], true, None, codes, refl, inl, arith}
 use Rattle.std.proofs.lemmas.Bool.{false≢true}
-use Rattle.cedar_declarations.specs.Bag.{alias_name}
-use Rattle.cedar_declarations.specs.EntityTypeKind.{standard_kind}
-use Rattle.cedar_type_rules.specs.Ty.{end, field, record_of}
-use Rattle.cedar_type_rules.specs.declared.open_tag.OpenTag.TheVariants.{ClosedAttributes, OpenAttributes}
-use Rattle.declaration_examples.specs.WrittenSamples.{type_entry, with_attribute}
+use Rattle.declaration_examples.specs.Words.{ClosedAttributes, OpenAttributes, alias_name, end, field, record_of, standard_kind, type_entry, with_attribute}
 use Rattle.declaration_examples.proofs.converted_back.unwritable_types.Goals as goal
 
 pub returns-clause-attribute : goal.returns-clause-attribute

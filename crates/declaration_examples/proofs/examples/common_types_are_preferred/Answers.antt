@@ -1,8 +1,5 @@
 use Rattle.std.proofs.Common.{refl, inl, inr, arith, codes}
-use Rattle.cedar_names.specs.Expr.{long_expr}
-use Rattle.cedar_names.specs.declared.json_schema.reference_type.ReferenceType.TheVariants.{Entity, CommonOrEntity}
-use Rattle.declaration_examples.specs.Samples.{within_sample, refer_within}
-use Rattle.cedar_declarations.specs.ElaboratesTo.{as_long, as_entity, as_common}
+use Rattle.declaration_examples.specs.Words.{CommonOrEntity, Entity, as_common, as_entity, as_long, long_expr, refer_within, within_sample}
 use Rattle.declaration_examples.proofs.examples.common_types_are_preferred.Goals as goal
 
 pub returns-clause-either : goal.returns-clause-either

@@ -1,14 +1,7 @@
 use Rattle.std.proofs.Common.{◌≡◌, zero, suc, ap, refl, inl, arith, Contains, codes}
-use Rattle.cedar_below.specs.PlainName.{PlainName}
-use Rattle.cedar_below.specs.declared.extension.Extensions.{Extensions}
-use Rattle.cedar_names.specs.Expr.{Expr}
-use Rattle.cedar_names.specs.declared.json_schema.reference_type.ReferenceType.TheVariants.{CommonOrEntity}
+use Rattle.declaration_examples.specs.Words.{Chain, CommonOrEntity, Expr, Extensions, PlainName, RefersToCommon, alias_name, built_in_name, cycle_bag, cycle_first, cycle_second, declared_common, definitions, more, one, refer_here}
 use Rattle.cedar_declarations.proofs.BuiltInLemmas.{refers_declared, unlike_texts}
 use Rattle.cedar_below.proofs.Chains.{first_step}
-use Rattle.cedar_declarations.specs.Bag.{alias_name, built_in_name, declared_common, definitions}
-use Rattle.cedar_below.specs.Chain.{Chain, one, more}
-use Rattle.cedar_declarations.specs.IllFormed.{RefersToCommon}
-use Rattle.declaration_examples.specs.Samples.{refer_here, cycle_first, cycle_second, cycle_bag}
 use Rattle.declaration_examples.proofs.examples.cycles_name_their_members.Goals as goal
 
 -- the one refers to the other

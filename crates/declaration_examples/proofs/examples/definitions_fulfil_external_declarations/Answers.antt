@@ -1,12 +1,6 @@
 use Rattle.std.proofs.Common.{None, false, zero, suc, [], ◌∷◌, ap, refl, inl, inr, arith, codes, Contains}
-use Rattle.cedar_below.specs.Chain.{one}
-use Rattle.cedar_names.specs.EntityBody.{standard, external}
-use Rattle.cedar_names.specs.Expr.{record_expr, no_member}
-use Rattle.cedar_names.specs.declared.json_schema.reference_type.ReferenceType.TheVariants.{Entity}
+use Rattle.declaration_examples.specs.Words.{Entity, Twice, alias_name, external, no_member, one, record_expr, refer_here, standard}
 use Rattle.cedar_declarations.proofs.BuiltInLemmas.{unlike_texts}
-use Rattle.cedar_declarations.specs.Bag.{alias_name}
-use Rattle.cedar_below.specs.Lists.{Twice}
-use Rattle.declaration_examples.specs.Samples.{refer_here}
 use Rattle.declaration_examples.proofs.examples.definitions_fulfil_external_declarations.Goals as goal
 
 -- no other definition is of the type

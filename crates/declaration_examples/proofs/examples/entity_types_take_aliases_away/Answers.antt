@@ -1,17 +1,9 @@
 use Rattle.std.proofs.Common.{◌++◌, sym, None, refl, inl, inr, arith, codes}
 use Rattle.std.proofs.lemmas.Bool.{false≢true}
 use Rattle.std.proofs.lemmas.List.Elements.{Contains-append_right, Contains-append_cases}
-use Rattle.cedar_below.specs.declared.extension.Extensions.{Extensions}
-use Rattle.cedar_below.specs.PlainName.{PlainName}
-use Rattle.cedar_names.specs.Expr.{Expr, text_expr, long_expr}
-use Rattle.cedar_names.specs.Reference.{reference_to}
-use Rattle.cedar_names.specs.declared.json_schema.reference_type.ReferenceType.TheVariants.{CommonOrEntity}
+use Rattle.declaration_examples.specs.Words.{CommonOrEntity, Expr, Extensions, IsCommon, PlainName, alias_bag, alias_name, aliases, as_common, as_entity, as_long, as_text, built_in_name, built_ins, declared_common, definitions, long_expr, refer_here, reference_to, text_expr}
 use Rattle.cedar_declarations.proofs.BuiltInLemmas.{alias_of, built_in_path, common_cases}
 use Rattle.cedar_declarations.proofs.OccurrenceLemmas.{Contains-image}
-use Rattle.cedar_declarations.specs.Bag.{alias_name, built_in_name, declared_common, built_ins, aliases, definitions}
-use Rattle.cedar_declarations.specs.Defined.{IsCommon}
-use Rattle.declaration_examples.specs.Samples.{refer_here, alias_bag}
-use Rattle.cedar_declarations.specs.ElaboratesTo.{as_text, as_long, as_entity, as_common}
 use Rattle.declaration_examples.proofs.examples.entity_types_take_aliases_away.Goals as goal
 
 -- no common type has the name of the entity type

@@ -1,6 +1,5 @@
 use Rattle.std.proofs.Common.{[], ◌∷◌, refl, inl, inr, arith, codes}
-use Rattle.cedar_names.specs.declared.json_schema.reference_type.ReferenceType.TheVariants.{Entity}
-use Rattle.declaration_examples.specs.Samples.{refer_here}
+use Rattle.declaration_examples.specs.Words.{Entity, refer_here}
 use Rattle.declaration_examples.proofs.examples.enumerated_types_have_no_parents.Goals as goal
 
 pub returns : goal.returns

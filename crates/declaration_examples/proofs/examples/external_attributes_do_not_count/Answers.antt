@@ -1,7 +1,6 @@
 use Rattle.std.proofs.Common.{[], None, map, refl}
-use Rattle.cedar_names.specs.RawExpr.{raw_reference}
+use Rattle.declaration_examples.specs.Words.{Entity, raw_reference}
 use Rattle.cedar_names.specs.declared.json_schema.entity_type.EntityTypeKind.TheVariants as variant
-use Rattle.cedar_names.specs.declared.json_schema.reference_type.ReferenceType.TheVariants.{Entity}
 use Rattle.declaration_examples.proofs.examples.external_attributes_do_not_count.Goals as goal
 
 pub returns-clause-body : goal.returns-clause-body

@@ -1,14 +1,6 @@
 use Rattle.std.proofs.Common.{None, false, zero, suc, [], ◌∷◌, ap, refl, inl, inr, arith, codes, Contains}
-use Rattle.cedar_below.specs.Chain.{one, more}
-use Rattle.cedar_below.specs.declared.extension.Extensions.{Extensions}
-use Rattle.cedar_names.specs.EntityBody.{standard, external}
-use Rattle.cedar_names.specs.Expr.{record_expr, no_member}
-use Rattle.cedar_names.specs.declared.json_schema.reference_type.ReferenceType.TheVariants.{Entity}
+use Rattle.declaration_examples.specs.Words.{Entity, Extensions, HasParent, IsExternalType, alias_name, external, more, no_member, one, record_expr, refer_here, standard, tint_bag}
 use Rattle.cedar_declarations.proofs.BuiltInLemmas.{unlike_texts}
-use Rattle.cedar_declarations.specs.Bag.{alias_name}
-use Rattle.cedar_declarations.specs.Descent.{HasParent}
-use Rattle.cedar_declarations.specs.Together.{IsExternalType}
-use Rattle.declaration_examples.specs.Samples.{refer_here, tint_bag}
 use Rattle.declaration_examples.proofs.examples.external_types_below_enumerated_ones.Goals as goal
 
 -- the external type is external: neither definition is of it

@@ -1,7 +1,6 @@
 use Rattle.std.proofs.Common.{zero, suc, [], ◌∷◌, refl, arith, Contains, codes}
-use Rattle.cedar_below.specs.Tree.{number_value}
+use Rattle.declaration_examples.specs.Words.{admits_long, admits_missing, admits_no_member, admits_record, admits_there, number_value}
 use Rattle.cedar_declarations.proofs.BuiltInLemmas.{unlike_texts}
-use Rattle.cedar_declarations.specs.Admits.{admits_record, admits_missing, admits_there, admits_no_member, admits_long}
 use Rattle.declaration_examples.proofs.examples.optional_attributes_may_be_missing.Goals as goal
 
 -- another name isn't listed

@@ -1,14 +1,5 @@
 use Rattle.std.proofs.Common.{◌≡◌, zero, suc, List, [], ◌∷◌, ap, refl, arith, codes, Contains}
-use Rattle.cedar_below.specs.PlainName.{PlainName}
-use Rattle.cedar_names.specs.Declaration.{Declaration, Body, entity_type, action}
-use Rattle.cedar_names.specs.EntityBody.{EntityBody, external}
-use Rattle.cedar_names.specs.Reference.{Reference}
-use Rattle.cedar_names.specs.declared.json_schema.reference_type.ReferenceType.TheVariants.{Entity}
-use Rattle.cedar_declarations.specs.Bag.{alias_name}
-use Rattle.cedar_declarations.specs.Counted.{entity_parents}
-use Rattle.cedar_declarations.specs.SameBag.{SaysAll}
-use Rattle.cedar_declarations.specs.Together.{IsParent}
-use Rattle.declaration_examples.specs.Samples.{refer_here, external_here, apart_bag, together_bag}
+use Rattle.declaration_examples.specs.Words.{Body, Declaration, Entity, EntityBody, IsParent, PlainName, Reference, SaysAll, action, alias_name, apart_bag, entity_parents, entity_type, external, external_here, refer_here, together_bag}
 use Rattle.declaration_examples.proofs.examples.parents_may_be_said_apart_or_together.Goals as goal
 
 -- the two references

@@ -1,12 +1,5 @@
 use Rattle.std.proofs.Common.{◌≡◌, zero, suc, [], ◌∷◌, refl, inl, inr, arith, Contains, codes}
-use Rattle.cedar_below.specs.PlainName.{PlainName, IsActionType, action_word}
-use Rattle.cedar_below.specs.declared.extension.Extensions.{Extensions}
-use Rattle.cedar_names.specs.Reference.{Reference}
-use Rattle.cedar_names.specs.declared.json_schema.reference_type.ReferenceType.TheVariants.{Entity}
-use Rattle.cedar_declarations.specs.Bag.{alias_name, defined_names}
-use Rattle.cedar_declarations.specs.Counted.{IsAtEntityTypePosition}
-use Rattle.cedar_declarations.specs.Names.{ResolvesTo}
-use Rattle.declaration_examples.specs.Samples.{refer_here, action_here, principal_bag}
+use Rattle.declaration_examples.specs.Words.{Entity, Extensions, IsActionType, IsAtEntityTypePosition, PlainName, Reference, ResolvesTo, action_here, action_word, alias_name, defined_names, principal_bag, refer_here}
 use Rattle.declaration_examples.proofs.examples.principals_are_no_actions.Goals as goal
 
 -- the name is that of an action's type, and stands for a principal

@@ -1,12 +1,5 @@
 use Rattle.std.proofs.Common.{None, false, [], ◌∷◌, refl, inl, inr, arith, codes}
-use Rattle.cedar_below.specs.declared.extension.Extensions.{Extensions}
-use Rattle.cedar_names.specs.EntityBody.{standard}
-use Rattle.cedar_names.specs.Expr.{record_expr, no_member}
-use Rattle.cedar_names.specs.declared.json_schema.reference_type.ReferenceType.TheVariants.{Entity}
-use Rattle.cedar_declarations.specs.Bag.{alias_name}
-use Rattle.cedar_below.specs.Chain.{one, more}
-use Rattle.cedar_declarations.specs.Descent.{HasParent}
-use Rattle.declaration_examples.specs.Samples.{refer_here, ring_bag}
+use Rattle.declaration_examples.specs.Words.{Entity, Extensions, HasParent, alias_name, more, no_member, one, record_expr, refer_here, ring_bag, standard}
 use Rattle.declaration_examples.proofs.examples.rings_are_their_own_descendants.Goals as goal
 
 -- the one is below the other

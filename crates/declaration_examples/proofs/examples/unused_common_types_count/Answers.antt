@@ -1,6 +1,5 @@
 use Rattle.std.proofs.Common.{true, refl, inl, arith, codes}
-use Rattle.cedar_names.specs.Expr.{record_expr, no_member}
-use Rattle.declaration_examples.specs.Samples.{common_here}
+use Rattle.declaration_examples.specs.Words.{common_here, no_member, record_expr}
 use Rattle.declaration_examples.proofs.examples.unused_common_types_count.Goals as goal
 
 pub returns : goal.returns

@@ -1,7 +1,6 @@
 use Rattle.std.proofs.Common.{inl, true, [], refl, codes}
-use Rattle.cedar_below.specs.declared.validation_mode.ValidationMode.TheVariants.{Strict, Permissive}
+use Rattle.rule_examples.specs.Words.{Permissive, Strict, long, truth}
 use Rattle.cedar_below.proofs.Inclusion.{Included-in_none}
-use Rattle.cedar_type_rules.specs.Ty.{truth, long}
 use Rattle.cedar_type_rules.specs.declared.bool_type.BoolType.TheVariants as bool_type
 use Rattle.rule_examples.proofs.subtyping_examples.closed_records_by_example.Goals as goal
 

@@ -1,5 +1,4 @@
-use Rattle.cedar_below.specs.EntityUID.{uid_of}
-use Rattle.cedar_below.specs.PlainUid.{uid_cmp}
+use Rattle.cedar_below.specs.Words.{uid_cmp, uid_of}
 use Rattle.cedar_below.proofs.Ordered.{IsStrictlySortedBy-map}
 use Rattle.cedar_below.proofs.Uids.{entity_uid_ord-uid_cmp}
 use Rattle.cedar_below.proofs.entity.Entity.ancestors.Goals as goal

@@ -1,10 +1,7 @@
 use Rattle.std.proofs.Common.{◌≡◌, ◌++◌, codes, Some, None, arith, string_bytes, sym, ap, ◌∙◌}
 use Rattle.std.proofs.lemmas.Str.{IsUtf8-string_bytes}
 use Rattle.std.proofs.lemmas.Str.Pattern.{split_parts}
-use Rattle.cedar_below.specs.EntityUID.{uid_of}
-use Rattle.cedar_below.specs.InternalName.{name_of}
-use Rattle.cedar_below.specs.PlainName.{name_text}
-use Rattle.cedar_below.specs.UidText.{escaped_text}
+use Rattle.cedar_below.specs.Words.{escaped_text, name_of, name_text, uid_of}
 use Rattle.cedar_below.proofs.TextsOfNames.{IsOfIdentifiers-name_of}
 use Rattle.cedar_below.proofs.UidReading.{fault_before_quote, fault_without_quote, no_quote_by_bytes, stops_in_id, uid_by_parts}
 use Rattle.cedar_below.proofs.entity_uid.EntityUID.from_str.Goals as goal

@@ -1,10 +1,7 @@
 use Rattle.std.proofs.Common.{◌≡◌, ◌<◌, ◌+◌, ◌∷◌, ◌++◌, [], map, take, length, IsTrue, Contains, rules, sym, ap, ◌∙◌}
 use Rattle.std.proofs.lemmas.List.{take_all, take_more}
 use Rattle.std.proofs.lemmas.List.Elements.{All-contains, All-push}
-use Rattle.cedar_below.specs.Name.{plain_name}
-use Rattle.cedar_below.specs.PlainName.{PlainName, IsUnqualified}
-use Rattle.cedar_below.specs.TypeNames.{primitive_words}
-use Rattle.cedar_below.specs.declared.name.Name.{Name}
+use Rattle.cedar_below.specs.Words.{IsUnqualified, Name, PlainName, plain_name, primitive_words}
 use Rattle.cedar_below.proofs.FittingNames.{TypeNamesFit-parts}
 use Rattle.cedar_below.proofs.Lists.{Contains-at, Twice-at, distinct_more, repeated, same_at}
 use Rattle.cedar_below.proofs.extension.Extensions.try_new.Goals as goal

@@ -1,7 +1,5 @@
 use Rattle.std.proofs.Common.{◌≡◌, ◌≢◌, map, take, All, AllPairs, Contains}
-use Rattle.cedar_below.specs.Name.{plain_name}
-use Rattle.cedar_below.specs.PlainName.{IsUnqualified}
-use Rattle.cedar_below.specs.TypeNames.{primitive_words}
+use Rattle.cedar_below.specs.Words.{IsUnqualified, plain_name, primitive_words}
 use Rattle.cedar_below.proofs.extension.Extensions.try_new.Given as goal
 
 abbrev pub invariant-loop-at : goal.invariant-loop-at

@@ -1,9 +1,7 @@
 use Rattle.std.proofs.Common.{◌≡◌, ◌+◌, ◌∷◌, ◌++◌, [], Some, map, take, get_or, string_bytes, sym, ap, ◌∙◌}
 use Rattle.std.proofs.lemmas.Str.{encode_ascii}
 use Rattle.std.proofs.lemmas.List.{take_all, take_more, map-append}
-use Rattle.cedar_below.specs.Id.{id_text}
-use Rattle.cedar_below.specs.Reading.{reading_then}
-use Rattle.cedar_below.specs.declared.reading.Reading.TheVariants.{Start, Inside, Colon}
+use Rattle.cedar_below.specs.Words.{Colon, Inside, Start, id_text, reading_then}
 use Rattle.cedar_below.proofs.NameReading.{HasRead, HasRead-byte, HasRead-colon, HasRead-like, HasRead-part, Leads, ids_are_identifiers, leads, leads-ascii, stops_at_byte, stops_at_end}
 use Rattle.cedar_below.proofs.internal_name.InternalName.from_str.Goals as goal
 use Rattle.cedar_below.proofs.internal_name.InternalName.from_str.Goals.{in-Inside+in_ok-push-in-Inside, in-Colon, in-Start+in_ok-push-in-Start}

@@ -1,8 +1,6 @@
 use Rattle.std.proofs.Common.{map}
-use Rattle.cedar_below.specs.EntityUID.{uid_of}
-use Rattle.cedar_below.specs.PlainUid.{PlainUid}
+use Rattle.cedar_fragments.specs.Words.{ActionDef, PlainUid, uid_of}
 use Rattle.cedar_fragments.proofs.SetLemmas.{HasAlso-next, HasAlso-all}
-use Rattle.cedar_fragments.specs.declared.namespace.action_def.ActionDef.{ActionDef}
 use Rattle.cedar_fragments.proofs.defs.names.add_actions.Goals as goal
 
 pub loop-def-preserved : goal.loop-def-preserved

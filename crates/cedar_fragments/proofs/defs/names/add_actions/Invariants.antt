@@ -1,6 +1,5 @@
 use Rattle.std.proofs.Common.{map, take}
-use Rattle.cedar_below.specs.EntityUID.{uid_of}
-use Rattle.cedar_fragments.specs.HeldNames.{HasAlso}
+use Rattle.cedar_fragments.specs.Words.{HasAlso, uid_of}
 use Rattle.cedar_fragments.proofs.defs.names.add_actions.Given as goal
 
 abbrev pub invariant-loop-def : goal.invariant-loop-def

@@ -1,8 +1,6 @@
 use Rattle.std.proofs.Common.{map}
-use Rattle.cedar_below.specs.InternalName.{name_of}
-use Rattle.cedar_below.specs.PlainName.{PlainName}
+use Rattle.cedar_fragments.specs.Words.{CommonTypeDef, PlainName, name_of}
 use Rattle.cedar_fragments.proofs.SetLemmas.{HasAlso-next, HasAlso-all}
-use Rattle.cedar_fragments.specs.declared.namespace.common_types.CommonTypeDef.{CommonTypeDef}
 use Rattle.cedar_fragments.proofs.defs.names.add_common_types.Goals as goal
 
 pub loop-def-preserved : goal.loop-def-preserved

@@ -1,6 +1,5 @@
 use Rattle.std.proofs.Common.{map, take}
-use Rattle.cedar_below.specs.InternalName.{name_of}
-use Rattle.cedar_fragments.specs.HeldNames.{HasAlso}
+use Rattle.cedar_fragments.specs.Words.{HasAlso, name_of}
 use Rattle.cedar_fragments.proofs.defs.names.add_common_types.Given as goal
 
 abbrev pub invariant-loop-def : goal.invariant-loop-def

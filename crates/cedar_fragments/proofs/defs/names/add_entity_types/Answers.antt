@@ -1,9 +1,6 @@
 use Rattle.std.proofs.Common.{map, ◌∙◌}
-use Rattle.cedar_below.specs.InternalName.{name_of}
-use Rattle.cedar_below.specs.EntityType.{type_name}
-use Rattle.cedar_below.specs.PlainName.{PlainName}
+use Rattle.cedar_fragments.specs.Words.{EntityTypeDef, PlainName, name_of, type_name}
 use Rattle.cedar_fragments.proofs.SetLemmas.{HasAlso-next, HasAlso-all}
-use Rattle.cedar_fragments.specs.declared.namespace.entity_type_def.EntityTypeDef.{EntityTypeDef}
 use Rattle.cedar_fragments.proofs.defs.names.add_entity_types.Goals as goal
 
 pub loop-def-preserved : goal.loop-def-preserved

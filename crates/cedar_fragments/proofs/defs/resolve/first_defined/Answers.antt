@@ -1,9 +1,6 @@
 use Rattle.std.proofs.Common.{◌≡◌}
-use Rattle.cedar_below.specs.InternalName.{name_of}
-use Rattle.cedar_below.specs.PlainName.{PlainName}
-use Rattle.cedar_declarations.specs.Names.{IsDefined}
+use Rattle.cedar_fragments.specs.Words.{IsDefined, PlainName, held_names, name_of}
 use Rattle.cedar_fragments.proofs.ResolveLemmas.{first_at}
-use Rattle.cedar_fragments.specs.HeldNames.{held_names}
 use Rattle.cedar_fragments.proofs.defs.resolve.first_defined.Goals as goal
 
 pub returns-in-Some-2 : goal.returns-in-Some-2

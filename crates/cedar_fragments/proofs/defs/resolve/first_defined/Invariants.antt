@@ -1,8 +1,6 @@
 use Rattle.std.proofs.Common.{map, take}
 use Rattle.std.specs.List.{AllByRecursion}
-use Rattle.cedar_below.specs.InternalName.{name_of}
-use Rattle.cedar_declarations.specs.Names.{IsDefined}
-use Rattle.cedar_fragments.specs.HeldNames.{held_names}
+use Rattle.cedar_fragments.specs.Words.{IsDefined, held_names, name_of}
 use Rattle.cedar_fragments.proofs.defs.resolve.first_defined.Given as goal
 
 abbrev pub invariant-loop-name : goal.invariant-loop-name

@@ -1,8 +1,6 @@
 use Rattle.std.specs.Vec.Iter.{into_iter_items}
-use Rattle.cedar_below.specs.InternalName.{name_of}
-use Rattle.cedar_declarations.specs.Names.{ResolvesTo}
+use Rattle.cedar_fragments.specs.Words.{ResolvesTo, held_names, name_of}
 use Rattle.cedar_fragments.proofs.Pairwise.{TurnSoFar}
-use Rattle.cedar_fragments.specs.HeldNames.{held_names}
 use Rattle.cedar_fragments.proofs.defs.resolve.resolve_all.Given as goal
 
 abbrev pub invariant-loop-name : goal.invariant-loop-name

@@ -1,9 +1,5 @@
 use Rattle.std.proofs.Common.{◌≡◌, List, ◌∷◌, map, sym, subst, ◌∙◌, Contains}
-use Rattle.cedar_below.specs.PlainName.{PlainName}
-use Rattle.cedar_declarations.specs.Names.{IsDefined}
-use Rattle.cedar_names.specs.ConditionalName.{possibilities_of, conditional_reference}
-use Rattle.cedar_names.specs.PossibleNames.{names_of}
-use Rattle.cedar_fragments.specs.HeldNames.{held_names}
+use Rattle.cedar_fragments.specs.Words.{IsDefined, PlainName, conditional_reference, held_names, names_of, possibilities_of}
 use Rattle.cedar_fragments.proofs.defs.resolve.resolve_at.Goals as goal
 
 pub returns-in-None-clause-refused : goal.returns-in-None-clause-refused

@@ -1,10 +1,5 @@
 use Rattle.std.proofs.Common.{◌≡◌, ◌∙◌, ap, subst, inr, inl}
-use Rattle.cedar_below.specs.InternalName.{name_of}
-use Rattle.cedar_below.specs.PlainName.{IsReserved}
-use Rattle.cedar_below.specs.UnreservedId.{unreserved_id_text}
-use Rattle.cedar_declarations.specs.Fault.{reserved_name}
-use Rattle.cedar_names.specs.NamespaceName.{namespace_name}
-use Rattle.cedar_names.specs.Reference.{name_within}
+use Rattle.cedar_fragments.specs.Words.{IsReserved, name_of, name_within, namespace_name, reserved_name, unreserved_id_text}
 use Rattle.cedar_fragments.proofs.namespace.entity_types.entity_type_name.Goals as goal
 
 pub returns-in-Err-clause-fault : goal.returns-in-Err-clause-fault

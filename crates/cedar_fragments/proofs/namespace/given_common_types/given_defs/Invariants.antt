@@ -1,10 +1,5 @@
 use Rattle.std.proofs.Common.{◌≡◌, map}
-use Rattle.cedar_below.specs.InternalName.{name_of}
-use Rattle.cedar_fragments.specs.DeclaredAs.{declared_as}
-use Rattle.cedar_fragments.specs.GivenCommonTypes.{given_common_types}
-use Rattle.cedar_names.specs.ConditionalExpr.{positional_expr}
-use Rattle.cedar_names.specs.Declaration.{common_type}
-use Rattle.cedar_names.specs.NamespaceName.{namespace_name}
+use Rattle.cedar_fragments.specs.Words.{common_type, declared_as, given_common_types, name_of, namespace_name, positional_expr}
 use Rattle.cedar_fragments.proofs.namespace.given_common_types.given_defs.Given as goal
 
 abbrev pub invariant-loop-definition : goal.invariant-loop-definition

@@ -1,10 +1,7 @@
 use Rattle.std.proofs.Common.{sym, subst, ◌∙◌, Contains, string_bytes}
 use Rattle.std.proofs.lemmas.Bool.{false≢true}
-use Rattle.cedar_below.specs.InternalName.{name_of}
-use Rattle.cedar_below.specs.PlainName.{PlainName, IsReserved}
-use Rattle.cedar_below.specs.PlainUid.{PlainUid}
+use Rattle.cedar_fragments.specs.Words.{IsReserved, PlainName, PlainUid, held_names, name_of}
 use Rattle.cedar_fragments.proofs.UnresolvableLemmas.{action_unreserved}
-use Rattle.cedar_fragments.specs.HeldNames.{held_names}
 use Rattle.cedar_fragments.proofs.namespace.qualify_actions.action_type.Goals as goal
 
 pub returns-in_default : goal.returns-in_default

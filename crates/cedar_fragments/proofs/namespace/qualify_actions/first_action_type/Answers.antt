@@ -1,9 +1,6 @@
 use Rattle.std.proofs.Common.{◌≡◌, Contains, string_bytes}
-use Rattle.cedar_below.specs.EntityType.{type_name}
-use Rattle.cedar_below.specs.InternalName.{name_of}
-use Rattle.cedar_below.specs.PlainName.{PlainName}
+use Rattle.cedar_fragments.specs.Words.{PlainName, held_names, name_of, type_name}
 use Rattle.cedar_fragments.proofs.ResolveLemmas.{first_at}
-use Rattle.cedar_fragments.specs.HeldNames.{held_names}
 use Rattle.cedar_fragments.proofs.namespace.qualify_actions.first_action_type.Goals as goal
 
 pub returns-in-Some-2 : goal.returns-in-Some-2

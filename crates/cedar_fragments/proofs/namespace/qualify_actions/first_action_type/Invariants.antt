@@ -1,7 +1,6 @@
 use Rattle.std.proofs.Common.{map, take, Contains, string_bytes}
 use Rattle.std.specs.List.{AllByRecursion}
-use Rattle.cedar_below.specs.InternalName.{name_of}
-use Rattle.cedar_fragments.specs.HeldNames.{held_names}
+use Rattle.cedar_fragments.specs.Words.{held_names, name_of}
 use Rattle.cedar_fragments.proofs.namespace.qualify_actions.first_action_type.Given as goal
 
 abbrev pub invariant-loop-name : goal.invariant-loop-name

@@ -1,19 +1,6 @@
 use Rattle.std.proofs.Common.{◌≡◌, List, [], ◌∷◌, Option, Some, map, ap, sym, subst, ◌∙◌, refl, Contains, string_bytes, arith, inl, inr}
 use Rattle.cedar_below.proofs.Lists.{Contains-cons_cases}
-use Rattle.cedar_below.specs.EntityType.{type_name}
-use Rattle.cedar_below.specs.PlainName.{PlainName}
-use Rattle.cedar_below.specs.Text.{Text}
-use Rattle.cedar_declarations.specs.Names.{NamesNoAction}
-use Rattle.cedar_declarations.specs.Occurrences.{IsFirst}
-use Rattle.cedar_declarations.specs.SchemaError.{carried_action}
-use Rattle.cedar_fragments.specs.ActionDeclarations.{fragment_parent}
-use Rattle.cedar_fragments.specs.HeldNames.{held_names}
-use Rattle.cedar_names.specs.ConditionalExpr.{positional_reference}
-use Rattle.cedar_names.specs.ConditionalName.{possibilities_of, conditional_reference}
-use Rattle.cedar_names.specs.PossibleNames.{names_of}
-use Rattle.cedar_names.specs.Reference.{Reference}
-use Rattle.cedar_names.specs.declared.json_schema.conditional_name.ConditionalName.{ConditionalName}
-use Rattle.cedar_names.specs.declared.json_schema.reference_type.ReferenceType.TheVariants.{Entity}
+use Rattle.cedar_fragments.specs.Words.{ConditionalName, Entity, IsFirst, NamesNoAction, PlainName, Reference, Text, carried_action, conditional_reference, fragment_parent, held_names, names_of, positional_reference, possibilities_of, type_name}
 use Rattle.cedar_fragments.proofs.namespace.qualify_actions.qualify_parent.Goals as goal
 
 -- the parent is the first of its possible names under which an action is defined

@@ -1,16 +1,11 @@
 use Rattle.std.proofs.Common.{◌≡◌, map, Contains, ap, arith}
 use Rattle.std.proofs.lemmas.List.{nil_from_length}
 use Rattle.std.specs.List.{flat_map}
-use Rattle.cedar_below.specs.declared.entity_type.EntityType.{EntityType}
+use Rattle.cedar_fragments.specs.Words.{ConditionalName, EntityType, fragment_parent, held_names, no_locs, parent_locs, positional_reference}
 use Rattle.cedar_declarations.proofs.OccurrenceLemmas.{Contains-image}
 use Rattle.cedar_fragments.proofs.Pairwise.{turn_none, turn_more, turn_all, turn_next}
 use Rattle.cedar_fragments.proofs.OneMore.{flat_one_more}
 use Rattle.cedar_fragments.proofs.UnresolvableLemmas.{unresolvable_wider}
-use Rattle.cedar_fragments.specs.ActionDeclarations.{fragment_parent}
-use Rattle.cedar_fragments.specs.FragmentLocs.{no_locs, parent_locs}
-use Rattle.cedar_fragments.specs.HeldNames.{held_names}
-use Rattle.cedar_names.specs.ConditionalExpr.{positional_reference}
-use Rattle.cedar_names.specs.declared.json_schema.conditional_name.ConditionalName.{ConditionalName}
 use Rattle.cedar_fragments.proofs.FragmentLemmas.{exit_holds}
 use Rattle.cedar_fragments.proofs.namespace.qualify_actions.qualify_parents.Goals as goal
 

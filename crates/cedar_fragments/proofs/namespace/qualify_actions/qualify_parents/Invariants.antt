@@ -1,15 +1,8 @@
 use Rattle.std.proofs.Common.{◌≡◌}
 use Rattle.std.specs.List.{flat_map}
 use Rattle.std.specs.Vec.Iter.{into_iter_items}
-use Rattle.cedar_below.specs.declared.entity_type.EntityType.{EntityType}
-use Rattle.cedar_declarations.specs.Resolved.{ResolvesParent}
+use Rattle.cedar_fragments.specs.Words.{ConditionalName, EntityType, ResolvesParent, fragment_parent, held_names, no_locs, parent_locs, positional_reference, resolved_action_type}
 use Rattle.cedar_fragments.proofs.Pairwise.{TurnSoFar}
-use Rattle.cedar_fragments.specs.ActionDeclarations.{fragment_parent}
-use Rattle.cedar_fragments.specs.FragmentDeclarations.{resolved_action_type}
-use Rattle.cedar_fragments.specs.FragmentLocs.{no_locs, parent_locs}
-use Rattle.cedar_fragments.specs.HeldNames.{held_names}
-use Rattle.cedar_names.specs.ConditionalExpr.{positional_reference}
-use Rattle.cedar_names.specs.declared.json_schema.conditional_name.ConditionalName.{ConditionalName}
 use Rattle.cedar_fragments.proofs.namespace.qualify_actions.qualify_parents.Given as goal
 
 abbrev pub invariant-loop-parent : goal.invariant-loop-parent

@@ -2,15 +2,9 @@ use Rattle.std.proofs.Common.{◌∙◌, map, sym, subst, Contains}
 use Rattle.std.proofs.lemmas.Bool.{false≢true}
 use Rattle.std.proofs.lemmas.List.{take_all}
 use Rattle.std.proofs.lemmas.List.Elements.{Contains-get_or}
-use Rattle.cedar_below.specs.InternalName.{name_of}
-use Rattle.cedar_below.specs.PlainName.{PlainName, IsReserved}
-use Rattle.cedar_declarations.specs.Names.{ResolvesTo}
+use Rattle.cedar_fragments.specs.Words.{Entity, IsReserved, PlainName, Reference, ResolvesTo, held_names, name_of, positional_reference}
 use Rattle.cedar_fragments.proofs.ResolveLemmas.{none_more}
 use Rattle.cedar_fragments.proofs.UnresolvableLemmas.{resolved_by, none_reserved}
-use Rattle.cedar_fragments.specs.HeldNames.{held_names}
-use Rattle.cedar_names.specs.ConditionalExpr.{positional_reference}
-use Rattle.cedar_names.specs.Reference.{Reference}
-use Rattle.cedar_names.specs.declared.json_schema.reference_type.ReferenceType.TheVariants.{Entity}
 use Rattle.cedar_fragments.proofs.namespace.qualify_actions.qualify_requested.Goals as goal
 
 -- a resolved name that is reserved comes from one of the references

@@ -1,7 +1,6 @@
 use Rattle.std.proofs.Common.{map, take}
 use Rattle.std.specs.List.{AllByRecursion}
-use Rattle.cedar_below.specs.InternalName.{name_of}
-use Rattle.cedar_below.specs.PlainName.{IsReserved}
+use Rattle.cedar_fragments.specs.Words.{IsReserved, name_of}
 use Rattle.cedar_fragments.proofs.namespace.qualify_actions.qualify_requested.Given as goal
 
 abbrev pub invariant-loop-name : goal.invariant-loop-name

@@ -1,17 +1,9 @@
 use Rattle.std.proofs.Common.{map, Contains, Some, refl, inl, inr}
 use Rattle.std.proofs.lemmas.Result.{err_from_is_err_and}
-use Rattle.cedar_declarations.specs.Counted.{IsPrincipalOrResource}
-use Rattle.cedar_declarations.specs.Mentions.{Refers}
-use Rattle.cedar_declarations.specs.SchemaError.{qualify_fault}
+use Rattle.cedar_fragments.specs.Words.{ConditionalName, Entity, HasToResolveFor, IsPrincipalOrResource, IsUnresolvable, Refers, fragment_requests, held_names, positional_expr, positional_reference, qualify_fault}
 use Rattle.cedar_fragments.proofs.LocLemmas.{kept_beside_names}
 use Rattle.cedar_fragments.proofs.QualifiedLemmas.{refused_wider}
 use Rattle.cedar_fragments.proofs.UnresolvableLemmas.{unresolvable_wider, refused_unresolvable}
-use Rattle.cedar_fragments.specs.ActionDeclarations.{fragment_requests}
-use Rattle.cedar_fragments.specs.HeldNames.{held_names}
-use Rattle.cedar_fragments.specs.QualifyFault.{HasToResolveFor, IsUnresolvable}
-use Rattle.cedar_names.specs.ConditionalExpr.{positional_reference, positional_expr}
-use Rattle.cedar_names.specs.declared.json_schema.conditional_name.ConditionalName.{ConditionalName}
-use Rattle.cedar_names.specs.declared.json_schema.reference_type.ReferenceType.TheVariants.{Entity}
 use Rattle.cedar_fragments.proofs.FragmentLemmas.{exit_holds}
 use Rattle.cedar_fragments.proofs.namespace.qualify_actions.qualify_requests.Goals as goal
 

@@ -1,11 +1,7 @@
 use Rattle.std.proofs.Common.{◌≡◌, Some, ap}
 use Rattle.std.specs.Option.{option_map}
-use Rattle.cedar_declarations.specs.Mentions.{Refers}
+use Rattle.cedar_fragments.specs.Words.{Expr, Reference, Refers, held_names, positional_expr}
 use Rattle.cedar_fragments.proofs.QualifiedLemmas.{refused_wider}
-use Rattle.cedar_fragments.specs.HeldNames.{held_names}
-use Rattle.cedar_names.specs.ConditionalExpr.{positional_expr}
-use Rattle.cedar_names.specs.Expr.{Expr}
-use Rattle.cedar_names.specs.Reference.{Reference}
 use Rattle.cedar_fragments.proofs.FragmentLemmas.{exit_holds}
 use Rattle.cedar_fragments.proofs.namespace.qualify_entities.qualify_tags.Goals as goal
 

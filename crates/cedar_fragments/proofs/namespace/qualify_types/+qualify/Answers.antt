@@ -1,20 +1,10 @@
 use Rattle.std.proofs.Common.{sym, ap, ◌∙◌, refl}
 use Rattle.std.specs.String.{string_cmp_total}
-use Rattle.cedar_below.specs.declared.internal_name.InternalName.{InternalName}
-use Rattle.cedar_declarations.specs.Mentions.{Refers}
-use Rattle.cedar_declarations.specs.Resolved.{resolves_text, resolves_long, resolves_truth, resolves_set, resolves_extension}
-use Rattle.cedar_declarations.specs.ResolvedExpr.{resolved_reference, resolved_expr}
+use Rattle.cedar_fragments.specs.Words.{Common, CommonOrEntity, ConditionalName, Entity, InternalName, Refers, held_names, out-RecordType, out-TypeOfAttribute, positional_expr, positional_record, positional_reference, positional_variant, resolved_expr, resolved_reference, resolves_extension, resolves_long, resolves_set, resolves_text, resolves_truth, set_expr}
 use Rattle.cedar_fragments.proofs.Pairwise.{related_none, related_more, related_all}
 use Rattle.cedar_fragments.proofs.LocLemmas.{KeepsAttribute, keep_attributes, keeps_attribute, keeps_common, keeps_either, keeps_entity, keeps_extension, keeps_long, keeps_plain, keeps_record, keeps_set, keeps_text, keeps_truth}
 use Rattle.cedar_fragments.proofs.QualifiedLemmas.{ResolvesAttribute, Made, refused_wider, refused_one, resolved_record_type, refers_record, resolves_as, resolves_name, refers_name, refers_as}
-use Rattle.cedar_fragments.specs.HeldNames.{held_names}
 use Rattle.cedar_names.proofs.VariantLemmas.{variant-String, variant-Long, variant-Boolean, variant-Set, variant-Record, variant-Entity, variant-EntityOrCommon, variant-Extension, type-Plain, type-CommonTypeRef}
-use Rattle.cedar_names.specs.ConditionalExpr.{positional_reference, positional_expr, positional_variant, positional_record}
-use Rattle.cedar_names.specs.Expr.{set_expr}
-use Rattle.cedar_names.specs.declared.json_schema.conditional_name.ConditionalName.{ConditionalName}
-use Rattle.cedar_names.specs.declared.json_schema.reference_type.ReferenceType.TheVariants.{Common, Entity, CommonOrEntity}
-use Rattle.cedar_names.specs.declared.json_schema.type_of.RecordType.{out-RecordType}
-use Rattle.cedar_names.specs.declared.json_schema.type_of.TypeOfAttribute.{out-TypeOfAttribute}
 use Rattle.cedar_fragments.proofs.FragmentLemmas.{exit_holds}
 use Rattle.cedar_fragments.proofs.namespace.qualify_types.+qualify.Goals as goal
 

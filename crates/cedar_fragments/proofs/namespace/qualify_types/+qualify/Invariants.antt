@@ -1,9 +1,7 @@
 use Rattle.cedar_fragments.proofs.Pairwise.{RelatedSoFar}
 use Rattle.cedar_fragments.proofs.LocLemmas.{KeepsAttribute}
 use Rattle.cedar_fragments.proofs.QualifiedLemmas.{ResolvesAttribute}
-use Rattle.cedar_fragments.specs.HeldNames.{held_names}
-use Rattle.cedar_names.specs.declared.json_schema.conditional_name.ConditionalName.{ConditionalName}
-use Rattle.cedar_names.specs.declared.json_schema.type_of.RecordType.{out-RecordType}
+use Rattle.cedar_fragments.specs.Words.{ConditionalName, held_names, out-RecordType}
 use Rattle.cedar_fragments.proofs.namespace.qualify_types.+qualify.Given as goal
 
 abbrev pub invariant-qualify_record-loop-name : goal.invariant-qualify_record-loop-name

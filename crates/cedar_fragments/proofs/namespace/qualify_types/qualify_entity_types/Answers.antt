@@ -1,12 +1,9 @@
 use Rattle.std.proofs.Common.{map, Contains, refl, arith}
 use Rattle.std.proofs.lemmas.List.{nil_from_length}
-use Rattle.cedar_below.specs.InternalName.{name_of}
+use Rattle.cedar_fragments.specs.Words.{Entity, held_names, name_of, positional_reference}
 use Rattle.cedar_declarations.proofs.OccurrenceLemmas.{Contains-image}
 use Rattle.cedar_fragments.proofs.Pairwise.{turn_none, turn_more, turn_all, turn_next}
 use Rattle.cedar_fragments.proofs.QualifiedLemmas.{refused_one}
-use Rattle.cedar_fragments.specs.HeldNames.{held_names}
-use Rattle.cedar_names.specs.ConditionalExpr.{positional_reference}
-use Rattle.cedar_names.specs.declared.json_schema.reference_type.ReferenceType.TheVariants.{Entity}
 use Rattle.cedar_fragments.proofs.FragmentLemmas.{exit_holds}
 use Rattle.cedar_fragments.proofs.namespace.qualify_types.qualify_entity_types.Goals as goal
 

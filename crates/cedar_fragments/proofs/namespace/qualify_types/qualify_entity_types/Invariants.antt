@@ -1,10 +1,6 @@
 use Rattle.std.specs.Vec.Iter.{into_iter_items}
-use Rattle.cedar_declarations.specs.Resolved.{ResolvesReference}
-use Rattle.cedar_declarations.specs.ResolvedExpr.{resolved_reference}
+use Rattle.cedar_fragments.specs.Words.{Entity, ResolvesReference, held_names, positional_reference, resolved_reference}
 use Rattle.cedar_fragments.proofs.Pairwise.{TurnSoFar}
-use Rattle.cedar_fragments.specs.HeldNames.{held_names}
-use Rattle.cedar_names.specs.ConditionalExpr.{positional_reference}
-use Rattle.cedar_names.specs.declared.json_schema.reference_type.ReferenceType.TheVariants.{Entity}
 use Rattle.cedar_fragments.proofs.namespace.qualify_types.qualify_entity_types.Given as goal
 
 abbrev pub invariant-loop-name : goal.invariant-loop-name

@@ -1,7 +1,6 @@
 use Rattle.std.proofs.Common.{map}
 use Rattle.cedar_json_places.proofs.InTurn.{IsListing}
-use Rattle.cedar_json_places.specs.Mark.{marked}
-use Rattle.cedar_json_places.specs.Table.{definition_marks, fragment_marks, namespace_of}
+use Rattle.cedar_json_places.specs.Words.{definition_marks, fragment_marks, marked, namespace_of}
 use Rattle.cedar_json_places.proofs.written.Places.of.Given as goal
 
 abbrev pub invariant-loop-namespace : goal.invariant-loop-namespace

@@ -1,8 +1,6 @@
 use Rattle.std.proofs.Common.{map, codes, take}
 use Rattle.std.specs.Fmt.{HasWritten, IsPlainFormatter}
-use Rattle.cedar_below.specs.InternalName.{name_of}
-use Rattle.cedar_below.specs.Joined.{each_after}
-use Rattle.cedar_below.specs.PlainName.{name_text}
+use Rattle.cedar_names.specs.Words.{each_after, name_of, name_text}
 use Rattle.cedar_names.proofs.json_schema.conditional_name.write_others.Given as goal
 
 abbrev pub invariant-loop-name : goal.invariant-loop-name

@@ -1,9 +1,6 @@
 use Rattle.std.proofs.Common.{refl, subst, sym}
 use Rattle.cedar_names.proofs.CopyLemmas.{Made, copied_attribute, copied_more, copied_plain, copied_record, copied_set}
-use Rattle.cedar_names.specs.Copies.{IsTypeCopy, IsVariantCopy}
-use Rattle.cedar_names.specs.declared.json_schema.type_of.RecordType.{out-RecordType}
-use Rattle.cedar_names.specs.declared.json_schema.type_of.Type.{«Type», Plain}
-use Rattle.cedar_names.specs.declared.json_schema.type_of.TypeVariant.{Set, TypeVariant}
+use Rattle.cedar_names.specs.Words.{IsTypeCopy, IsVariantCopy, Plain, Set, «Type», TypeVariant, out-RecordType}
 use Rattle.cedar_names.proofs.json_schema.copying.+copying.Goals as goal
 
 pub copy_type-returns-in_ok-ty-in-Plain : goal.copy_type-returns-in_ok-ty-in-Plain

@@ -1,8 +1,7 @@
 use Rattle.std.proofs.Common.{subst}
 use Rattle.std.proofs.lemmas.Result.{IfOk-weaker}
 use Rattle.cedar_below.proofs.TurnLemmas.{turn_weaker}
-use Rattle.cedar_below.specs.Lists.{HoldsPairwise}
-use Rattle.cedar_names.specs.DeclarationCopies.{IsActionReferenceCopy}
+use Rattle.cedar_names.specs.Words.{HoldsPairwise, IsActionReferenceCopy}
 use Rattle.cedar_names.proofs.json_schema.declaration_copies.copied_groups.Goals as goal
 
 pub returns : goal.returns

@@ -4,11 +4,7 @@ use Rattle.std.specs.declared.alloc.Global.{Global}
 use Rattle.std.specs.declared.string.String.{String}
 use Rattle.cedar_names.proofs.Converted.{ConvertedSoFar, ConvertedSoFar-more, converted_all}
 use Rattle.cedar_names.proofs.QualifyLemmas.{Made, both_ways, written_both_ways, same_both_ways, own_record, positional_in_record}
-use Rattle.cedar_names.specs.NamespaceName.{namespace_name}
-use Rattle.cedar_names.specs.declared.json_schema.conditional_name.ConditionalName.{ConditionalName}
-use Rattle.cedar_names.specs.declared.json_schema.raw_name.RawName.{RawName}
-use Rattle.cedar_names.specs.declared.json_schema.type_of.RecordType.{out-RecordType}
-use Rattle.cedar_names.specs.declared.json_schema.type_of.TypeOfAttribute.{TypeOfAttribute}
+use Rattle.cedar_names.specs.Words.{ConditionalName, RawName, TypeOfAttribute, namespace_name, out-RecordType}
 use Rattle.cedar_names.proofs.json_schema.qualify.+qualify.Goals as goal
 
 pub qualify_record-loop-name-preserved : goal.qualify_record-loop-name-preserved

@@ -1,8 +1,6 @@
 use Rattle.cedar_names.proofs.Converted.{ConvertedSoFar}
 use Rattle.cedar_names.proofs.QualifyLemmas.{both_ways, written_both_ways}
-use Rattle.cedar_names.specs.NamespaceName.{namespace_name}
-use Rattle.cedar_names.specs.declared.json_schema.raw_name.RawName.{RawName}
-use Rattle.cedar_names.specs.declared.json_schema.type_of.RecordType.{out-RecordType}
+use Rattle.cedar_names.specs.Words.{RawName, namespace_name, out-RecordType}
 use Rattle.cedar_names.proofs.json_schema.qualify.+qualify.Given as goal
 
 abbrev pub invariant-qualify_record-loop-name : goal.invariant-qualify_record-loop-name

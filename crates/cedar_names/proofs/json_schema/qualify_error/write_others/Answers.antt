@@ -1,12 +1,7 @@
 use Rattle.std.proofs.Common.{◌++◌, ◌∷◌, ◌∙◌, [], List, ap, codes, map, refl, sym, take}
 use Rattle.std.proofs.lemmas.Grind.{put_two}
 use Rattle.std.proofs.lemmas.List.{flat_map_more, map-append, take_more}
-use Rattle.cedar_below.specs.Joined.{each_after}
-use Rattle.cedar_below.specs.Text.{Text}
-use Rattle.cedar_names.specs.ConditionalName.{conditional_reference}
-use Rattle.cedar_names.specs.declared.json_schema.conditional_name.ConditionalName.{ConditionalName}
-use Rattle.cedar_names.specs.Reference.{Reference}
-use Rattle.cedar_names.specs.ReferenceText.{undeclared_text}
+use Rattle.cedar_names.specs.Words.{ConditionalName, Reference, Text, conditional_reference, each_after, undeclared_text}
 use Rattle.cedar_names.proofs.json_schema.qualify_error.write_others.Goals as goal
 
 pub loop-reference-preserved : goal.loop-reference-preserved

@@ -1,8 +1,6 @@
 use Rattle.std.proofs.Common.{map, codes, take}
 use Rattle.std.specs.Fmt.{HasWritten, IsPlainFormatter}
-use Rattle.cedar_below.specs.Joined.{each_after}
-use Rattle.cedar_names.specs.ConditionalName.{conditional_reference}
-use Rattle.cedar_names.specs.ReferenceText.{undeclared_text}
+use Rattle.cedar_names.specs.Words.{conditional_reference, each_after, undeclared_text}
 use Rattle.cedar_names.proofs.json_schema.qualify_error.write_others.Given as goal
 
 abbrev pub invariant-loop-reference : goal.invariant-loop-reference

@@ -1,10 +1,6 @@
 use Rattle.std.proofs.Common.{ap, ◌∙◌}
 use Rattle.std.specs.Option.{option_map}
-use Rattle.cedar_type_rules.specs.Ty.{fields_from}
-use Rattle.cedar_types.specs.Attributes.{plain_attributes}
-use Rattle.cedar_name_map.specs.ByName.{value_at}
-use Rattle.cedar_types.specs.Located.{located}
-use Rattle.cedar_types.specs.Layers.{fields_of-pairs}
+use Rattle.cedar_types.specs.Words.{fields_from, fields_of-pairs, located, plain_attributes, value_at}
 use Rattle.cedar_types.proofs.FieldLemmas.{pairs_of-made}
 use Rattle.cedar_types.proofs.attributes.Attributes.from_sorted_by_name.Goals as goal
 

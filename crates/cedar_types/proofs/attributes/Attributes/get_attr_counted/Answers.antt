@@ -1,8 +1,6 @@
 use Rattle.std.proofs.Common.{ap, sym, ◌∙◌}
 use Rattle.std.specs.Option.{option_map}
-use Rattle.cedar_name_map.specs.ByName.{value_at}
-use Rattle.cedar_types.specs.Located.{located}
-use Rattle.cedar_types.specs.Meaning.{attribute_of}
+use Rattle.cedar_types.specs.Words.{attribute_of, located, value_at}
 use Rattle.cedar_types.proofs.FieldLemmas.{field_at-pairs, length-fields}
 use Rattle.cedar_types.proofs.attributes.Attributes.get_attr_counted.Goals as goal
 

@@ -1,7 +1,5 @@
 use Rattle.std.proofs.Common.{ap, sym, ◌∙◌}
-use Rattle.cedar_types.specs.Attributes.{plain_attributes}
-use Rattle.cedar_type_rules.specs.Ty.{fields_from}
-use Rattle.cedar_types.specs.Layers.{IsSortedByName-fields, fields_of-pairs}
+use Rattle.cedar_types.specs.Words.{IsSortedByName-fields, fields_from, fields_of-pairs, plain_attributes}
 use Rattle.cedar_types.proofs.attributes.Attributes.iter.Goals as goal
 
 pub returns-clause-attributes : goal.returns-clause-attributes

@@ -1,6 +1,5 @@
 use Rattle.std.proofs.Common.{◌≡◌}
-use Rattle.cedar_types.specs.Attributes.{plain_attributes, plain_required}
-use Rattle.cedar_types.specs.Located.{located_attributes, located_required}
+use Rattle.cedar_types.specs.Words.{located_attributes, located_required, plain_attributes, plain_required}
 use Rattle.cedar_types.proofs.attributes.Attributes.with_required_attributes.Given as goal
 
 abbrev pub invariant-loop-name : goal.invariant-loop-name

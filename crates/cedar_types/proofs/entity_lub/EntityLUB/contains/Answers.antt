@@ -1,9 +1,8 @@
 use Rattle.std.proofs.Common.{List, subst, length}
 use Rattle.std.specs.List.Sorted.{IsBinarySearchResult, IsSearchInRange}
 use Rattle.cedar_below.specs.contracts.entity_type.EntityTypeOrd.TheImpl as entity_type_ord
-use Rattle.cedar_below.specs.declared.entity_type.EntityType.{EntityType}
+use Rattle.cedar_types.specs.Words.{EntityType, lub_types}
 use Rattle.cedar_types.proofs.UnionSteps.{searched-Decides}
-use Rattle.cedar_types.specs.EntityLUB.{lub_types}
 use Rattle.cedar_types.proofs.entity_lub.EntityLUB.contains.Goals as goal
 
 pub returns : goal.returns

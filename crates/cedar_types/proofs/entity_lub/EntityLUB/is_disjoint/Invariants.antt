@@ -1,8 +1,5 @@
 use Rattle.std.proofs.Common.{map, take, drop}
-use Rattle.cedar_below.specs.EntityType.{type_name}
-use Rattle.cedar_below.specs.PlainName.{name_cmp}
-use Rattle.cedar_types.specs.EntityLUB.{lub_types, lub_names}
-use Rattle.cedar_type_rules.specs.EntityUnion.{AreDisjoint}
+use Rattle.cedar_types.specs.Words.{AreDisjoint, lub_names, lub_types, name_cmp, type_name}
 use Rattle.cedar_name_map.proofs.RisingLemmas.{Ahead}
 use Rattle.cedar_types.proofs.entity_lub.EntityLUB.is_disjoint.Given as goal
 

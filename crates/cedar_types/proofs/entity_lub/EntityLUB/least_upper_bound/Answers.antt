@@ -1,9 +1,7 @@
 use Rattle.std.proofs.Common.{◌≡◌, ◌++◌, ap, map, subst, sym, ◌∙◌}
 use Rattle.std.proofs.lemmas.Result.{IfOk-weaker}
-use Rattle.cedar_below.specs.EntityType.{type_name}
-use Rattle.cedar_type_rules.specs.EntityUnion.{IsUnionOf}
+use Rattle.cedar_types.specs.Words.{IsUnionOf, lub_names, lub_types, type_name}
 use Rattle.cedar_types.proofs.MergedLemmas.{IsStrictlySortedBy-distinct, IsUnionOf-merged, IsUnionOf-nonempty}
-use Rattle.cedar_types.specs.EntityLUB.{lub_names, lub_types}
 use Rattle.cedar_types.proofs.entity_lub.EntityLUB.least_upper_bound.Goals as goal
 
 pub of_sorted-requires-clause-nonempty : goal.of_sorted-requires-clause-nonempty

@@ -1,7 +1,6 @@
 use Rattle.std.proofs.Common.{◌≡◌, ap, subst}
 use Rattle.std.specs.declared.cmp.Ordering.TheVariants.{Less}
-use Rattle.cedar_below.specs.EntityType.{type_name}
-use Rattle.cedar_below.specs.PlainName.{PlainName, name_cmp}
+use Rattle.cedar_types.specs.Words.{PlainName, name_cmp, type_name}
 use Rattle.cedar_name_map.proofs.RisingLemmas.{Passed-next}
 use Rattle.cedar_types.proofs.UnionSteps.{below-Decides, name_at}
 use Rattle.cedar_types.proofs.entity_lub.EntityLUB.seek.Goals as goal

@@ -1,6 +1,5 @@
 use Rattle.std.proofs.Common.{◌-◌, length}
-use Rattle.cedar_below.specs.EntityType.{type_name}
-use Rattle.cedar_below.specs.PlainName.{name_cmp}
+use Rattle.cedar_types.specs.Words.{name_cmp, type_name}
 use Rattle.cedar_name_map.proofs.RisingLemmas.{Passed}
 use Rattle.cedar_types.proofs.entity_lub.EntityLUB.seek.Given as goal
 

@@ -1,7 +1,6 @@
 use Rattle.std.proofs.Common.{sym}
 use Rattle.cedar_type_rules.proofs.DisjointLemmas.{disjoint-unions}
-use Rattle.cedar_types.specs.EntityLUB.{lub_names}
-use Rattle.cedar_types.specs.Meaning.{ty_of}
+use Rattle.cedar_types.specs.Words.{lub_names, ty_of}
 use Rattle.cedar_types.proofs.types.Type.are_types_disjoint.Goals as goal
 
 pub returns-in-Some-Some : goal.returns-in-Some-Some

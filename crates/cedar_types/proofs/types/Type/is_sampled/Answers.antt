@@ -1,6 +1,5 @@
 use Rattle.cedar_type_rules.proofs.StatedLemmas.{IsInhabited-with}
-use Rattle.cedar_types.specs.Meaning.{ty_of}
-use Rattle.cedar_types.specs.Samples.{value_trees}
+use Rattle.cedar_types.specs.Words.{ty_of, value_trees}
 use Rattle.cedar_types.proofs.types.Type.is_sampled.Goals as goal
 
 pub returns-clause-inhabited : goal.returns-clause-inhabited

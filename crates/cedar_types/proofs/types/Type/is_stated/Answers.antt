@@ -1,6 +1,5 @@
 use Rattle.cedar_type_rules.proofs.StatedLemmas.{IsStated-with}
-use Rattle.cedar_types.specs.Meaning.{ty_of}
-use Rattle.cedar_types.specs.Samples.{value_trees}
+use Rattle.cedar_types.specs.Words.{ty_of, value_trees}
 use Rattle.cedar_types.proofs.types.Type.is_stated.Goals as goal
 
 pub returns-then-is_sampled-clause-stated : goal.returns-then-is_sampled-clause-stated

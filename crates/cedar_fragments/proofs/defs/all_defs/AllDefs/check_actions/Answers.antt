@@ -1,12 +1,6 @@
 use Rattle.std.proofs.Common.{sym, subst, ◌∙◌, inr, Contains}
 use Rattle.std.proofs.lemmas.Bool.{false≢true}
-use Rattle.cedar_below.specs.EntityUID.{uid_of}
-use Rattle.cedar_below.specs.PlainName.{IsUnqualified}
-use Rattle.cedar_below.specs.PlainUid.{PlainUid}
-use Rattle.cedar_below.specs.Text.{Text}
-use Rattle.cedar_declarations.specs.Shadowing.{ShadowsAction}
-use Rattle.cedar_fragments.specs.HeldNames.{held_names}
-use Rattle.cedar_fragments.specs.ShadowedNames.{IsPlainAction}
+use Rattle.cedar_fragments.specs.Words.{IsPlainAction, IsUnqualified, PlainUid, ShadowsAction, Text, held_names, uid_of}
 use Rattle.cedar_fragments.proofs.ShadowLemmas.{ids_of, PassedSoFar-more, passed_all, passed_next, looked_up, not_looked_up, unqualified_is_not_shadowed, not_shadowed}
 use Rattle.cedar_fragments.proofs.defs.all_defs.AllDefs.check_actions.Goals as goal
 

@@ -1,9 +1,6 @@
 use Rattle.std.specs.Prelude.{Contains}
-use Rattle.cedar_below.specs.EntityUID.{uid_of}
-use Rattle.cedar_below.specs.PlainUid.{PlainUid}
-use Rattle.cedar_declarations.specs.Shadowing.{ShadowsAction}
+use Rattle.cedar_fragments.specs.Words.{PlainUid, ShadowsAction, held_names, uid_of}
 use Rattle.cedar_fragments.proofs.ShadowLemmas.{PassedSoFar}
-use Rattle.cedar_fragments.specs.HeldNames.{held_names}
 use Rattle.cedar_fragments.proofs.defs.all_defs.AllDefs.check_actions.Given as goal
 
 abbrev pub invariant-loop-uid : goal.invariant-loop-uid

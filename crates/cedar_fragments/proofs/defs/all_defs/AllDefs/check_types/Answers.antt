@@ -1,7 +1,5 @@
 use Rattle.std.proofs.Common.{sym, subst, inr}
-use Rattle.cedar_below.specs.InternalName.{name_of}
-use Rattle.cedar_below.specs.PlainName.{PlainName}
-use Rattle.cedar_declarations.specs.Shadowing.{ShadowsType}
+use Rattle.cedar_fragments.specs.Words.{PlainName, ShadowsType, name_of}
 use Rattle.cedar_fragments.proofs.ShadowLemmas.{PassedSoFar-more, passed_all, passed_next}
 use Rattle.cedar_fragments.proofs.defs.all_defs.AllDefs.check_types.Goals as goal
 

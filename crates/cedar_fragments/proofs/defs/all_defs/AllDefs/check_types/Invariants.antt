@@ -1,10 +1,6 @@
-use Rattle.cedar_below.specs.InternalName.{name_of}
-use Rattle.cedar_below.specs.PlainName.{PlainName}
+use Rattle.cedar_fragments.specs.Words.{PlainName, ShadowsType, held_names, name_of, type_names}
 use Rattle.std.specs.Prelude.{Contains}
-use Rattle.cedar_declarations.specs.Shadowing.{ShadowsType}
 use Rattle.cedar_fragments.proofs.ShadowLemmas.{PassedSoFar}
-use Rattle.cedar_fragments.specs.HeldNames.{held_names}
-use Rattle.cedar_fragments.specs.ShadowedNames.{type_names}
 use Rattle.cedar_fragments.proofs.defs.all_defs.AllDefs.check_types.Given as goal
 
 abbrev pub invariant-loop-name : goal.invariant-loop-name

@@ -1,9 +1,7 @@
 use Rattle.std.proofs.Common.{map, ap, sym, ◌∙◌, inl, inr}
 use Rattle.std.proofs.lemmas.Bool.{false≢true}
 use Rattle.std.proofs.lemmas.List.Elements.{Contains-append_left, Contains-append_right, Contains-append_cases}
-use Rattle.cedar_below.specs.Id.{id_text}
-use Rattle.cedar_below.specs.InternalName.{name_of}
-use Rattle.cedar_fragments.specs.HeldNames.{held_names}
+use Rattle.cedar_fragments.specs.Words.{held_names, id_text, name_of}
 use Rattle.cedar_fragments.proofs.ShadowLemmas.{shadow_is}
 use Rattle.cedar_fragments.proofs.defs.all_defs.AllDefs.shadowed_by.Goals as goal
 

@@ -1,7 +1,6 @@
 use Rattle.std.proofs.Common.{sym, ◌∙◌, map}
 use Rattle.std.proofs.lemmas.Simd.{map-map}
-use Rattle.cedar_below.specs.EntityUID.{uid_of}
-use Rattle.cedar_below.specs.InternalName.{name_of}
+use Rattle.cedar_fragments.specs.Words.{name_of, uid_of}
 use Rattle.cedar_fragments.proofs.SetLemmas.{added_none, added_more, added_all}
 use Rattle.cedar_fragments.proofs.defs.all_defs.AllDefs.with_action_types.Goals as goal
 

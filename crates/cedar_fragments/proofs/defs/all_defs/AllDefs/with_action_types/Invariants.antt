@@ -1,6 +1,5 @@
 use Rattle.std.proofs.Common.{map}
-use Rattle.cedar_below.specs.EntityUID.{uid_of}
-use Rattle.cedar_below.specs.InternalName.{name_of}
+use Rattle.cedar_fragments.specs.Words.{name_of, uid_of}
 use Rattle.cedar_fragments.proofs.SetLemmas.{AddedSoFar}
 use Rattle.cedar_fragments.proofs.defs.all_defs.AllDefs.with_action_types.Given as goal
 

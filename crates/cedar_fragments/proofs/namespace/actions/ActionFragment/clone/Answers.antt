@@ -1,8 +1,7 @@
 use Rattle.std.proofs.Common.{◌∷◌, ◌++◌, ap, ◌∙◌, false}
 use Rattle.cedar_below.proofs.ShownLemmas.{same_shown}
 use Rattle.cedar_fragments.proofs.CopyLemmas.{same_flat}
-use Rattle.cedar_fragments.specs.ActionDeclarations.{fragment_parent}
-use Rattle.cedar_fragments.specs.FragmentLocs.{parent_locs}
+use Rattle.cedar_fragments.specs.Words.{fragment_parent, parent_locs}
 use Rattle.cedar_fragments.proofs.namespace.actions.ActionFragment.clone.Goals as goal
 
 pub returns-clause-body : goal.returns-clause-body

@@ -4,11 +4,7 @@ use Rattle.cedar_fragments.proofs.AttributeLemmas.{empty_by, nonempty_by, attrib
 use Rattle.cedar_fragments.proofs.DeclaredAsLemmas.{declared_action-within}
 use Rattle.cedar_fragments.proofs.ListedSoFar.{ListedSoFar-none, ListedSoFar-more, listed_next}
 use Rattle.cedar_fragments.proofs.SoundLemmas.{fault_of_action}
-use Rattle.cedar_names.specs.ActionBody.{action_body}
-use Rattle.cedar_names.specs.Declaration.{action, action_declarations}
-use Rattle.cedar_names.specs.NamespaceName.{namespace_name}
-use Rattle.cedar_names.specs.RawExpr.{raw_reference}
-use Rattle.cedar_names.specs.declared.json_schema.raw_name.RawName.{RawName}
+use Rattle.cedar_fragments.specs.Words.{RawName, action, action_body, action_declarations, namespace_name, raw_reference}
 use Rattle.cedar_fragments.proofs.FragmentLemmas.{exit_holds}
 use Rattle.cedar_fragments.proofs.namespace.actions.ActionsDef+ConditionalName+ConditionalName.from_raw_actions.Goals as goal
 

@@ -1,16 +1,6 @@
 use Rattle.std.proofs.Common.{string_bytes}
-use Rattle.cedar_below.specs.EntityUID.{uid_of}
+use Rattle.cedar_fragments.specs.Words.{ConditionalName, IsSound, RawName, action, action_body, action_fragment_body, declared_action, namespace_name, positional_reference, raw_reference, uid_of}
 use Rattle.cedar_fragments.proofs.ListedSoFar.{ListedSoFar}
-use Rattle.cedar_fragments.specs.ActionDeclarations.{action_fragment_body}
-use Rattle.cedar_fragments.specs.DeclaredAs.{declared_action}
-use Rattle.cedar_fragments.specs.DefinitionFault.{IsSound}
-use Rattle.cedar_names.specs.ActionBody.{action_body}
-use Rattle.cedar_names.specs.ConditionalExpr.{positional_reference}
-use Rattle.cedar_names.specs.Declaration.{action}
-use Rattle.cedar_names.specs.NamespaceName.{namespace_name}
-use Rattle.cedar_names.specs.RawExpr.{raw_reference}
-use Rattle.cedar_names.specs.declared.json_schema.conditional_name.ConditionalName.{ConditionalName}
-use Rattle.cedar_names.specs.declared.json_schema.raw_name.RawName.{RawName}
 use Rattle.cedar_fragments.proofs.namespace.actions.ActionsDef+ConditionalName+ConditionalName.from_raw_actions.Given as goal
 
 abbrev pub invariant-loop-id : goal.invariant-loop-id

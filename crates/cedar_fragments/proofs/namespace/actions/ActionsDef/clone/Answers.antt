@@ -1,8 +1,7 @@
 use Rattle.std.proofs.Common.{ap, ◌∙◌}
 use Rattle.cedar_below.proofs.ShownLemmas.{same_shown}
 use Rattle.cedar_fragments.proofs.CopyLemmas.{same_flat}
-use Rattle.cedar_fragments.specs.ActionDeclarations.{action_fragment_declaration}
-use Rattle.cedar_fragments.specs.FragmentLocs.{action_def_locs}
+use Rattle.cedar_fragments.specs.Words.{action_def_locs, action_fragment_declaration}
 use Rattle.cedar_fragments.proofs.namespace.actions.ActionsDef.clone.Goals as goal
 
 pub returns-clause-declarations : goal.returns-clause-declarations

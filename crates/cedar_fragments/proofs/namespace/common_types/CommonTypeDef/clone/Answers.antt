@@ -1,6 +1,5 @@
 use Rattle.std.proofs.Common.{◌∷◌}
-use Rattle.cedar_fragments.specs.DeclaredAs.{declared_as}
-use Rattle.cedar_names.specs.Declaration.{common_type}
+use Rattle.cedar_fragments.specs.Words.{common_type, declared_as}
 use Rattle.cedar_fragments.proofs.namespace.common_types.CommonTypeDef.clone.Goals as goal
 
 pub returns-clause-declaration : goal.returns-clause-declaration

@@ -1,12 +1,7 @@
 use Rattle.std.proofs.Common.{◌≡◌, ◌∙◌, ap}
 use Rattle.cedar_fragments.proofs.DeclaredAsLemmas.{declared_as-within}
 use Rattle.cedar_fragments.proofs.OneMore.{one_more}
-use Rattle.cedar_fragments.specs.Located.{located_name}
-use Rattle.cedar_names.specs.CommonTypeId.{common_type_text}
-use Rattle.cedar_names.specs.Declaration.{common_type}
-use Rattle.cedar_names.specs.NamespaceName.{namespace_name}
-use Rattle.cedar_names.specs.RawExpr.{raw_expr}
-use Rattle.cedar_names.specs.Reference.{name_within}
+use Rattle.cedar_fragments.specs.Words.{common_type, common_type_text, located_name, name_within, namespace_name, raw_expr}
 use Rattle.cedar_fragments.proofs.namespace.common_types.CommonTypeDefs+ConditionalName.from_raw_common_types.Goals as goal
 
 pub loop-id-preserved : goal.loop-id-preserved

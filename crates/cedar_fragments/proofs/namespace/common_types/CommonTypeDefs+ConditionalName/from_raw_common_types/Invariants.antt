@@ -1,13 +1,5 @@
 use Rattle.std.proofs.Common.{◌≡◌, map}
-use Rattle.cedar_below.specs.InternalName.{name_of}
-use Rattle.cedar_fragments.specs.DeclaredAs.{declared_as}
-use Rattle.cedar_fragments.specs.Located.{located_common_names, written_common_names}
-use Rattle.cedar_names.specs.ConditionalExpr.{positional_expr}
-use Rattle.cedar_names.specs.Declaration.{common_declarations, common_type}
-use Rattle.cedar_names.specs.NamespaceName.{namespace_name}
-use Rattle.cedar_names.specs.RawExpr.{raw_reference}
-use Rattle.cedar_names.specs.declared.json_schema.conditional_name.ConditionalName.{ConditionalName}
-use Rattle.cedar_names.specs.declared.json_schema.raw_name.RawName.{RawName}
+use Rattle.cedar_fragments.specs.Words.{ConditionalName, RawName, common_declarations, common_type, declared_as, located_common_names, name_of, namespace_name, positional_expr, raw_reference, written_common_names}
 use Rattle.cedar_fragments.proofs.namespace.common_types.CommonTypeDefs+ConditionalName.from_raw_common_types.Given as goal
 
 abbrev pub invariant-loop-id : goal.invariant-loop-id

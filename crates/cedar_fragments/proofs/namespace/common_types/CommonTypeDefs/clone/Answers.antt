@@ -1,10 +1,7 @@
 use Rattle.std.proofs.Common.{ap, ◌∙◌}
 use Rattle.cedar_below.proofs.ShownLemmas.{same_shown}
 use Rattle.cedar_fragments.proofs.CopyLemmas.{same_flat}
-use Rattle.cedar_fragments.specs.FragmentLocs.{common_type_locs}
-use Rattle.cedar_fragments.specs.Located.{LocatedName, located_name}
-use Rattle.cedar_fragments.specs.TypeDeclarations.{common_type_declaration}
-use Rattle.cedar_fragments.specs.declared.namespace.common_types.CommonTypeDef.{CommonTypeDef}
+use Rattle.cedar_fragments.specs.Words.{CommonTypeDef, LocatedName, common_type_declaration, common_type_locs, located_name}
 use Rattle.cedar_fragments.proofs.namespace.common_types.CommonTypeDefs.clone.Goals as goal
 
 pub returns-clause-declarations : goal.returns-clause-declarations

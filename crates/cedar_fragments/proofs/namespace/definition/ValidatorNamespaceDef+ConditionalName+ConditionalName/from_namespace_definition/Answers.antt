@@ -1,14 +1,9 @@
 use Rattle.std.proofs.Common.{◌++◌}
 use Rattle.std.specs.Option.{option_map}
-use Rattle.cedar_below.specs.InternalName.{name_of}
-use Rattle.cedar_declarations.specs.SchemaError.{fault_of}
+use Rattle.cedar_fragments.specs.Words.{IsSound, RawName, action_declarations, common_declarations, entity_declarations, fault_of, name_of, raw_declarations, raw_reference}
 use Rattle.cedar_fragments.proofs.AttributeLemmas.{none_named, named_in_all, no_actions_among}
 use Rattle.cedar_fragments.proofs.FragmentLemmas.{refusal_included, second_included, third_included, exit_holds}
 use Rattle.cedar_fragments.proofs.SoundLemmas.{sound_bag, common_sound, AllByRecursion-append}
-use Rattle.cedar_fragments.specs.DefinitionFault.{IsSound}
-use Rattle.cedar_names.specs.Declaration.{raw_declarations, common_declarations, entity_declarations, action_declarations}
-use Rattle.cedar_names.specs.RawExpr.{raw_reference}
-use Rattle.cedar_names.specs.declared.json_schema.raw_name.RawName.{RawName}
 use Rattle.cedar_fragments.proofs.namespace.definition.ValidatorNamespaceDef+ConditionalName+ConditionalName.from_namespace_definition.Goals as goal
 
 -- a fault of the entity types is one of the whole definition

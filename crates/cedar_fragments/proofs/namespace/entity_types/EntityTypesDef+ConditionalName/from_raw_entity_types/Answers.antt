@@ -1,13 +1,8 @@
 use Rattle.std.proofs.Common.{sym, ap}
-use Rattle.cedar_below.specs.UnreservedId.{unreserved_id_text}
+use Rattle.cedar_fragments.specs.Words.{RawName, entity_declarations, entity_type, namespace_name, raw_entity_body, raw_reference, unreserved_id_text}
 use Rattle.cedar_fragments.proofs.DeclaredAsLemmas.{declared_as-within}
 use Rattle.cedar_fragments.proofs.ListedSoFar.{ListedSoFar-none, ListedSoFar-more, listed_next, listed_same, listed_each}
 use Rattle.cedar_fragments.proofs.SoundLemmas.{fault_of_entity, name_names_none}
-use Rattle.cedar_names.specs.Declaration.{entity_type, entity_declarations}
-use Rattle.cedar_names.specs.EntityBody.{raw_entity_body}
-use Rattle.cedar_names.specs.NamespaceName.{namespace_name}
-use Rattle.cedar_names.specs.RawExpr.{raw_reference}
-use Rattle.cedar_names.specs.declared.json_schema.raw_name.RawName.{RawName}
 use Rattle.cedar_fragments.proofs.FragmentLemmas.{exit_holds}
 use Rattle.cedar_fragments.proofs.namespace.entity_types.EntityTypesDef+ConditionalName.from_raw_entity_types.Goals as goal
 

@@ -1,8 +1,7 @@
 use Rattle.std.proofs.Common.{ap, ◌∙◌}
 use Rattle.cedar_below.proofs.ShownLemmas.{same_shown}
 use Rattle.cedar_fragments.proofs.CopyLemmas.{same_flat}
-use Rattle.cedar_fragments.specs.FragmentLocs.{entity_type_locs}
-use Rattle.cedar_fragments.specs.TypeDeclarations.{entity_type_declaration}
+use Rattle.cedar_fragments.specs.Words.{entity_type_declaration, entity_type_locs}
 use Rattle.cedar_fragments.proofs.namespace.entity_types.EntityTypesDef.clone.Goals as goal
 
 pub returns-clause-declarations : goal.returns-clause-declarations

@@ -1,23 +1,13 @@
 use Rattle.std.proofs.Common.{◌≡◌, ◌∙◌, [], ◌∷◌, Option, ap, inl, map, refl, sym}
 use Rattle.std.specs.List.{flat_map}
 use Rattle.cedar_below.proofs.Lists.{Contains-cons}
-use Rattle.cedar_below.specs.declared.name.Name.{Name}
-use Rattle.cedar_names.specs.declared.json_schema.conditional_name.ConditionalName.{ConditionalName}
-use Rattle.cedar_names.specs.declared.json_schema.conditional_name.ConditionalName.{ConditionalName}
-use Rattle.cedar_names.specs.declared.json_schema.fragment.NamespaceDefinition.{NamespaceDefinition}
-use Rattle.cedar_names.specs.declared.json_schema.raw_name.RawName.{RawName}
-use Rattle.cedar_declarations.specs.SchemaError.{fault_of}
+use Rattle.cedar_fragments.specs.Words.{ConditionalName, IsSound, Name, NamespaceDefinition, RawName, conditional_definition, definition_common_names, definition_namespaces, entry_common_names, entry_declarations, entry_namespace, entry_namespaces, fault_of, located_namespace, named_namespace, raw_fragment, written_common_names}
 use Rattle.cedar_fragments.proofs.FragmentLemmas.{refusal_included, flat_map-included, flat_map-each, flat_map-same, exit_holds}
 use Rattle.cedar_fragments.proofs.FragmentsSoFar.{next_entry}
 use Rattle.cedar_fragments.proofs.ListedSoFar.{ListedSoFar-none, ListedSoFar-more, listed_same, listed_each}
 use Rattle.cedar_fragments.proofs.NamedOfDefinition.{named_of_definition}
 use Rattle.cedar_fragments.proofs.OneMore.{flat_one_more, one_more}
 use Rattle.cedar_fragments.proofs.SoundLemmas.{sound_bag}
-use Rattle.cedar_fragments.specs.DefinitionFault.{IsSound}
-use Rattle.cedar_fragments.specs.DefinitionsPairwise.{entry_declarations, entry_namespace, located_namespace}
-use Rattle.cedar_fragments.specs.FragmentDeclarations.{conditional_definition}
-use Rattle.cedar_fragments.specs.Located.{definition_common_names, definition_namespaces, entry_common_names, entry_namespaces, named_namespace, written_common_names}
-use Rattle.cedar_names.specs.Declaration.{raw_fragment}
 use Rattle.cedar_fragments.proofs.namespace.fragment.ValidatorSchemaFragment+ConditionalName+ConditionalName.from_schema_fragment.Goals as goal
 
 -- at first no definition is converted

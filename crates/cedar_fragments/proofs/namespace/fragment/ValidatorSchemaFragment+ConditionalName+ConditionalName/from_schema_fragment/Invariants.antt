@@ -1,9 +1,7 @@
 use Rattle.std.proofs.Common.{◌≡◌, map}
 use Rattle.std.specs.List.{flat_map}
 use Rattle.cedar_fragments.proofs.FragmentsSoFar.{FragmentsSoFar}
-use Rattle.cedar_fragments.specs.DefinitionsPairwise.{entry_namespace, located_namespace}
-use Rattle.cedar_fragments.specs.Located.{definition_common_names, definition_namespaces, entry_common_names, entry_namespaces}
-use Rattle.cedar_names.specs.declared.json_schema.conditional_name.ConditionalName.{ConditionalName}
+use Rattle.cedar_fragments.specs.Words.{ConditionalName, definition_common_names, definition_namespaces, entry_common_names, entry_namespace, entry_namespaces, located_namespace}
 use Rattle.cedar_fragments.proofs.namespace.fragment.ValidatorSchemaFragment+ConditionalName+ConditionalName.from_schema_fragment.Given as goal
 
 abbrev pub invariant-loop-name : goal.invariant-loop-name

@@ -1,9 +1,7 @@
 use Rattle.std.proofs.Common.{ap, ◌∙◌}
 use Rattle.cedar_below.proofs.ShownLemmas.{same_shown}
 use Rattle.cedar_fragments.proofs.CopyLemmas.{same_flat, same_namespace}
-use Rattle.cedar_fragments.specs.FragmentDeclarations.{definition_declarations, definition_namespace}
-use Rattle.cedar_fragments.specs.FragmentLocs.{definition_locs}
-use Rattle.cedar_fragments.specs.Located.{definition_common_names, definition_loc, definition_name, definition_namespaces, named_namespace}
+use Rattle.cedar_fragments.specs.Words.{definition_common_names, definition_declarations, definition_loc, definition_locs, definition_name, definition_namespace, definition_namespaces, named_namespace}
 use Rattle.cedar_fragments.proofs.namespace.fragment.ValidatorSchemaFragment.clone.Goals as goal
 
 -- each copy declares what its original declares

@@ -1,14 +1,6 @@
 use Rattle.std.proofs.Common.{Option, map, Contains}
-use Rattle.cedar_declarations.specs.Counted.{IsPrincipalOrResource}
-use Rattle.cedar_declarations.specs.SchemaError.{fault_of}
+use Rattle.cedar_fragments.specs.Words.{ActionRequests, ConditionalName, HasToResolveFor, HasToResolveIn, IsParentIn, IsPrincipalOrResource, IsRequestedIn, action, action_fragment_body, fault_of, fragment_parent, fragment_requests, held_names, positional_reference}
 use Rattle.cedar_fragments.proofs.UnresolvableLemmas.{unresolvable_wider}
-use Rattle.cedar_fragments.specs.ActionDeclarations.{fragment_parent, fragment_requests, action_fragment_body}
-use Rattle.cedar_fragments.specs.HeldNames.{held_names}
-use Rattle.cedar_fragments.specs.QualifyFault.{HasToResolveFor, HasToResolveIn, IsParentIn, IsRequestedIn}
-use Rattle.cedar_fragments.specs.declared.namespace.actions.ActionRequests.{ActionRequests}
-use Rattle.cedar_names.specs.ConditionalExpr.{positional_reference}
-use Rattle.cedar_names.specs.Declaration.{action}
-use Rattle.cedar_names.specs.declared.json_schema.conditional_name.ConditionalName.{ConditionalName}
 use Rattle.cedar_fragments.proofs.FragmentLemmas.{exit_holds}
 use Rattle.cedar_fragments.proofs.namespace.qualify_actions.ActionFragment+ConditionalName+ConditionalName.fully_qualify_type_references.Goals as goal
 

@@ -1,22 +1,12 @@
 use Rattle.std.proofs.Common.{◌∷◌, ap, arith}
 use Rattle.std.proofs.lemmas.List.{nil_from_length}
 use Rattle.std.specs.List.{flat_map}
-use Rattle.cedar_below.specs.EntityUID.{uid_loc, uid_of, uid_type_loc}
-use Rattle.cedar_below.specs.declared.entity_type.EntityType.{EntityType}
-use Rattle.cedar_below.specs.declared.internal_name.InternalName.{InternalName}
+use Rattle.cedar_fragments.specs.Words.{ConditionalName, EntityType, InternalName, action, action_def_locs, action_fragment_body, action_fragment_declarations, held_names, no_locs, positional_reference, resolved_action_type, resolved_reference, uid_loc, uid_of, uid_type_loc}
 use Rattle.cedar_declarations.proofs.OccurrenceLemmas.{Contains-image}
-use Rattle.cedar_declarations.specs.ResolvedExpr.{resolved_reference}
 use Rattle.cedar_fragments.proofs.Pairwise.{turn_none, turn_more, turn_all, turn_next}
 use Rattle.cedar_fragments.proofs.OneMore.{flat_one_more}
 use Rattle.cedar_fragments.proofs.ResolvedBags.{resolved_turn, unresolvable_declaration}
 use Rattle.cedar_fragments.proofs.UnresolvableLemmas.{resolves_declared_action}
-use Rattle.cedar_fragments.specs.ActionDeclarations.{action_fragment_body, action_fragment_declarations}
-use Rattle.cedar_fragments.specs.FragmentDeclarations.{resolved_action_type}
-use Rattle.cedar_fragments.specs.FragmentLocs.{action_def_locs, no_locs}
-use Rattle.cedar_fragments.specs.HeldNames.{held_names}
-use Rattle.cedar_names.specs.ConditionalExpr.{positional_reference}
-use Rattle.cedar_names.specs.Declaration.{action}
-use Rattle.cedar_names.specs.declared.json_schema.conditional_name.ConditionalName.{ConditionalName}
 use Rattle.cedar_fragments.proofs.FragmentLemmas.{exit_holds}
 use Rattle.cedar_fragments.proofs.namespace.qualify_actions.ActionsDef+ConditionalName+ConditionalName.fully_qualify_type_references.Goals as goal
 

@@ -1,20 +1,8 @@
 use Rattle.std.proofs.Common.{◌++◌}
 use Rattle.std.proofs.lemmas.Result.{err_from_is_err_and}
-use Rattle.cedar_below.specs.declared.entity_type.EntityType.{EntityType}
-use Rattle.cedar_below.specs.declared.internal_name.InternalName.{InternalName}
-use Rattle.cedar_declarations.specs.Bag.{Bag}
-use Rattle.cedar_declarations.specs.SchemaError.{qualify_fault}
-use Rattle.cedar_declarations.specs.ResolvedExpr.{resolved_reference}
+use Rattle.cedar_fragments.specs.Words.{Bag, ConditionalName, EntityType, InternalName, IsUnresolvableBag, ValidatorNamespaceDef, action_fragment_declarations, common_type_declarations, conditional_definition, entity_type_declarations, held_names, positional_reference, qualify_fault, resolved_action_type, resolved_definition, resolved_reference}
 use Rattle.cedar_fragments.proofs.FragmentLemmas.{first_included, second_included, third_included, exit_holds}
 use Rattle.cedar_fragments.proofs.ResolvedBags.{ResolvesUnreservedBag, unresolvable_included, refused_included, resolved_append, none_requested}
-use Rattle.cedar_fragments.specs.ActionDeclarations.{action_fragment_declarations}
-use Rattle.cedar_fragments.specs.FragmentDeclarations.{conditional_definition, resolved_definition, resolved_action_type}
-use Rattle.cedar_fragments.specs.HeldNames.{held_names}
-use Rattle.cedar_fragments.specs.QualifyFault.{IsUnresolvableBag}
-use Rattle.cedar_fragments.specs.TypeDeclarations.{common_type_declarations, entity_type_declarations}
-use Rattle.cedar_fragments.specs.declared.namespace.definition.ValidatorNamespaceDef.{ValidatorNamespaceDef}
-use Rattle.cedar_names.specs.ConditionalExpr.{positional_reference}
-use Rattle.cedar_names.specs.declared.json_schema.conditional_name.ConditionalName.{ConditionalName}
 use Rattle.cedar_fragments.proofs.namespace.qualify_definitions.ValidatorNamespaceDef+ConditionalName+ConditionalName.fully_qualify_type_references.Goals as goal
 
 -- the declarations of a definition, by sort

@@ -1,18 +1,11 @@
 use Rattle.std.proofs.Common.{ap, arith, map}
 use Rattle.std.proofs.lemmas.List.{nil_from_length}
-use Rattle.cedar_below.specs.declared.entity_type.EntityType.{EntityType}
-use Rattle.cedar_below.specs.declared.internal_name.InternalName.{InternalName}
+use Rattle.cedar_fragments.specs.Words.{ConditionalName, EntityType, InternalName, ResolvesBag, conditional_definition, conditional_fragment, conditional_pairwise, definition_locs, held_names, located_namespace, no_locs, resolved_definition}
 use Rattle.cedar_below.proofs.TurnLemmas.{turn_weaker}
-use Rattle.cedar_declarations.specs.Resolved.{ResolvesBag}
 use Rattle.cedar_fragments.proofs.FragmentLemmas.{flat_map-included, exit_holds}
 use Rattle.cedar_fragments.proofs.Pairwise.{turn_none, turn_more, turn_all, turn_next}
 use Rattle.cedar_fragments.proofs.OneMore.{one_more}
 use Rattle.cedar_fragments.proofs.ResolvedBags.{ResolvesUnreservedBag, resolved_together, unresolvable_included}
-use Rattle.cedar_fragments.specs.DefinitionsPairwise.{conditional_pairwise, located_namespace}
-use Rattle.cedar_fragments.specs.FragmentDeclarations.{conditional_definition, resolved_definition, conditional_fragment}
-use Rattle.cedar_fragments.specs.FragmentLocs.{definition_locs, no_locs}
-use Rattle.cedar_fragments.specs.HeldNames.{held_names}
-use Rattle.cedar_names.specs.declared.json_schema.conditional_name.ConditionalName.{ConditionalName}
 use Rattle.cedar_fragments.proofs.namespace.qualify_definitions.ValidatorSchemaFragment+ConditionalName+ConditionalName.fully_qualify_type_references.Goals as goal
 
 -- at first no definition is resolved

@@ -1,22 +1,12 @@
 use Rattle.std.proofs.Common.{◌∷◌, refl, inl, ap, arith}
 use Rattle.std.proofs.lemmas.List.{nil_from_length}
 use Rattle.std.specs.List.{flat_map}
-use Rattle.cedar_below.specs.InternalName.{name_loc, name_of}
-use Rattle.cedar_below.specs.declared.internal_name.InternalName.{InternalName}
+use Rattle.cedar_fragments.specs.Words.{ConditionalName, HasToResolve, InternalName, Refers, common_type, common_type_declarations, common_type_locs, held_names, name_loc, name_of, no_locs, positional_expr, positional_reference, resolved_expr}
 use Rattle.cedar_declarations.proofs.OccurrenceLemmas.{Contains-image}
-use Rattle.cedar_declarations.specs.Counted.{HasToResolve}
-use Rattle.cedar_declarations.specs.Mentions.{Refers}
-use Rattle.cedar_declarations.specs.ResolvedExpr.{resolved_expr}
 use Rattle.cedar_fragments.proofs.Pairwise.{turn_none, turn_more, turn_all, turn_next}
 use Rattle.cedar_fragments.proofs.OneMore.{flat_one_more}
 use Rattle.cedar_fragments.proofs.QualifiedLemmas.{refused_wider}
 use Rattle.cedar_fragments.proofs.UnresolvableLemmas.{to_resolve, resolves_declared}
-use Rattle.cedar_fragments.specs.FragmentLocs.{common_type_locs, no_locs}
-use Rattle.cedar_fragments.specs.HeldNames.{held_names}
-use Rattle.cedar_fragments.specs.TypeDeclarations.{common_type_declarations}
-use Rattle.cedar_names.specs.ConditionalExpr.{positional_reference, positional_expr}
-use Rattle.cedar_names.specs.Declaration.{common_type}
-use Rattle.cedar_names.specs.declared.json_schema.conditional_name.ConditionalName.{ConditionalName}
 use Rattle.cedar_fragments.proofs.FragmentLemmas.{exit_holds}
 use Rattle.cedar_fragments.proofs.namespace.qualify_entities.CommonTypeDefs+ConditionalName.fully_qualify_type_references.Goals as goal
 

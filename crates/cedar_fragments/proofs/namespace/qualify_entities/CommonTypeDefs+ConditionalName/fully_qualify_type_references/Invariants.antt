@@ -1,17 +1,8 @@
 use Rattle.std.proofs.Common.{◌≡◌}
 use Rattle.std.specs.List.{flat_map}
 use Rattle.std.specs.Vec.Iter.{into_iter_items}
-use Rattle.cedar_below.specs.InternalName.{name_of}
-use Rattle.cedar_below.specs.declared.internal_name.InternalName.{InternalName}
-use Rattle.cedar_declarations.specs.Resolved.{ResolvesDeclaration}
-use Rattle.cedar_declarations.specs.ResolvedExpr.{resolved_expr}
+use Rattle.cedar_fragments.specs.Words.{ConditionalName, InternalName, ResolvesDeclaration, common_type, common_type_locs, declared_as, held_names, name_of, no_locs, positional_expr, resolved_expr}
 use Rattle.cedar_fragments.proofs.Pairwise.{TurnSoFar}
-use Rattle.cedar_fragments.specs.DeclaredAs.{declared_as}
-use Rattle.cedar_fragments.specs.FragmentLocs.{common_type_locs, no_locs}
-use Rattle.cedar_fragments.specs.HeldNames.{held_names}
-use Rattle.cedar_names.specs.ConditionalExpr.{positional_expr}
-use Rattle.cedar_names.specs.Declaration.{common_type}
-use Rattle.cedar_names.specs.declared.json_schema.conditional_name.ConditionalName.{ConditionalName}
 use Rattle.cedar_fragments.proofs.namespace.qualify_entities.CommonTypeDefs+ConditionalName.fully_qualify_type_references.Given as goal
 
 abbrev pub invariant-loop-def : goal.invariant-loop-def

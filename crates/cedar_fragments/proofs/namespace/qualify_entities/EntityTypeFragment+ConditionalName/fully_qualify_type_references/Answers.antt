@@ -1,18 +1,8 @@
 use Rattle.std.proofs.Common.{ap, sym, refl, inl, inr, map, Contains, Some, ◌≡◌, ◌∙◌, ◌++◌}
 use Rattle.std.specs.Option.{option_map}
-use Rattle.cedar_declarations.specs.Mentions.{Refers}
+use Rattle.cedar_fragments.specs.Words.{ConditionalName, Entity, Expr, HasToResolveIn, Reference, Refers, entity_type, external, fragment_body, held_names, positional_expr, positional_reference, standard}
 use Rattle.cedar_fragments.proofs.LocLemmas.{none_in_names}
 use Rattle.cedar_fragments.proofs.QualifiedLemmas.{refused_wider}
-use Rattle.cedar_fragments.specs.HeldNames.{held_names}
-use Rattle.cedar_fragments.specs.QualifyFault.{HasToResolveIn}
-use Rattle.cedar_fragments.specs.TypeDeclarations.{fragment_body}
-use Rattle.cedar_names.specs.ConditionalExpr.{positional_reference, positional_expr}
-use Rattle.cedar_names.specs.Declaration.{entity_type}
-use Rattle.cedar_names.specs.EntityBody.{standard, external}
-use Rattle.cedar_names.specs.Expr.{Expr}
-use Rattle.cedar_names.specs.Reference.{Reference}
-use Rattle.cedar_names.specs.declared.json_schema.conditional_name.ConditionalName.{ConditionalName}
-use Rattle.cedar_names.specs.declared.json_schema.reference_type.ReferenceType.TheVariants.{Entity}
 use Rattle.cedar_fragments.proofs.FragmentLemmas.{exit_holds}
 use Rattle.cedar_fragments.proofs.namespace.qualify_entities.EntityTypeFragment+ConditionalName.fully_qualify_type_references.Goals as goal
 

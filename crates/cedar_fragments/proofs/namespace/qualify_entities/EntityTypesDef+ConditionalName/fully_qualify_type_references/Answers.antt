@@ -1,22 +1,12 @@
 use Rattle.std.proofs.Common.{◌∷◌, ap, arith}
 use Rattle.std.proofs.lemmas.List.{nil_from_length}
 use Rattle.std.specs.List.{flat_map}
-use Rattle.cedar_below.specs.EntityType.{type_loc, type_name}
-use Rattle.cedar_below.specs.declared.internal_name.InternalName.{InternalName}
+use Rattle.cedar_fragments.specs.Words.{ConditionalName, HasToResolve, HasToResolveIn, InternalName, entity_type, entity_type_declarations, entity_type_locs, fragment_body, held_names, no_locs, positional_reference, resolved_reference, type_loc, type_name}
 use Rattle.cedar_declarations.proofs.OccurrenceLemmas.{Contains-image}
-use Rattle.cedar_declarations.specs.Counted.{HasToResolve}
-use Rattle.cedar_declarations.specs.ResolvedExpr.{resolved_reference}
 use Rattle.cedar_fragments.proofs.Pairwise.{turn_none, turn_more, turn_all, turn_next}
 use Rattle.cedar_fragments.proofs.OneMore.{flat_one_more}
 use Rattle.cedar_fragments.proofs.QualifiedLemmas.{refused_wider}
 use Rattle.cedar_fragments.proofs.UnresolvableLemmas.{to_resolve, resolves_declared}
-use Rattle.cedar_fragments.specs.FragmentLocs.{entity_type_locs, no_locs}
-use Rattle.cedar_fragments.specs.HeldNames.{held_names}
-use Rattle.cedar_fragments.specs.QualifyFault.{HasToResolveIn}
-use Rattle.cedar_fragments.specs.TypeDeclarations.{fragment_body, entity_type_declarations}
-use Rattle.cedar_names.specs.ConditionalExpr.{positional_reference}
-use Rattle.cedar_names.specs.Declaration.{entity_type}
-use Rattle.cedar_names.specs.declared.json_schema.conditional_name.ConditionalName.{ConditionalName}
 use Rattle.cedar_fragments.proofs.FragmentLemmas.{exit_holds}
 use Rattle.cedar_fragments.proofs.namespace.qualify_entities.EntityTypesDef+ConditionalName.fully_qualify_type_references.Goals as goal
 

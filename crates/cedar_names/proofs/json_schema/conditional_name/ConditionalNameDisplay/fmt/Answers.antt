@@ -1,9 +1,7 @@
 use Rattle.std.proofs.Common.{◌≡◌, ◌-◌, Some, length, slice_get, ap, sym, subst}
 use Rattle.std.specs.Option.{option_map}
 use Rattle.std.specs.Fmt.{DisplaysOnOk}
-use Rattle.cedar_below.specs.InternalName.{name_of}
-use Rattle.cedar_below.specs.PlainName.{name_text}
-use Rattle.cedar_names.specs.ConditionalName.{last_possibility}
+use Rattle.cedar_names.specs.Words.{last_possibility, name_of, name_text}
 use Rattle.cedar_names.proofs.Lasts.{last-image}
 use Rattle.cedar_names.proofs.json_schema.conditional_name.ConditionalNameDisplay.fmt.Goals as goal
 

@@ -5,9 +5,7 @@ use Rattle.std.specs.declared.cmp.Ordering.TheVariants.{Equal}
 use Rattle.cedar_below.proofs.Names.{name_ord-Equal}
 use Rattle.cedar_below.proofs.TurnLemmas.{turn_weaker}
 use Rattle.cedar_below.specs.contracts.name.NameOrd.TheImpl as name_ord
-use Rattle.cedar_below.specs.declared.memory.Memory.{Memory}
-use Rattle.cedar_below.specs.declared.name.Name.{Name}
-use Rattle.cedar_names.specs.DeclarationCopies.{IsDefinitionCopy, IsNamespaceCopy}
+use Rattle.cedar_names.specs.Words.{IsDefinitionCopy, IsNamespaceCopy, Memory, Name}
 use Rattle.cedar_names.proofs.json_schema.fragment.Fragment.clone.Goals as goal
 
 -- the copy of the name of a namespace ties with it

@@ -3,10 +3,8 @@ use Rattle.cedar_below.proofs.Ids.{unreserved_id_ord-Equal}
 use Rattle.cedar_below.proofs.ShownLemmas.{copy_ties}
 use Rattle.cedar_below.proofs.Texts.{text_cmp-Equal}
 use Rattle.cedar_below.proofs.TurnLemmas.{turn_weaker}
-use Rattle.cedar_below.specs.UnreservedId.{unreserved_id_text}
+use Rattle.cedar_names.specs.Words.{IsActionTypeCopy, IsCommonIdCopy, IsCommonTypeCopy, IsEntityTypeCopy, IsIdCopy, IsTextCopy, common_type_text, unreserved_id_text}
 use Rattle.cedar_below.specs.contracts.unreserved_id.UnreservedIdOrd.TheImpl as unreserved_id_ord
-use Rattle.cedar_names.specs.CommonTypeId.{common_type_text}
-use Rattle.cedar_names.specs.DeclarationCopies.{IsActionTypeCopy, IsCommonIdCopy, IsCommonTypeCopy, IsEntityTypeCopy, IsIdCopy, IsTextCopy}
 use Rattle.cedar_names.specs.contracts.json_schema.common_type_id.CommonTypeIdOrd.TheImpl as common_type_id_ord
 use Rattle.cedar_names.proofs.json_schema.fragment.NamespaceDefinition.clone.Goals as goal
 

@@ -1,0 +1,36 @@
+-- The words of clauses, from one place.
+pub use Rattle.cedar_below.specs.Words.{FeedsVariantFirst, HoldsPairwise, IsNameFault, IsNameText, PlainName, Text, each_after, items_of, name_loc, name_of, name_text, text_cmp, unreserved_id_text}
+pub use Rattle.cedar_below.specs.declared.internal_name.InternalName.{InternalName}
+pub use Rattle.cedar_below.specs.declared.loc.Loc.{Loc}
+pub use Rattle.cedar_below.specs.declared.memory.Memory.{Memory}
+pub use Rattle.cedar_below.specs.declared.name.Name.{Name}
+pub use Rattle.cedar_below.specs.declared.unreserved_id.UnreservedId.{UnreservedId}
+pub use Rattle.cedar_names.specs.ActionBody.{ActionBody, Requests, action_body, applies_to, elsewhere, parent_action, parent_actions, parent_type, plain_action_type, requests, requests_by}
+pub use Rattle.cedar_names.specs.CommonTypeId.{common_type_text}
+pub use Rattle.cedar_names.specs.ConditionalExpr.{ReferencesFit, conditional_attribute, conditional_expr, conditional_record, conditional_variant, own_reference, positional_attribute, positional_expr, positional_record, positional_reference, positional_variant}
+pub use Rattle.cedar_names.specs.ConditionalName.{conditional_reference, last_possibility, possibilities_of, possibility_locs, reference_type_of}
+pub use Rattle.cedar_names.specs.Copies.{AlikeConditional, AlikeEntity, AlikeFull, IsAttributeCopy, IsRecordCopy, IsTypeCopy, IsVariantCopy, LocatesAlike, RefersAlike, ShowsSame}
+pub use Rattle.cedar_names.specs.Declaration.{Body, Declaration, action, action_declarations, common_declarations, common_type, entity_declarations, entity_type, raw_bag, raw_declarations, raw_fragment}
+pub use Rattle.cedar_names.specs.DeclarationCopies.{AreEntriesCopied, IsActionReferenceCopy, IsActionTypeCopy, IsApplySpecCopy, IsCommonIdCopy, IsCommonTypeCopy, IsDefinitionCopy, IsEntityTypeCopy, IsFragmentCopy, IsIdCopy, IsKindCopy, IsNamespaceCopy, IsStandardCopy, IsTextCopy, IsValueCopy}
+pub use Rattle.cedar_names.specs.EntityBody.{EntityBody, enumerated, external, kind_body, raw_entity_body, standard}
+pub use Rattle.cedar_names.specs.Expr.{Expr, Members, extension_expr, long_expr, member, members_from, named, no_member, record_expr, set_expr, text_expr, truth_expr}
+pub use Rattle.cedar_names.specs.NamespaceName.{namespace_name}
+pub use Rattle.cedar_names.specs.Nesting.{attribute_nesting, attribute_nesting_step, greatest, record_nesting, record_nesting_step, type_nesting, type_nesting_step, variant_nesting, variant_nesting_step}
+pub use Rattle.cedar_names.specs.PlainMembers.{plain_members}
+pub use Rattle.cedar_names.specs.PossibleNames.{locs_of, names_of}
+pub use Rattle.cedar_names.specs.RawExpr.{raw_attribute, raw_expr, raw_record, raw_reference, raw_variant}
+pub use Rattle.cedar_names.specs.RawName.{raw_loc, raw_name}
+pub use Rattle.cedar_names.specs.Reference.{ActionReference, Reference, name_within, names_within, path_within, possible_names, qualified_name, reference_to}
+pub use Rattle.cedar_names.specs.ReferenceText.{action_reference_text, possibilities_text, qualify_text, reference_kind_text, undeclared_text, undeclared_types_text, written_type_text}
+pub use Rattle.cedar_names.specs.ReservedTypeWord.{IsReservedTypeWord, reserved_type_words}
+pub use Rattle.cedar_names.specs.TypeExpr.{attribute_step, flag_and_expr, record_step, record_type_expr, type_expr, type_step, variant_expr, variant_step}
+pub use Rattle.cedar_names.specs.TypeLocs.{Locs, attribute_locs, attribute_locs_step, record_locs, record_locs_step, type_locs, type_locs_step, variant_locs, variant_locs_step}
+pub use Rattle.cedar_names.specs.declared.json_schema.common_type_id.CommonTypeId.{CommonTypeId}
+pub use Rattle.cedar_names.specs.declared.json_schema.conditional_name.ConditionalName.{ConditionalName}
+pub use Rattle.cedar_names.specs.declared.json_schema.raw_name.RawName.{RawName}
+pub use Rattle.cedar_names.specs.declared.json_schema.reference_type.ReferenceType.{ReferenceType}
+pub use Rattle.cedar_names.specs.declared.json_schema.reference_type.ReferenceType.TheVariants.{Common, CommonOrEntity, Entity}
+pub use Rattle.cedar_names.specs.declared.json_schema.type_of.RecordType.{RecordType, fold-roll-RecordType, fold_out-RecordType, out-RecordType, roll-RecordType}
+pub use Rattle.cedar_names.specs.declared.json_schema.type_of.Type.{CommonTypeRef, Plain, «Type», the_lemmas}
+pub use Rattle.cedar_names.specs.declared.json_schema.type_of.TypeOfAttribute.{TypeOfAttribute, fold_out-TypeOfAttribute, out-TypeOfAttribute}
+pub use Rattle.cedar_names.specs.declared.json_schema.type_of.TypeVariant.{Boolean, EntityOrCommon, Extension, Long, Record, Set, String, TypeVariant}
