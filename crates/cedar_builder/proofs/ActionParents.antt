@@ -1,34 +1,12 @@
 -- Parents and descent of actions, as edges and in the bag.
 use Rattle.std.proofs.Common.{◌≡◌, List, map, ap, sym, ◌∙◌, refl, inl, Contains, inr}
 use Rattle.std.proofs.lemmas.Simd.{map-map}
-use Rattle.cedar_table.specs.Entries.{Entries}
+use Rattle.cedar_builder.specs.Words.{ActionBody, ActionFragment, ActionReference, AreActionsOf, Bag, Chain, EntityType, EntityUID, Entries, Extensions, HasParentAction, InternalName, IsActionParent, IsDescendantAction, NamesAction, PlainUid, TypeScope, ValidatorEntityType, action_fragment_body, action_uids, declared_actions, more, one, parents_in, plain_edge, reference_to_action, resolved_action_type, resolved_reference, uid_of}
 use Rattle.cedar_below.proofs.Uids.{entity_uid_eq-same}
-use Rattle.cedar_below.specs.Chain.{Chain, one, more}
-use Rattle.cedar_below.specs.EntityUID.{uid_of}
-use Rattle.cedar_below.specs.PlainUid.{PlainUid}
 use Rattle.cedar_below.specs.contracts.entity_uid.EntityUIDPartialEq.TheImpl as uid_eq
-use Rattle.cedar_below.specs.declared.entity_type.EntityType.{EntityType}
-use Rattle.cedar_below.specs.declared.entity_uid.EntityUID.{EntityUID}
-use Rattle.cedar_below.specs.declared.extension.Extensions.{Extensions}
-use Rattle.cedar_below.specs.declared.internal_name.InternalName.{InternalName}
 use Rattle.cedar_declarations.proofs.OccurrenceLemmas.{Contains-image}
-use Rattle.cedar_declarations.specs.Bag.{Bag, action_uids, declared_actions}
-use Rattle.cedar_declarations.specs.Descent.{HasParentAction, IsDescendantAction}
-use Rattle.cedar_declarations.specs.Names.{NamesAction}
-use Rattle.cedar_declarations.specs.ResolvedExpr.{resolved_reference}
-use Rattle.cedar_declarations.specs.Together.{IsActionParent}
-use Rattle.cedar_elaboration.specs.declared.type_scope.TypeScope.{TypeScope}
-use Rattle.cedar_fragments.specs.ActionDeclarations.{action_fragment_body}
-use Rattle.cedar_fragments.specs.FragmentDeclarations.{resolved_action_type}
-use Rattle.cedar_fragments.specs.declared.namespace.actions.ActionFragment.{ActionFragment}
-use Rattle.cedar_names.specs.ActionBody.{ActionBody}
-use Rattle.cedar_names.specs.Reference.{ActionReference}
-use Rattle.cedar_schema_elements.specs.declared.entity_type.ValidatorEntityType.{ValidatorEntityType}
 use Rattle.cedar_builder.proofs.NodeParents as any
 use Rattle.cedar_builder.specs.ActionNodes.{IsAbove}
-use Rattle.cedar_builder.specs.ActionSteps.{reference_to_action}
-use Rattle.cedar_builder.specs.ActionsReady.{AreActionsOf}
-use Rattle.cedar_builder.specs.DeclaredNodes.{parents_in, plain_edge}
 
 -- the uid of an action with the parents that are declared
 abbrev pub listed : EntityUID × ActionFragment InternalName EntityType → PlainUid × List ActionReference

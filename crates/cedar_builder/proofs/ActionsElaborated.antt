@@ -1,28 +1,9 @@
 -- What is elaborated of the requests of an action.
 use Rattle.std.proofs.Common.{◌≡◌, List, [], ◌∷◌, Option, Some, map, ap, refl, inl, inr, arith, Contains}
 use Rattle.std.specs.Option.{unwrap_or}
-use Rattle.cedar_schema_elements.specs.ActionKind.{kind_context, kind_principals, kind_resources}
+use Rattle.cedar_builder.specs.Words.{ActionKind, AreNamed, ElaboratesAs, Entity, EntityType, Expr, Fault, InternalName, IsElaboratedKind, IsRequestTypeFault, IsRequestsFault, PlainName, PlainUid, Reference, SameItems, Ty, TypeScope, defined_action, external_action, kind_context, kind_principals, kind_resources, name_of, reference_to_one, requests, resolved_reference, type_name}
 use Rattle.cedar_below.proofs.Lists.{Contains-preimage}
-use Rattle.cedar_below.specs.EntityType.{type_name}
-use Rattle.cedar_below.specs.InternalName.{name_of}
-use Rattle.cedar_below.specs.Lists.{SameItems}
-use Rattle.cedar_below.specs.PlainName.{PlainName}
-use Rattle.cedar_below.specs.PlainUid.{PlainUid}
-use Rattle.cedar_below.specs.declared.entity_type.EntityType.{EntityType}
-use Rattle.cedar_below.specs.declared.internal_name.InternalName.{InternalName}
 use Rattle.cedar_declarations.proofs.OccurrenceLemmas.{Contains-image}
-use Rattle.cedar_declarations.specs.Fault.{Fault}
-use Rattle.cedar_declarations.specs.PlainSchema.{ActionKind, defined_action, external_action}
-use Rattle.cedar_declarations.specs.Resolved.{reference_to_one}
-use Rattle.cedar_declarations.specs.ResolvedExpr.{resolved_reference}
-use Rattle.cedar_names.specs.ActionBody.{requests}
-use Rattle.cedar_names.specs.Expr.{Expr}
-use Rattle.cedar_names.specs.Reference.{Reference}
-use Rattle.cedar_names.specs.declared.json_schema.reference_type.ReferenceType.TheVariants.{Entity}
-use Rattle.cedar_type_rules.specs.Ty.{Ty}
-use Rattle.cedar_builder.specs.ActionSteps.{AreNamed, IsRequestTypeFault, IsRequestsFault, IsElaboratedKind}
-use Rattle.cedar_elaboration.specs.Scope.{ElaboratesAs}
-use Rattle.cedar_elaboration.specs.declared.type_scope.TypeScope.{TypeScope}
 
 -- references to one name each are the same where the names are
 pub one_name : {a b : PlainName} → reference_to_one Entity a ≡ reference_to_one Entity b → a ≡ b

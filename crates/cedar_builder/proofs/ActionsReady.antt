@@ -6,55 +6,20 @@ use Rattle.std.proofs.lemmas.Simd.{map-map}
 use Rattle.cedar_table.specs.Entries.{Entries as TableEntries}
 use Rattle.std.specs.List.{flat_map}
 use Rattle.cedar_schema_elements.proofs.SetLemmas.{list_any-uids}
-use Rattle.cedar_schema_elements.specs.ValidatorActionId.{action_of, plain_action_entry}
-use Rattle.cedar_schema_elements.specs.declared.action_id.ValidatorActionId.{ValidatorActionId}
+use Rattle.cedar_builder.specs.Words.{ActionBody, ActionFragment, ActionKind, ActionRequests, ActionSays, ActionsAreSound, AreActionsOf, AreNamed, AreReady, AreSoundRequests, Bag, CountsInRequests, Covers, Entity, EntityType, EntityUID, Expr, Extensions, Fault, InternalName, IsActionType, IsAtEntityTypePosition, IsCollected, IsCollectedAt, IsCollectingFault, IsCounted, IsDeclaredAction, IsDeclaredActionKind, IsDefined, IsDescendantAction, IsElaboratedAction, IsElaboratedKind, IsFault, IsNameFault, IsNamedBy, IsPrincipalOrResource, IsRequestsFault, PlainName, PlainUid, Reference, Requests, ResolvesTo, SameAction, SaysTogether, Twice, TypeScope, ValidatorActionId, ValidatorEntityType, action_definition_in, action_of, action_uids, context_not_record, declared_actions, declared_entities, defined_action, defined_actions, defined_in, defined_names, definition_in, definitions, duplicate_action, elsewhere, extensions_in_scope, external_action, fragment_requests, is_action_definition, name_of, names_in, names_of, out_of_memory, plain_action_entry, reference_to_one, requests, requests_in, resolved_reference, uid_of}
 use Rattle.cedar_below.proofs.Lists.{Contains-preimage}
-use Rattle.cedar_below.specs.EntityUID.{uid_of}
-use Rattle.cedar_below.specs.InternalName.{name_of}
-use Rattle.cedar_below.specs.PlainName.{PlainName, IsActionType}
-use Rattle.cedar_below.specs.PlainUid.{PlainUid}
 use Rattle.cedar_below.specs.contracts.entity_uid.EntityUIDPartialEq.TheImpl as uid_eq
-use Rattle.cedar_below.specs.declared.entity_type.EntityType.{EntityType}
-use Rattle.cedar_below.specs.declared.entity_uid.EntityUID.{EntityUID}
-use Rattle.cedar_below.specs.declared.extension.Extensions.{Extensions}
-use Rattle.cedar_below.specs.declared.internal_name.InternalName.{InternalName}
 use Rattle.cedar_declarations.proofs.DeclarationLemmas.{action_declaration}
 use Rattle.cedar_declarations.proofs.Definitions.{declared_definition, said_definition}
 use Rattle.cedar_declarations.proofs.OccurrenceLemmas.{Contains-image, Contains-single}
 use Rattle.cedar_declarations.proofs.ResolutionLemmas.{elaborated_once}
-use Rattle.cedar_declarations.specs.Bag.{Bag, action_uids, declared_actions, declared_entities, defined_names, definitions}
-use Rattle.cedar_declarations.specs.Counted.{CountsInRequests, IsCounted, IsAtEntityTypePosition, IsPrincipalOrResource}
-use Rattle.cedar_declarations.specs.DeclaredSchema.{IsDeclaredAction, IsDeclaredActionKind, IsNamedBy}
-use Rattle.cedar_declarations.specs.Defined.{names_of}
-use Rattle.cedar_declarations.specs.Descent.{IsDescendantAction}
-use Rattle.cedar_declarations.specs.Fault.{Fault, duplicate_action, context_not_record, out_of_memory}
-use Rattle.cedar_declarations.specs.IllFormed.{IsFault}
-use Rattle.cedar_declarations.specs.Names.{IsDefined, ResolvesTo}
-use Rattle.cedar_below.specs.Lists.{Twice}
-use Rattle.cedar_declarations.specs.PlainSchema.{ActionKind, defined_action, external_action}
-use Rattle.cedar_declarations.specs.Resolved.{reference_to_one}
-use Rattle.cedar_declarations.specs.ResolvedExpr.{resolved_reference}
-use Rattle.cedar_declarations.specs.Together.{ActionSays, action_definition_in, defined_actions}
-use Rattle.cedar_schema_elements.specs.declared.entity_type.ValidatorEntityType.{ValidatorEntityType}
-use Rattle.cedar_fragments.specs.ActionDeclarations.{fragment_requests}
-use Rattle.cedar_fragments.specs.declared.namespace.actions.ActionFragment.{ActionFragment}
-use Rattle.cedar_fragments.specs.declared.namespace.actions.ActionRequests.{ActionRequests}
-use Rattle.cedar_names.specs.ActionBody.{ActionBody, Requests, requests, elsewhere}
-use Rattle.cedar_names.specs.Expr.{Expr}
-use Rattle.cedar_names.specs.Reference.{Reference}
-use Rattle.cedar_names.specs.declared.json_schema.reference_type.ReferenceType.TheVariants.{Entity}
 use Rattle.cedar_builder.proofs.ActionParents.{AreEdges, chain_descends, chain_to_same, descendant_declared, descends_by_chain, edge_declared}
 use Rattle.cedar_builder.proofs.ActionsTogether.{definitions_alike}
 use Rattle.cedar_builder.proofs.NodesCollected.{by_test}
 use Rattle.cedar_builder.proofs.NodesLinked.{alike_after, alike_before, collected_apart, descendants}
 use Rattle.cedar_builder.proofs.ReadyLemmas.{action_type, expr_fault}
-use Rattle.cedar_builder.specs.DeclaredNodes.{AreReady, IsCollected, IsCollectedAt, IsCollectingFault, SaysTogether, defined_in, definition_in}
-use Rattle.cedar_builder.specs.ActionNodes.{AreLinked, IsElaboratedAction, IsLinkingFault, SameAction, has_descendant, node_at}
-use Rattle.cedar_builder.specs.ActionsReady.{AreActionsOf}
-use Rattle.cedar_builder.specs.SoundActions.{ActionsAreSound}
-use Rattle.cedar_builder.specs.ActionSteps.{AreNamed, AreSoundRequests, HasNoRecord, IsElaboratedKind, IsNameFault, IsRequestsFault, is_action_definition, names_in, requests_in}
-use Rattle.cedar_elaboration.specs.Scope.{Covers, extensions_in_scope}
-use Rattle.cedar_elaboration.specs.declared.type_scope.TypeScope.{TypeScope}
+use Rattle.cedar_builder.specs.ActionNodes.{AreLinked, IsLinkingFault, has_descendant, node_at}
+use Rattle.cedar_builder.specs.ActionSteps.{HasNoRecord}
 
 abbrev Entry : Type 0
 Entry = PlainUid × Requests

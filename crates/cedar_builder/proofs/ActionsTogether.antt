@@ -2,13 +2,7 @@
 use Rattle.std.proofs.Common.{◌≡◌, ◌↔◌, false, List, refl, sym, ap}
 use Rattle.std.proofs.lemmas.Bool.{false≢true}
 use Rattle.std.specs.List.{flat_map}
-use Rattle.cedar_below.specs.PlainUid.{PlainUid}
-use Rattle.cedar_declarations.specs.PlainSchema.{ActionKind, defined_action, external_action}
-use Rattle.cedar_declarations.specs.Together.{action_definition_in}
-use Rattle.cedar_elaboration.specs.declared.type_scope.TypeScope.{TypeScope}
-use Rattle.cedar_names.specs.ActionBody.{Requests, requests, elsewhere}
-use Rattle.cedar_builder.specs.ActionSteps.{IsElaboratedKind, is_action_definition}
-use Rattle.cedar_builder.specs.DeclaredNodes.{definition_in}
+use Rattle.cedar_builder.specs.Words.{ActionKind, IsElaboratedKind, PlainUid, Requests, TypeScope, action_definition_in, defined_action, definition_in, elsewhere, external_action, is_action_definition, requests}
 
 -- declarations give the same definitions by the test
 pub definitions_alike : (entries : List (PlainUid × Requests))

@@ -1,15 +1,8 @@
 -- Types that stand for no record type.
 use Rattle.std.proofs.Common.{◌≡◌, Bool, None, refl, ap, sym, ◌∙◌}
-use Rattle.cedar_declarations.specs.ElaboratesTo.{IsRecordType}
-use Rattle.cedar_types.specs.Meaning.{ty_of, type_step, attribute_step, attributes_step, fields_of, attribute_of}
-use Rattle.cedar_type_rules.specs.Ty.{Ty, Fields}
-use Rattle.cedar_types.specs.declared.attributes.AttributeType.{AttributeType}
-use Rattle.cedar_types.specs.declared.attributes.Attributes.{Attributes}
+use Rattle.cedar_builder.specs.Words.{AttributeType, Attributes, Fields, IsRecordType, OpenTag, Record, Ty, «Type», attribute_of, attribute_step, attributes_step, fields_of, fold_out-Type, map-Type, out-Type, roll-Type, roll-out-Type, rolls-Record, ty_of, type_step}
 use Rattle.cedar_types.specs.declared.entity_kind.EntityKind.TheVariants as kind
-use Rattle.cedar_type_rules.specs.declared.open_tag.OpenTag.{OpenTag}
-use Rattle.cedar_types.specs.declared.types.Type.{«Type», Record, out-Type, roll-Type, roll-out-Type, fold_out-Type, map-Type}
 use Rattle.cedar_types.specs.declared.types.Type.TheOpen as layer
-use Rattle.cedar_types.specs.declared.types.Type.TheVariants.{rolls-Record}
 
 -- what one layer of a type stands for
 abbrev folded : layer.Type-F «Type» AttributeType Attributes → Ty

@@ -6,18 +6,13 @@ use Rattle.std.proofs.lemmas.Map.Entries.{lookup_from_place, place_from_lookup}
 use Rattle.std.proofs.lemmas.Option.{get_or_from_slice_get, slice_get-get_or, slice_get_within}
 use Rattle.std.specs.HashMap.{IsUnique}
 use Rattle.cedar_below.proofs.Names.{entity_type_eq-same}
-use Rattle.cedar_below.specs.EntityType.{type_name}
+use Rattle.cedar_builder.specs.Words.{EntityType, IsEnumerated, IsEnumeratedAt, IsExternalAt, LeadsTo, ValidatorEntityType, entity_type_of, has_descendant, node_at, type_name}
 use Rattle.cedar_below.specs.contracts.entity_type.EntityTypeEq.TheImpl as entity_type_equal
 use Rattle.cedar_below.specs.contracts.entity_type.EntityTypePartialEq.TheImpl as entity_type_eq
-use Rattle.cedar_below.specs.declared.entity_type.EntityType.{EntityType}
 use Rattle.cedar_graph.proofs.KeyedEdges.{some_with}
 use Rattle.cedar_graph.proofs.Numbers.{get_alike}
 use Rattle.cedar_declarations.proofs.OccurrenceLemmas.{Contains-image, Contains-single}
-use Rattle.cedar_schema_elements.specs.ValidatorEntityType.{entity_type_of}
-use Rattle.cedar_schema_elements.specs.declared.entity_type.ValidatorEntityType.{ValidatorEntityType}
 use Rattle.cedar_types.proofs.MemberLemmas.{Contains-named, list_any-names}
-use Rattle.cedar_declarations.specs.ValidSchema.{IsEnumerated}
-use Rattle.cedar_builder.specs.EntityTypeNodes.{IsEnumeratedAt, IsExternalAt, LeadsTo, has_descendant, node_at}
 
 -- what holds of each that was shown, and of one more
 pub shown_more : {A B : Type 0} (f : A → B) (P : B → Type 0) (xs : List A) (x : A) → ((y : B) → Contains (map f xs) y → P y) → P (f x)

@@ -1,15 +1,8 @@
 -- Entity types that are linked, and what is checked of the links.
 use Rattle.std.proofs.Common.{◌≡◌, ◌↔◌, List, Option, None, Some, IsSome, HashMap, sym, subst, inr, Contains}
-use Rattle.cedar_below.specs.Chain.{Chain}
+use Rattle.cedar_builder.specs.Words.{AreLinked, AreTheSame, Chain, EntityType, Fault, IsAbove, IsEdgeSound, IsEnumerated, IsEnumeratedAt, IsExternalAt, IsLinkFault, IsLinkingFault, LeadsTo, PlainEntityType, ValidatorEntityType, external_kind, node_at}
 use Rattle.cedar_below.specs.contracts.entity_type.EntityTypeEq.TheImpl as entity_type_equal
-use Rattle.cedar_below.specs.declared.entity_type.EntityType.{EntityType}
 use Rattle.cedar_graph.proofs.Numbers.{get_alike}
-use Rattle.cedar_declarations.specs.EntityTypeKind.{external_kind}
-use Rattle.cedar_declarations.specs.Fault.{Fault}
-use Rattle.cedar_schema_elements.specs.ValidatorEntityType.{PlainEntityType}
-use Rattle.cedar_schema_elements.specs.declared.entity_type.ValidatorEntityType.{ValidatorEntityType}
-use Rattle.cedar_declarations.specs.ValidSchema.{IsEnumerated}
-use Rattle.cedar_builder.specs.EntityTypeNodes.{AreLinked, AreTheSame, IsAbove, IsEdgeSound, IsEnumeratedAt, IsExternalAt, IsLinkFault, IsLinkingFault, LeadsTo, node_at}
 
 -- an enumerated entity type stands at a key before and after
 enumerated_same : (o p : Option ValidatorEntityType) → AreTheSame o p → IsEnumeratedAt o ↔ IsEnumeratedAt p

@@ -2,31 +2,10 @@
 use Rattle.std.proofs.Common.{◌≡◌, List, map, ap, sym, ◌∙◌, refl, inl, Contains, inr}
 use Rattle.std.proofs.lemmas.Simd.{map-map}
 use Rattle.cedar_below.proofs.Names.{entity_type_eq-same}
-use Rattle.cedar_below.specs.Chain.{Chain}
-use Rattle.cedar_below.specs.EntityType.{type_name}
-use Rattle.cedar_below.specs.PlainName.{PlainName, IsReserved}
+use Rattle.cedar_builder.specs.Words.{Bag, Chain, Entity, EntityType, EntityTypeFragment, Extensions, Fault, HasParent, InternalName, IsAbove, IsAtEntityTypePosition, IsDescendant, IsParent, IsReady, IsReserved, PlainName, Reference, ResolvesTo, TypeScope, declared_entities, defined_names, entity_parents, fragment_body, parents_in, plain_edge, reference_to_one, reserved_name, resolved_reference, type_name}
 use Rattle.cedar_below.specs.contracts.entity_type.EntityTypePartialEq.TheImpl as entity_type_eq
-use Rattle.cedar_below.specs.declared.entity_type.EntityType.{EntityType}
-use Rattle.cedar_below.specs.declared.extension.Extensions.{Extensions}
-use Rattle.cedar_below.specs.declared.internal_name.InternalName.{InternalName}
 use Rattle.cedar_declarations.proofs.DeclarationLemmas.{entity_declaration}
-use Rattle.cedar_declarations.specs.Bag.{Bag, declared_entities, defined_names}
-use Rattle.cedar_declarations.specs.Counted.{IsAtEntityTypePosition, entity_parents}
-use Rattle.cedar_declarations.specs.Descent.{HasParent, IsDescendant}
-use Rattle.cedar_declarations.specs.Fault.{Fault, reserved_name}
-use Rattle.cedar_declarations.specs.Names.{ResolvesTo}
-use Rattle.cedar_declarations.specs.Resolved.{reference_to_one}
-use Rattle.cedar_declarations.specs.ResolvedExpr.{resolved_reference}
-use Rattle.cedar_declarations.specs.Together.{IsParent}
-use Rattle.cedar_elaboration.specs.declared.type_scope.TypeScope.{TypeScope}
-use Rattle.cedar_fragments.specs.TypeDeclarations.{fragment_body}
-use Rattle.cedar_fragments.specs.declared.namespace.entity_types.EntityTypeFragment.{EntityTypeFragment}
-use Rattle.cedar_names.specs.Reference.{Reference}
-use Rattle.cedar_names.specs.declared.json_schema.reference_type.ReferenceType.TheVariants.{Entity}
 use Rattle.cedar_builder.proofs.NodeParents as any
-use Rattle.cedar_builder.specs.DeclaredNodes.{parents_in, plain_edge}
-use Rattle.cedar_builder.specs.EntityTypeNodes.{IsAbove}
-use Rattle.cedar_builder.specs.EntityTypesReady.{IsReady}
 
 -- the name of an entity type with the parents that are declared
 abbrev pub listed : EntityType × EntityTypeFragment InternalName → PlainName × List Reference

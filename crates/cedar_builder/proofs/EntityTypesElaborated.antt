@@ -1,13 +1,6 @@
 -- Records that are elaborated are closed, and entity types as they are elaborated have no descendants.
 use Rattle.std.proofs.Common.{◌≡◌, List, [], ◌∷◌, refl, arith}
-use Rattle.cedar_below.specs.Lists.{SameItems}
-use Rattle.cedar_below.specs.PlainName.{PlainName}
-use Rattle.cedar_declarations.specs.Defined.{Defined}
-use Rattle.cedar_declarations.specs.ElaboratesTo.{ElaboratesTo, as_record, as_common}
-use Rattle.cedar_names.specs.Expr.{Expr}
-use Rattle.cedar_type_rules.specs.Ty.{Fields, record_of}
-use Rattle.cedar_type_rules.specs.declared.open_tag.OpenTag.{OpenTag}
-use Rattle.cedar_type_rules.specs.declared.open_tag.OpenTag.TheVariants.{ClosedAttributes}
+use Rattle.cedar_builder.specs.Words.{ClosedAttributes, Defined, ElaboratesTo, Expr, Fields, OpenTag, PlainName, SameItems, as_common, as_record, record_of}
 
 -- what is elaborated as a record type is elaborated as a closed one
 pub closed_elaborated : {defined : Defined} {expr : Expr} {fields : Fields} {openness : OpenTag}

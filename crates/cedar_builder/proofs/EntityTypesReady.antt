@@ -4,53 +4,19 @@ use Rattle.std.proofs.lemmas.Bool.{false≢true}
 use Rattle.std.specs.List.{flat_map}
 use Rattle.std.proofs.lemmas.List.Elements.{Contains-append_cases}
 use Rattle.cedar_below.proofs.Lists.{Contains-preimage}
-use Rattle.cedar_below.specs.EntityType.{type_name}
-use Rattle.cedar_below.specs.PlainName.{PlainName, IsActionType}
+use Rattle.cedar_builder.specs.Words.{AreDeclaredTags, AreElaboratedTags, AreLinked, Bag, CountsInEntity, Covers, Defined, Entity, EntityBody, EntitySays, EntityType, EntityTypeFragment, EntityTypeKind, EntityTypesAreSound, Expr, Extensions, Fault, HasNoRecord, HasParent, InternalName, IsAbove, IsActionType, IsAtEntityTypePosition, IsBodyFault, IsCollected, IsCollectedAt, IsCollectingFault, IsCounted, IsDeclaredEntityType, IsDeclaredKind, IsDefined, IsDescendant, IsElaboratedEntity, IsEnumerated, IsEnumeratedAt, IsExternalAt, IsExternalType, IsFault, IsLinkingFault, IsNoRecord, IsParent, IsParentFault, IsReady, IsSoundBody, LeadsTo, PlainEntityType, PlainName, Reference, ResolvesTo, SameType, SaysTogether, Text, Twice, Ty, TypeScope, ValidatorEntityType, action_uids, collected_entities, declared_entities, defined_entities, defined_in, defined_names, definition_in, definitions, duplicate_entity_type, entity_definition_in, entity_definitions, entity_parents, entity_type_of, entry_names, enumerated, enumerated_below, enumerated_kind, extensions_in_scope, external, external_kind, has_descendant, is_entity_definition, node_at, out_of_memory, parents_in, plain_entry, reference_to_one, shape_not_record, standard, standard_kind, type_name, undeclared_entity_types}
 use Rattle.cedar_below.specs.contracts.entity_type.EntityTypePartialEq.TheImpl as entity_type_eq
-use Rattle.cedar_below.specs.Text.{Text}
-use Rattle.cedar_below.specs.declared.entity_type.EntityType.{EntityType}
-use Rattle.cedar_below.specs.declared.extension.Extensions.{Extensions}
-use Rattle.cedar_below.specs.declared.internal_name.InternalName.{InternalName}
 use Rattle.cedar_declarations.proofs.DeclarationLemmas.{entity_declaration}
 use Rattle.cedar_declarations.proofs.Definitions.{declared_definition, key_defined, said_declared, said_definition}
 use Rattle.cedar_declarations.proofs.OccurrenceLemmas.{Contains-image, Contains-single, value_once}
 use Rattle.cedar_declarations.proofs.ResolutionLemmas.{elaborated_once}
 use Rattle.cedar_declarations.proofs.TogetherLemmas.{IsDefinition, entity_counted}
-use Rattle.cedar_declarations.specs.Bag.{Bag, action_uids, declared_entities, defined_names, definitions}
-use Rattle.cedar_declarations.specs.Counted.{CountsInEntity, IsCounted, IsAtEntityTypePosition, entity_parents}
-use Rattle.cedar_declarations.specs.DeclaredSchema.{AreDeclaredTags, IsDeclaredEntityType, IsDeclaredKind}
-use Rattle.cedar_declarations.specs.Defined.{Defined}
-use Rattle.cedar_declarations.specs.Descent.{HasParent, IsDescendant}
-use Rattle.cedar_declarations.specs.EntityTypeKind.{EntityTypeKind, standard_kind, enumerated_kind, external_kind}
-use Rattle.cedar_declarations.specs.Fault.{Fault, undeclared_entity_types, duplicate_entity_type, shape_not_record, enumerated_below, out_of_memory}
-use Rattle.cedar_declarations.specs.IllFormed.{IsFault}
-use Rattle.cedar_declarations.specs.Names.{IsDefined, ResolvesTo}
-use Rattle.cedar_below.specs.Lists.{Twice}
-use Rattle.cedar_declarations.specs.Resolved.{reference_to_one}
-use Rattle.cedar_declarations.specs.Together.{EntitySays, IsExternalType, IsParent, defined_entities, entity_definition_in, entity_definitions}
-use Rattle.cedar_declarations.specs.ElaboratesTo.{IsNoRecord}
-use Rattle.cedar_schema_elements.specs.ValidatorEntityType.{PlainEntityType, entity_type_of, plain_entry}
-use Rattle.cedar_schema_elements.specs.declared.entity_type.ValidatorEntityType.{ValidatorEntityType}
-use Rattle.cedar_fragments.specs.declared.namespace.entity_types.EntityTypeFragment.{EntityTypeFragment}
-use Rattle.cedar_names.specs.EntityBody.{EntityBody, standard, enumerated, external}
-use Rattle.cedar_names.specs.Expr.{Expr}
-use Rattle.cedar_names.specs.Reference.{Reference}
-use Rattle.cedar_names.specs.declared.json_schema.reference_type.ReferenceType.TheVariants.{Entity}
-use Rattle.cedar_type_rules.specs.Ty.{Ty}
 use Rattle.cedar_types.proofs.MemberLemmas.{list_any-names}
 use Rattle.cedar_builder.proofs.EntityTypeParents.{AreEdges, RefusesReserved, an_edge, chain_descends, descends_by_chain, edge_has_parent, edge_parent, listed, listed_parent, one_resolves, parent_edge, parent_placed}
 use Rattle.cedar_builder.proofs.NodesCollected.{by_test}
 use Rattle.cedar_builder.proofs.NodesLinked.{alike_after, alike_before, collected_apart, descendants}
 use Rattle.cedar_builder.proofs.ReadyLemmas.{action_type, expr_fault}
-use Rattle.cedar_builder.specs.DeclaredNodes.{IsCollected, IsCollectedAt, IsCollectingFault, IsParentFault, SaysTogether, defined_in, definition_in, parents_in}
-use Rattle.cedar_resolution.specs.Collected.{collected_entities}
-use Rattle.cedar_declarations.specs.ValidSchema.{IsEnumerated}
-use Rattle.cedar_builder.specs.EntityTypeNodes.{AreLinked, IsAbove, IsElaboratedEntity, IsEnumeratedAt, IsExternalAt, IsLinkingFault, LeadsTo, SameType, has_descendant, node_at}
-use Rattle.cedar_builder.specs.EntityTypesReady.{IsReady}
-use Rattle.cedar_builder.specs.SoundEntityTypes.{EntityTypesAreSound}
-use Rattle.cedar_builder.specs.EntityTypeSteps.{AreElaboratedTags, HasNoRecord, IsBodyFault, IsElaboratedKind, IsSoundBody, entry_names, is_entity_definition}
-use Rattle.cedar_elaboration.specs.Scope.{Covers, extensions_in_scope}
-use Rattle.cedar_elaboration.specs.declared.type_scope.TypeScope.{TypeScope}
+use Rattle.cedar_builder.specs.EntityTypeSteps.{IsElaboratedKind}
 
 abbrev Entry : Type 0
 Entry = PlainName × EntityBody

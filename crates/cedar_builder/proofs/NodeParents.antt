@@ -2,10 +2,8 @@
 use Rattle.std.proofs.Common.{◌≡◌, ◌↔◌, Bool, IsTrue, List, map, ap, sym, subst, ◌∙◌, refl, Contains}
 use Rattle.cedar_below.proofs.Chains.{joined}
 use Rattle.cedar_below.proofs.Lists.{Contains-preimage}
-use Rattle.cedar_below.specs.Chain.{Chain, one, more}
+use Rattle.cedar_builder.specs.Words.{Chain, IsEdgeIn, more, one, parents_in, plain_edge}
 use Rattle.cedar_declarations.proofs.OccurrenceLemmas.{Contains-flat_map, Contains-given, Contains-image}
-use Rattle.cedar_graph.specs.Edges.{IsEdgeIn}
-use Rattle.cedar_builder.specs.DeclaredNodes.{parents_in, plain_edge}
 
 module _ {Name Body Reference : Type 0} (parents : Body → List Reference) where
   -- each name with the parents of its declaration

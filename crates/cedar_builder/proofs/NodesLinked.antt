@@ -7,14 +7,9 @@ use Rattle.std.specs.Ordering.{eq_by_cmp}
 use Rattle.std.specs.declared.cmp.Ordering.{Ordering}
 use Rattle.std.specs.declared.cmp.Ordering.TheVariants.{Equal}
 use Rattle.cedar_below.proofs.Lists.{Contains-preimage}
-use Rattle.cedar_below.specs.Chain.{Chain}
+use Rattle.cedar_builder.specs.Words.{AreAlike, Chain, HasCycle, HasEdge, IsCollectedAt, IsEdgeIn, IsRefusal, Memory, TcError}
 use Rattle.cedar_declarations.proofs.OccurrenceLemmas.{Contains-image}
 use Rattle.cedar_graph.proofs.MovedMaps.{moved_found, moved_stands, tests_tied}
-use Rattle.cedar_graph.specs.Edges.{AreAlike, HasEdge, IsEdgeIn}
-use Rattle.cedar_graph.specs.TcError.{IsRefusal}
-use Rattle.cedar_graph.specs.declared.tc_error.TcError.{TcError}
-use Rattle.cedar_graph.specs.declared.tc_error.TcError.TheVariants.{HasCycle, Memory}
-use Rattle.cedar_builder.specs.DeclaredNodes.{IsCollectedAt}
 
 module _ {Node : Type 0} (is_alike : Node → Node → Type 0) where
   -- what stands before a node that stands after

@@ -1,17 +1,8 @@
 -- What a bag owes to the steps that build its entity types and its actions.
 use Rattle.std.proofs.Common.{◌≡◌, ◌⊎◌, List, map, ap, sym, ◌∙◌, refl, inl, inr, Contains}
 use Rattle.cedar_below.proofs.Lists.{Contains-preimage}
-use Rattle.cedar_below.specs.Extensions.{extension_types}
-use Rattle.cedar_below.specs.PlainName.{PlainName, IsActionType, IsReserved}
-use Rattle.cedar_below.specs.PlainUid.{PlainUid}
-use Rattle.cedar_below.specs.declared.extension.Extensions.{Extensions}
+use Rattle.cedar_builder.specs.Words.{Bag, Expr, Extensions, Fault, IsActionType, IsCounted, IsExprFault, IsFault, IsReserved, PlainName, PlainUid, action_uids, declared_actions, definitions, extension_types, open_record, out_of_memory, reserved_name, type_not_defined, unknown_extension_type}
 use Rattle.cedar_declarations.proofs.DeclarationLemmas.{action_declaration}
-use Rattle.cedar_declarations.specs.Bag.{Bag, action_uids, declared_actions, definitions}
-use Rattle.cedar_declarations.specs.Counted.{IsCounted}
-use Rattle.cedar_declarations.specs.Fault.{Fault, open_record, type_not_defined, unknown_extension_type, reserved_name, out_of_memory}
-use Rattle.cedar_declarations.specs.IllFormed.{IsFault}
-use Rattle.cedar_elaboration.specs.Refusals.{IsExprFault}
-use Rattle.cedar_names.specs.Expr.{Expr}
 
 -- no action's uid has another type
 pub action_type : (bag : Bag) (name : PlainName) → Contains (map (λ uid. uid.ty) (action_uids bag)) name → IsActionType name

@@ -7,15 +7,10 @@ use Rattle.std.proofs.lemmas.Map.Made.{is_some-lookup}
 use Rattle.std.specs.BTreeMap.{is_at}
 use Rattle.std.specs.Map.{keys_of}
 use Rattle.cedar_below.proofs.Names.{entity_type_ord-Equal}
-use Rattle.cedar_below.specs.EntityType.{type_name}
-use Rattle.cedar_below.specs.PlainName.{PlainName}
+use Rattle.cedar_builder.specs.Words.{EntityType, Entries, PlainName, ValidatorEntityType, get_by, names_in, type_name}
 use Rattle.cedar_below.specs.contracts.entity_type.EntityTypeOrd.TheImpl as order
-use Rattle.cedar_below.specs.declared.entity_type.EntityType.{EntityType}
 use Rattle.cedar_declarations.proofs.OccurrenceLemmas.{Contains-single}
-use Rattle.cedar_schema_elements.specs.declared.entity_type.ValidatorEntityType.{ValidatorEntityType}
 use Rattle.cedar_fragments.proofs.SetLemmas.{found-Decides}
-use Rattle.cedar_table.specs.Entries.{Entries, get_by}
-use Rattle.cedar_builder.specs.ActionSteps.{names_in}
 
 -- a map has an entity type exactly where its name is among those of the map
 pub has_name : (types : Entries EntityType ValidatorEntityType) (ty : EntityType) (found : Bool)

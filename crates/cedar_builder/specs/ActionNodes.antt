@@ -5,9 +5,7 @@ use Rattle.std.specs.HashMap.{HashMap, get}
 use Rattle.std.specs.HashSet.{contains}
 use Rattle.cedar_schema_elements.specs.ValidatorActionId.{action_of}
 use Rattle.cedar_schema_elements.specs.declared.action_id.ValidatorActionId.{ValidatorActionId}
-use Rattle.cedar_below.specs.Chain.{Chain}
-use Rattle.cedar_below.specs.EntityUID.{uid_of}
-use Rattle.cedar_below.specs.PlainUid.{PlainUid}
+use Rattle.cedar_below.specs.Words.{Chain, PlainUid, uid_of}
 use Rattle.cedar_below.specs.contracts.entity_uid.EntityUIDPartialEq.TheImpl as uid_eq
 use Rattle.cedar_below.specs.declared.entity_uid.EntityUID.{EntityUID}
 use Rattle.cedar_graph.specs.Edges.{HasEdge, IsEdgeIn, AreAlike}

@@ -3,26 +3,14 @@
 use Rattle.std.specs.Prelude.{Bool, true, false, ◌≡◌, ◌⊎◌, ◌↔◌, ◌∷◌, [], List, Contains, map}
 use Rattle.cedar_table.specs.Entries.{Entries}
 use Rattle.std.specs.List.{flat_map}
-use Rattle.cedar_below.specs.EntityType.{type_name}
-use Rattle.cedar_below.specs.PlainName.{PlainName, IsReserved}
-use Rattle.cedar_below.specs.PlainUid.{PlainUid}
+use Rattle.cedar_below.specs.Words.{IsReserved, PlainName, PlainUid, type_name}
 use Rattle.cedar_below.specs.declared.entity_type.EntityType.{EntityType}
-use Rattle.cedar_declarations.specs.Counted.{CountsInRequests, IsPrincipalOrResource}
-use Rattle.cedar_declarations.specs.Fault.{Fault, context_not_record, reserved_name, undeclared_entity_types, out_of_memory}
-use Rattle.cedar_declarations.specs.Mentions.{HasOpenRecord}
-use Rattle.cedar_declarations.specs.DeclaredSchema.{IsActionKindOver}
-use Rattle.cedar_declarations.specs.PlainSchema.{ActionKind}
-use Rattle.cedar_declarations.specs.Resolved.{reference_to_one}
-use Rattle.cedar_declarations.specs.Together.{action_definition_in}
-use Rattle.cedar_declarations.specs.ElaboratesTo.{IsRecordType}
+use Rattle.cedar_declarations.specs.Words.{ActionKind, CountsInRequests, Fault, HasOpenRecord, IsActionKindOver, IsPrincipalOrResource, IsRecordType, action_definition_in, context_not_record, out_of_memory, reference_to_one, reserved_name, undeclared_entity_types}
 use Rattle.cedar_schema_elements.specs.declared.entity_type.ValidatorEntityType.{ValidatorEntityType}
-use Rattle.cedar_names.specs.ActionBody.{ActionBody, Requests, requests, elsewhere}
-use Rattle.cedar_names.specs.Expr.{Expr}
-use Rattle.cedar_names.specs.Reference.{Reference, ActionReference}
+use Rattle.cedar_names.specs.Words.{ActionBody, ActionReference, Expr, Reference, Requests, elsewhere, requests}
 use Rattle.cedar_names.specs.declared.json_schema.reference_type.ReferenceType.TheVariants.{Entity}
 use Rattle.cedar_type_rules.specs.Ty.{Ty}
-use Rattle.cedar_elaboration.specs.Scope.{ElaboratesAs, CoversExtensions}
-use Rattle.cedar_elaboration.specs.Refusals.{IsRefusal}
+use Rattle.cedar_elaboration.specs.Words.{CoversExtensions, ElaboratesAs, IsRefusal}
 use Rattle.cedar_elaboration.specs.declared.type_scope.TypeScope.{TypeScope}
 
 -- the names of the entity types of a map

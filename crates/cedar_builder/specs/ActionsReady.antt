@@ -1,23 +1,16 @@
 -- When the actions of a bag can be built.
 use Rattle.std.specs.Prelude.{◌≡◌, List, Contains, map}
 use Rattle.cedar_table.specs.Entries.{Entries}
-use Rattle.cedar_below.specs.Extensions.{extension_types}
-use Rattle.cedar_below.specs.Lists.{SameItems}
-use Rattle.cedar_below.specs.PlainName.{PlainName, IsReserved}
-use Rattle.cedar_below.specs.PlainUid.{PlainUid}
+use Rattle.cedar_below.specs.Words.{IsReserved, PlainName, PlainUid, SameItems, extension_types}
 use Rattle.cedar_below.specs.declared.entity_type.EntityType.{EntityType}
 use Rattle.cedar_below.specs.declared.entity_uid.EntityUID.{EntityUID}
 use Rattle.cedar_below.specs.declared.extension.Extensions.{Extensions}
 use Rattle.cedar_below.specs.declared.internal_name.InternalName.{InternalName}
-use Rattle.cedar_declarations.specs.Bag.{Bag, action_uids, declared_actions, declared_entities, defined_names, definitions}
-use Rattle.cedar_declarations.specs.Counted.{IsCounted, IsAtEntityTypePosition}
-use Rattle.cedar_declarations.specs.Names.{NamesAction, ResolvesTo}
-use Rattle.cedar_declarations.specs.Together.{IsActionParent}
+use Rattle.cedar_declarations.specs.Words.{Bag, IsActionParent, IsAtEntityTypePosition, IsCounted, NamesAction, ResolvesTo, action_uids, declared_actions, declared_entities, defined_names, definitions}
 use Rattle.cedar_schema_elements.specs.declared.entity_type.ValidatorEntityType.{ValidatorEntityType}
 use Rattle.cedar_fragments.specs.declared.namespace.actions.ActionFragment.{ActionFragment}
 use Rattle.cedar_resolution.specs.Collected.{collected_actions}
-use Rattle.cedar_names.specs.Expr.{Expr}
-use Rattle.cedar_names.specs.Reference.{ActionReference, Reference}
+use Rattle.cedar_names.specs.Words.{ActionReference, Expr, Reference}
 use Rattle.cedar_builder.specs.ActionSteps.{names_in}
 use Rattle.cedar_elaboration.specs.Scope.{Covers, extensions_in_scope}
 use Rattle.cedar_elaboration.specs.declared.type_scope.TypeScope.{TypeScope}

@@ -1,11 +1,9 @@
 -- The entity types that a bag declares, as they stand in a schema.
 use Rattle.std.specs.Prelude.{List, Contains, map}
-use Rattle.cedar_below.specs.EntityType.{type_name}
-use Rattle.cedar_below.specs.PlainName.{PlainName}
+use Rattle.cedar_below.specs.Words.{PlainName, type_name}
 use Rattle.cedar_below.specs.declared.entity_type.EntityType.{EntityType}
 use Rattle.cedar_below.specs.declared.extension.Extensions.{Extensions}
-use Rattle.cedar_declarations.specs.Bag.{Bag, declared_entities}
-use Rattle.cedar_declarations.specs.DeclaredSchema.{IsDeclaredEntityType}
+use Rattle.cedar_declarations.specs.Words.{Bag, IsDeclaredEntityType, declared_entities}
 use Rattle.cedar_schema_elements.specs.ValidatorEntityType.{plain_entry}
 use Rattle.cedar_schema_elements.specs.declared.entity_type.ValidatorEntityType.{ValidatorEntityType}
 

@@ -3,15 +3,11 @@
 use Rattle.std.specs.Prelude.{◌≡◌, ◌⊎◌, ◌↔◌, Bool, List, [], ◌∷◌, Option, None, Some, IsSome, Contains}
 use Rattle.std.specs.HashMap.{HashMap, get}
 use Rattle.std.specs.HashSet.{contains}
-use Rattle.cedar_below.specs.Chain.{Chain}
-use Rattle.cedar_below.specs.EntityType.{type_name}
-use Rattle.cedar_below.specs.PlainName.{PlainName}
+use Rattle.cedar_below.specs.Words.{Chain, PlainName, type_name}
 use Rattle.cedar_below.specs.contracts.entity_type.EntityTypePartialEq.TheImpl as entity_type_eq
 use Rattle.cedar_below.specs.declared.entity_type.EntityType.{EntityType}
 use Rattle.cedar_graph.specs.Edges.{HasEdge, IsEdgeIn, AreAlike}
-use Rattle.cedar_declarations.specs.EntityTypeKind.{external_kind}
-use Rattle.cedar_declarations.specs.Fault.{Fault, undeclared_entity_types, enumerated_below, external_below_enumerated, out_of_memory}
-use Rattle.cedar_declarations.specs.ValidSchema.{IsEnumerated}
+use Rattle.cedar_declarations.specs.Words.{Fault, IsEnumerated, enumerated_below, external_below_enumerated, external_kind, out_of_memory, undeclared_entity_types}
 use Rattle.cedar_schema_elements.specs.ValidatorEntityType.{entity_type_of, descendant_names}
 use Rattle.cedar_schema_elements.specs.declared.entity_type.ValidatorEntityType.{ValidatorEntityType}
 use Rattle.cedar_names.specs.EntityBody.{EntityBody}

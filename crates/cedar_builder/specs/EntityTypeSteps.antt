@@ -1,20 +1,12 @@
 -- What the private steps promise of declarations: those of one name together, their parents, and
 -- what is elaborated.
 use Rattle.std.specs.Prelude.{Bool, true, false, ◌≡◌, ◌⊎◌, List, Option, map}
-use Rattle.cedar_below.specs.Lists.{HoldsOfBoth}
-use Rattle.cedar_below.specs.PlainName.{PlainName}
-use Rattle.cedar_declarations.specs.Counted.{CountsInEntity}
-use Rattle.cedar_declarations.specs.DeclaredSchema.{IsKindOver}
-use Rattle.cedar_declarations.specs.EntityTypeKind.{EntityTypeKind}
-use Rattle.cedar_declarations.specs.Fault.{Fault, shape_not_record, out_of_memory}
-use Rattle.cedar_declarations.specs.Mentions.{HasOpenRecord}
-use Rattle.cedar_declarations.specs.ElaboratesTo.{IsRecordType}
-use Rattle.cedar_names.specs.EntityBody.{EntityBody, standard, enumerated, external}
-use Rattle.cedar_names.specs.Expr.{Expr}
+use Rattle.cedar_below.specs.Words.{HoldsOfBoth, PlainName}
+use Rattle.cedar_declarations.specs.Words.{CountsInEntity, EntityTypeKind, Fault, HasOpenRecord, IsKindOver, IsRecordType, out_of_memory, shape_not_record}
+use Rattle.cedar_names.specs.Words.{EntityBody, Expr, enumerated, external, standard}
 use Rattle.cedar_type_rules.specs.Ty.{Ty, Fields, record_of}
 use Rattle.cedar_type_rules.specs.declared.open_tag.OpenTag.TheVariants.{ClosedAttributes}
-use Rattle.cedar_elaboration.specs.Scope.{ElaboratesAs, CoversExtensions}
-use Rattle.cedar_elaboration.specs.Refusals.{IsRefusal}
+use Rattle.cedar_elaboration.specs.Words.{CoversExtensions, ElaboratesAs, IsRefusal}
 use Rattle.cedar_elaboration.specs.declared.type_scope.TypeScope.{TypeScope}
 
 -- the names of declarations

@@ -1,16 +1,12 @@
 -- When the entity types of a bag can be built.
 use Rattle.std.specs.Prelude.{◌≡◌, List, Contains}
-use Rattle.cedar_below.specs.Extensions.{extension_types}
-use Rattle.cedar_below.specs.PlainName.{PlainName, IsReserved}
+use Rattle.cedar_below.specs.Words.{IsReserved, PlainName, extension_types}
 use Rattle.cedar_below.specs.declared.entity_type.EntityType.{EntityType}
 use Rattle.cedar_below.specs.declared.extension.Extensions.{Extensions}
 use Rattle.cedar_below.specs.declared.internal_name.InternalName.{InternalName}
-use Rattle.cedar_declarations.specs.Bag.{Bag, declared_entities, defined_names, definitions}
-use Rattle.cedar_declarations.specs.Counted.{IsCounted, IsAtEntityTypePosition}
-use Rattle.cedar_declarations.specs.Names.{ResolvesTo}
+use Rattle.cedar_declarations.specs.Words.{Bag, IsAtEntityTypePosition, IsCounted, ResolvesTo, declared_entities, defined_names, definitions}
 use Rattle.cedar_fragments.specs.declared.namespace.entity_types.EntityTypeFragment.{EntityTypeFragment}
-use Rattle.cedar_names.specs.Expr.{Expr}
-use Rattle.cedar_names.specs.Reference.{Reference}
+use Rattle.cedar_names.specs.Words.{Expr, Reference}
 use Rattle.cedar_resolution.specs.Collected.{collected_entities}
 use Rattle.cedar_elaboration.specs.Scope.{Covers, extensions_in_scope}
 use Rattle.cedar_elaboration.specs.declared.type_scope.TypeScope.{TypeScope}

@@ -9,3 +9,4 @@ pub mod EntityTypeSteps
 pub mod EntityTypesReady
 pub mod SoundActions
 pub mod SoundEntityTypes
+pub mod Words

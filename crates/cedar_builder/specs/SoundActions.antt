@@ -1,22 +1,9 @@
 -- What is certain of the declarations of actions once these are built.
 use Rattle.std.specs.Prelude.{Contains, map}
-use Rattle.cedar_below.specs.Extensions.{extension_types}
-use Rattle.cedar_below.specs.PlainName.{PlainName}
-use Rattle.cedar_below.specs.PlainUid.{PlainUid}
-use Rattle.cedar_below.specs.Text.{Text}
+use Rattle.cedar_below.specs.Words.{PlainName, PlainUid, Text, Twice, extension_types}
 use Rattle.cedar_below.specs.declared.extension.Extensions.{Extensions}
-use Rattle.cedar_declarations.specs.Bag.{Bag, declared_actions, declared_entities, defined_names}
-use Rattle.cedar_declarations.specs.Counted.{CountsInRequests, IsPrincipalOrResource}
-use Rattle.cedar_declarations.specs.Descent.{IsDescendantAction}
-use Rattle.cedar_declarations.specs.Fault.{context_not_record}
-use Rattle.cedar_declarations.specs.IllFormed.{IsFault}
-use Rattle.cedar_declarations.specs.Mentions.{HasOpenRecord, MentionsExtension}
-use Rattle.cedar_declarations.specs.Names.{ResolvesTo}
-use Rattle.cedar_below.specs.Lists.{Twice}
-use Rattle.cedar_declarations.specs.Together.{defined_actions}
-use Rattle.cedar_names.specs.ActionBody.{ActionBody}
-use Rattle.cedar_names.specs.Expr.{Expr}
-use Rattle.cedar_names.specs.Reference.{Reference}
+use Rattle.cedar_declarations.specs.Words.{Bag, CountsInRequests, HasOpenRecord, IsDescendantAction, IsFault, IsPrincipalOrResource, MentionsExtension, ResolvesTo, context_not_record, declared_actions, declared_entities, defined_actions, defined_names}
+use Rattle.cedar_names.specs.Words.{ActionBody, Expr, Reference}
 use Rattle.cedar_elaboration.specs.Scope.{extension_name}
 
 -- no action has two definitions, and none is a descendant of itself; contexts are record types;

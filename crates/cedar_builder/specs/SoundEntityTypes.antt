@@ -1,20 +1,9 @@
 -- What is certain of the declarations of entity types once these are built.
 use Rattle.std.specs.Prelude.{Contains, map}
-use Rattle.cedar_below.specs.Extensions.{extension_types}
-use Rattle.cedar_below.specs.PlainName.{PlainName}
-use Rattle.cedar_below.specs.Text.{Text}
+use Rattle.cedar_below.specs.Words.{PlainName, Text, Twice, extension_types}
 use Rattle.cedar_below.specs.declared.extension.Extensions.{Extensions}
-use Rattle.cedar_declarations.specs.Bag.{Bag, declared_entities, defined_names}
-use Rattle.cedar_declarations.specs.Counted.{CountsInEntity}
-use Rattle.cedar_declarations.specs.Fault.{shape_not_record, external_below_enumerated, enumerated_below}
-use Rattle.cedar_declarations.specs.IllFormed.{IsFault}
-use Rattle.cedar_declarations.specs.Mentions.{HasOpenRecord, MentionsExtension}
-use Rattle.cedar_declarations.specs.Names.{ResolvesTo}
-use Rattle.cedar_below.specs.Lists.{Twice}
-use Rattle.cedar_declarations.specs.Together.{IsParent, defined_entities}
-use Rattle.cedar_names.specs.EntityBody.{EntityBody}
-use Rattle.cedar_names.specs.Expr.{Expr}
-use Rattle.cedar_names.specs.Reference.{Reference}
+use Rattle.cedar_declarations.specs.Words.{Bag, CountsInEntity, HasOpenRecord, IsFault, IsParent, MentionsExtension, ResolvesTo, declared_entities, defined_entities, defined_names, enumerated_below, external_below_enumerated, shape_not_record}
+use Rattle.cedar_names.specs.Words.{EntityBody, Expr, Reference}
 use Rattle.cedar_elaboration.specs.Scope.{extension_name}
 
 -- no entity type has two definitions; shapes are record types; what counts has no open record, and

@@ -2,14 +2,7 @@
 
 ghost use Rattle.std.specs.Prelude.{◌≡◌, ◌⊎◌, IfErr, IfOk, OnOk};
 ghost use Rattle.cedar_schema_elements.specs.ValidatorActionId.{AreLocatedAsKeys};
-ghost use Rattle.cedar_below.specs.declared.extension.Extensions.{Extensions};
-ghost use Rattle.cedar_declarations.specs.Bag.{Bag};
-ghost use Rattle.cedar_declarations.specs.Fault.{out_of_memory};
-ghost use Rattle.cedar_declarations.specs.IllFormed.{IsFault};
-ghost use Rattle.cedar_declarations.specs.SchemaError.{fault_of};
-ghost use Rattle.cedar_builder.specs.DeclaredActions.{AreDeclaredActions};
-ghost use Rattle.cedar_builder.specs.ActionsReady.{AreActionsOf};
-ghost use Rattle.cedar_builder.specs.SoundActions.{ActionsAreSound};
+ghost use Rattle.cedar_builder.specs.Words.{ActionsAreSound, AreActionsOf, AreDeclaredActions, Bag, Extensions, IsFault, fault_of, out_of_memory};
 
 use crate::action_links::linked_nodes;
 use crate::action_nodes::ActionScope;

@@ -1,10 +1,8 @@
 //! Actions linked with their descendants.
 
-ghost use Rattle.std.specs.Prelude.{IfErr, IfOk};
+ghost use Rattle.cedar_builder.specs.Words.{AreReady, IfErr, IfOk, fault_of};
 ghost use Rattle.cedar_schema_elements.specs.ValidatorActionId.{AreLocatedAsKeys};
-ghost use Rattle.cedar_declarations.specs.SchemaError.{fault_of};
 ghost use Rattle.cedar_builder.specs.ActionNodes.{AreLinked, IsLinkingFault, has_descendant};
-ghost use Rattle.cedar_builder.specs.DeclaredNodes.{AreReady};
 
 use crate::links::link;
 use cedar_below::{EntityUID, Memory};

@@ -1,18 +1,9 @@
 //! What the steps that actions and entity types have in common ask of an action.
 
 ghost use Rattle.std.specs.Prelude.{◌≡◌};
-ghost use Rattle.cedar_below.specs.EntityUID.{uid_of};
-ghost use Rattle.cedar_below.specs.PlainUid.{PlainUid};
+ghost use Rattle.cedar_builder.specs.Words.{ActionReference, AreSoundRequests, IsElaboratedAction, IsRequestsFault, PlainUid, Requests, action_fragment_body, action_of, fragment_parent, fragment_requests, is_action_definition, names_in, reference_to_action, resolved_action_type, resolved_reference, uid_of};
 ghost use Rattle.cedar_below.specs.declared.entity_type.EntityType.{EntityType as ActionEntityType};
 ghost use Rattle.cedar_below.specs.declared.internal_name.InternalName.{InternalName as Full};
-ghost use Rattle.cedar_declarations.specs.ResolvedExpr.{resolved_reference};
-ghost use Rattle.cedar_fragments.specs.ActionDeclarations.{action_fragment_body, fragment_parent, fragment_requests};
-ghost use Rattle.cedar_fragments.specs.FragmentDeclarations.{resolved_action_type};
-ghost use Rattle.cedar_names.specs.ActionBody.{Requests};
-ghost use Rattle.cedar_names.specs.Reference.{ActionReference};
-ghost use Rattle.cedar_schema_elements.specs.ValidatorActionId.{action_of};
-ghost use Rattle.cedar_builder.specs.ActionNodes.{IsElaboratedAction};
-ghost use Rattle.cedar_builder.specs.ActionSteps.{AreSoundRequests, IsRequestsFault, is_action_definition, names_in, reference_to_action};
 
 use crate::action_requests::elaborated_action;
 use crate::declared_node::DeclaredNode;

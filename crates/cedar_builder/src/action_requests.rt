@@ -1,20 +1,8 @@
 //! Actions that are elaborated, each from one declaration.
 
 ghost use Rattle.std.specs.Prelude.{◌≡◌, ◌⊎◌, ◌↔◌, IfErr, IfOk, IsTrue, OnOk, Some};
-ghost use Rattle.cedar_schema_elements.specs.ValidatorActionId.{action_loc};
-ghost use Rattle.cedar_below.specs.EntityUID.{uid_of};
+ghost use Rattle.cedar_builder.specs.Words.{AreSoundRequests, CoversExtensions, ElaboratesAs, HasOpenRecord, IsElaboratedAction, IsRecordType, IsRequestsFault, Ty, action_loc, context_not_record, fault_of, fragment_requests, names_in, out_of_memory, resolved_expr, resolved_reference, ty_of, uid_of};
 ghost use Rattle.cedar_below.specs.declared.internal_name.InternalName.{InternalName as Full};
-ghost use Rattle.cedar_declarations.specs.Fault.{context_not_record, out_of_memory};
-ghost use Rattle.cedar_declarations.specs.Mentions.{HasOpenRecord};
-ghost use Rattle.cedar_declarations.specs.SchemaError.{fault_of};
-ghost use Rattle.cedar_declarations.specs.ResolvedExpr.{resolved_expr, resolved_reference};
-ghost use Rattle.cedar_declarations.specs.ElaboratesTo.{IsRecordType};
-ghost use Rattle.cedar_fragments.specs.ActionDeclarations.{fragment_requests};
-ghost use Rattle.cedar_type_rules.specs.Ty.{Ty};
-ghost use Rattle.cedar_types.specs.Meaning.{ty_of};
-ghost use Rattle.cedar_builder.specs.ActionNodes.{IsElaboratedAction};
-ghost use Rattle.cedar_builder.specs.ActionSteps.{AreSoundRequests, IsRequestsFault, names_in};
-ghost use Rattle.cedar_elaboration.specs.Scope.{ElaboratesAs, CoversExtensions};
 ghost use Rattle.cedar_elaboration.specs.Refusals.{IsRefusal};
 
 use crate::request_types::declared_types;
@@ -24,8 +12,8 @@ use cedar_elaboration::{TypeScope, elaborate};
 use cedar_fragments::namespace::{ActionFragment, ActionRequests};
 use cedar_names::json_schema;
 use cedar_schema_elements::{ValidatorActionId, ValidatorEntityType};
-use cedar_types::Type;
 use cedar_table::Table;
+use cedar_types::Type;
 use std::alloc::Global;
 
 /// Whether the type is that of records.

@@ -1,11 +1,7 @@
 //! The declarations of a name, put together and collected in a map under that name.
 
 ghost use Rattle.std.specs.Prelude.{◌≡◌, ◌≢◌, ◌⊎◌, ◌↔◌, Bool, Contains, IfErr, IfOk, OnOk, false, map};
-ghost use Rattle.std.specs.HashMap.{get};
-ghost use Rattle.cedar_below.specs.Lists.{Twice};
-ghost use Rattle.cedar_declarations.specs.Fault.{Fault, out_of_memory};
-ghost use Rattle.cedar_declarations.specs.SchemaError.{fault_of};
-ghost use Rattle.cedar_builder.specs.DeclaredNodes.{AreLocated, IsCollectedAt, IsCollectingFault, IsDefinedAt, IsPut, defined_in, named};
+ghost use Rattle.cedar_builder.specs.Words.{AreLocated, Fault, IsCollectedAt, IsCollectingFault, IsDefinedAt, IsPut, Twice, defined_in, fault_of, get, named, out_of_memory};
 
 use cedar_declarations::SchemaError;
 use cedar_schema_elements::SchemaNode;

@@ -1,15 +1,7 @@
 //! The entity types of a schema, built: the steps for them in turn.
 
 ghost use Rattle.std.specs.Prelude.{◌≡◌, ◌⊎◌, IfErr, IfOk, OnOk};
-ghost use Rattle.cedar_schema_elements.specs.ValidatorEntityType.{AreLocatedAsKeys};
-ghost use Rattle.cedar_below.specs.declared.extension.Extensions.{Extensions};
-ghost use Rattle.cedar_declarations.specs.Bag.{Bag};
-ghost use Rattle.cedar_declarations.specs.Fault.{out_of_memory};
-ghost use Rattle.cedar_declarations.specs.IllFormed.{IsFault};
-ghost use Rattle.cedar_declarations.specs.SchemaError.{fault_of};
-ghost use Rattle.cedar_builder.specs.DeclaredEntityTypes.{AreDeclaredEntityTypes};
-ghost use Rattle.cedar_builder.specs.EntityTypesReady.{IsReady};
-ghost use Rattle.cedar_builder.specs.SoundEntityTypes.{EntityTypesAreSound};
+ghost use Rattle.cedar_builder.specs.Words.{AreDeclaredEntityTypes, AreLocatedAsKeys, Bag, EntityTypesAreSound, Extensions, IsFault, IsReady, fault_of, out_of_memory};
 
 use crate::declared_node::collected_nodes;
 use crate::entity_type_links::linked_nodes;

@@ -2,9 +2,7 @@
 
 ghost use Rattle.std.specs.Prelude.{◌≡◌, ◌⊎◌, ◌↔◌, Contains, IfErr, IsTrue, OnOk};
 ghost use Rattle.cedar_below.specs.declared.entity_type.EntityType.{EntityType as Key};
-ghost use Rattle.cedar_declarations.specs.Fault.{out_of_memory};
-ghost use Rattle.cedar_declarations.specs.SchemaError.{fault_of};
-ghost use Rattle.cedar_builder.specs.EntityTypeNodes.{IsEdgeFault, IsEdgeSound, IsEnumeratedAt, IsExternalAt, IsLinkFault, LeadsTo, node_at};
+ghost use Rattle.cedar_builder.specs.Words.{IsEdgeFault, IsEdgeSound, IsEnumeratedAt, IsExternalAt, IsLinkFault, LeadsTo, fault_of, node_at, out_of_memory};
 
 use crate::entity_type_links::{Edge, Nodes};
 use cedar_below::{EntityType, NonEmpty};

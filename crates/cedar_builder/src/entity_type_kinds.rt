@@ -1,23 +1,8 @@
 //! Entity types that are elaborated, each from one declaration.
 
 ghost use Rattle.std.specs.Prelude.{◌≡◌, ◌⊎◌, IfErr, IfOk, List, OnOk, Some};
-ghost use Rattle.std.specs.Option.{option_map};
-ghost use Rattle.cedar_below.specs.EntityType.{type_name};
+ghost use Rattle.cedar_builder.specs.Words.{AreElaboratedTags, CoversExtensions, ElaboratesAs, Expr, HasOpenRecord, IsBodyFault, IsElaboratedEntity, IsRecordType, IsSoundBody, Reference, Ty, fault_of, fields_of, fragment_body, option_map, out_of_memory, record_of, resolved_expr, resolved_reference, shape_not_record, standard, ty_of, type_name};
 ghost use Rattle.cedar_below.specs.declared.internal_name.InternalName.{InternalName as Full};
-ghost use Rattle.cedar_declarations.specs.Fault.{shape_not_record, out_of_memory};
-ghost use Rattle.cedar_declarations.specs.Mentions.{HasOpenRecord};
-ghost use Rattle.cedar_declarations.specs.SchemaError.{fault_of};
-ghost use Rattle.cedar_declarations.specs.ResolvedExpr.{resolved_expr, resolved_reference};
-ghost use Rattle.cedar_declarations.specs.ElaboratesTo.{IsRecordType};
-ghost use Rattle.cedar_fragments.specs.TypeDeclarations.{fragment_body};
-ghost use Rattle.cedar_names.specs.EntityBody.{standard};
-ghost use Rattle.cedar_names.specs.Expr.{Expr};
-ghost use Rattle.cedar_names.specs.Reference.{Reference};
-ghost use Rattle.cedar_type_rules.specs.Ty.{Ty, record_of};
-ghost use Rattle.cedar_types.specs.Meaning.{fields_of, ty_of};
-ghost use Rattle.cedar_builder.specs.EntityTypeNodes.{IsElaboratedEntity};
-ghost use Rattle.cedar_builder.specs.EntityTypeSteps.{IsBodyFault, IsSoundBody, AreElaboratedTags};
-ghost use Rattle.cedar_elaboration.specs.Scope.{ElaboratesAs, CoversExtensions};
 ghost use Rattle.cedar_elaboration.specs.Refusals.{IsRefusal};
 
 use cedar_below::{EntityType, InternalName};

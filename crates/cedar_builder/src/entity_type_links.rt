@@ -1,10 +1,7 @@
 //! Entity types linked with their descendants.
 
-ghost use Rattle.std.specs.Prelude.{IfErr, IfOk};
+ghost use Rattle.cedar_builder.specs.Words.{AreLinked, AreLocatedAsKeys, IfErr, IfOk, IsLinkingFault, LeadsTo, fault_of};
 ghost use Rattle.cedar_below.specs.declared.entity_type.EntityType.{EntityType as Key};
-ghost use Rattle.cedar_declarations.specs.SchemaError.{fault_of};
-ghost use Rattle.cedar_schema_elements.specs.ValidatorEntityType.{AreLocatedAsKeys};
-ghost use Rattle.cedar_builder.specs.EntityTypeNodes.{AreLinked, IsLinkingFault, LeadsTo};
 
 use crate::entity_type_checks::{check_descendants, check_edges};
 use crate::links::link;

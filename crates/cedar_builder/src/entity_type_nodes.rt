@@ -1,20 +1,9 @@
 //! What the steps that entity types and actions have in common ask of an entity type.
 
 ghost use Rattle.std.specs.Prelude.{◌≡◌};
-ghost use Rattle.cedar_below.specs.PlainName.{IsReserved, PlainName};
-ghost use Rattle.cedar_below.specs.EntityType.{type_name};
+ghost use Rattle.cedar_builder.specs.Words.{Entity, EntityBody, IsBodyFault, IsElaboratedEntity, IsReserved, IsSoundBody, PlainName, entity_parents, entity_type_of, fragment_body, is_entity_definition, reference_to_one, reserved_name, resolved_reference, type_name};
 ghost use Rattle.cedar_below.specs.declared.internal_name.InternalName.{InternalName as Full};
-ghost use Rattle.cedar_declarations.specs.Counted.{entity_parents};
-ghost use Rattle.cedar_declarations.specs.Fault.{reserved_name};
-ghost use Rattle.cedar_declarations.specs.Resolved.{reference_to_one};
-ghost use Rattle.cedar_declarations.specs.ResolvedExpr.{resolved_reference};
-ghost use Rattle.cedar_fragments.specs.TypeDeclarations.{fragment_body};
-ghost use Rattle.cedar_names.specs.EntityBody.{EntityBody};
 ghost use Rattle.cedar_names.specs.Reference.{Reference as PlainReference};
-ghost use Rattle.cedar_names.specs.declared.json_schema.reference_type.ReferenceType.TheVariants.{Entity};
-ghost use Rattle.cedar_schema_elements.specs.ValidatorEntityType.{entity_type_of};
-ghost use Rattle.cedar_builder.specs.EntityTypeNodes.{IsElaboratedEntity};
-ghost use Rattle.cedar_builder.specs.EntityTypeSteps.{IsBodyFault, IsSoundBody, is_entity_definition};
 
 use crate::declared_node::DeclaredNode;
 use crate::entity_type_kinds::elaborated_type;

@@ -1,11 +1,7 @@
 //! Entity types or actions linked with their descendants: all that chains of parents reach.
 
 ghost use Rattle.std.specs.Prelude.{◌↔◌, IfErr, IsTrue, OnOk};
-ghost use Rattle.std.specs.HashMap.{get};
-ghost use Rattle.cedar_below.specs.Chain.{Chain};
-ghost use Rattle.cedar_graph.specs.Edges.{AreAlike, HasEdge, IsEdgeIn};
-ghost use Rattle.cedar_graph.specs.TcError.{IsRefusal};
-ghost use Rattle.cedar_builder.specs.DeclaredNodes.{AreLocated, AreReady};
+ghost use Rattle.cedar_builder.specs.Words.{AreAlike, AreLocated, AreReady, Chain, HasEdge, IsEdgeIn, IsRefusal, get};
 
 use cedar_graph::{TcError, add_edges, compute_tc};
 use cedar_schema_elements::SchemaNode;

@@ -1,11 +1,7 @@
 //! The entity types that names of parents, principals and resources stand for.
 
 ghost use Rattle.std.specs.Prelude.{◌≡◌, ◌⊎◌, IfErr, IfOk};
-ghost use Rattle.cedar_below.specs.EntityType.{type_name};
-ghost use Rattle.cedar_below.specs.InternalName.{name_of};
-ghost use Rattle.cedar_below.specs.PlainName.{IsReserved};
-ghost use Rattle.cedar_declarations.specs.Fault.{reserved_name, out_of_memory};
-ghost use Rattle.cedar_declarations.specs.SchemaError.{fault_of};
+ghost use Rattle.cedar_builder.specs.Words.{IsReserved, fault_of, name_of, out_of_memory, reserved_name, type_name};
 
 use cedar_below::{EntityType, InternalName};
 use cedar_declarations::SchemaError;

@@ -1,9 +1,7 @@
 //! The parents of what is declared, as edges.
 
 ghost use Rattle.std.specs.Prelude.{◌≡◌, ◌⊎◌, ◌++◌, IfErr, IfOk, List, OnOk, map};
-ghost use Rattle.cedar_declarations.specs.Fault.{Fault, out_of_memory};
-ghost use Rattle.cedar_declarations.specs.SchemaError.{fault_of};
-ghost use Rattle.cedar_builder.specs.DeclaredNodes.{IsParentFault, named, parents_in, plain_edge};
+ghost use Rattle.cedar_builder.specs.Words.{Fault, IsParentFault, fault_of, named, out_of_memory, parents_in, plain_edge};
 
 use cedar_below::M;
 use cedar_declarations::SchemaError;

@@ -1,14 +1,7 @@
 //! The entity types that the principals and the resources of actions name.
 
 ghost use Rattle.std.specs.Prelude.{◌≡◌, ◌⊎◌, Contains, IfErr, IfOk, OnOk, map};
-ghost use Rattle.cedar_below.specs.EntityType.{type_name};
-ghost use Rattle.cedar_below.specs.InternalName.{name_of};
-ghost use Rattle.cedar_below.specs.PlainName.{IsReserved, PlainName};
-ghost use Rattle.cedar_declarations.specs.Fault.{reserved_name, out_of_memory};
-ghost use Rattle.cedar_declarations.specs.SchemaError.{fault_of};
-ghost use Rattle.cedar_declarations.specs.ResolvedExpr.{resolved_reference};
-ghost use Rattle.cedar_names.specs.declared.json_schema.reference_type.ReferenceType.TheVariants.{Entity};
-ghost use Rattle.cedar_builder.specs.ActionSteps.{IsNameFault, IsRequestTypeFault, names_in};
+ghost use Rattle.cedar_builder.specs.Words.{Entity, IsNameFault, IsRequestTypeFault, IsReserved, PlainName, fault_of, name_of, names_in, out_of_memory, reserved_name, resolved_reference, type_name};
 
 use crate::named_type::named_type;
 use cedar_below::{EntityType, InternalName, NonEmpty};

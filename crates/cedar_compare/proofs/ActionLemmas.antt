@@ -1,20 +1,8 @@
 -- Actions whose entities the new version of a schema lacks, and those that it keeps.
 use Rattle.std.proofs.Common.{◌≡◌, ◌⊎◌, List, [], ◌∷◌, inl, inr, refl, subst, sym, ◌∙◌, ⊎_elim, Contains}
 use Rattle.cedar_below.proofs.Lists.{Contains-cons}
-use Rattle.cedar_below.specs.PlainUid.{PlainUid}
-use Rattle.cedar_below.specs.Tree.{Entries, map_value}
-use Rattle.cedar_below.specs.declared.extension.Extensions.{Extensions}
+use Rattle.cedar_compare.specs.Words.{ActionEntity, AreTagsOf, DefinesAction, EntityTypeKind, Entries, Extensions, Has, IsActionCause, IsEntityOfAction, IsEntityOfKind, IsEntityOfType, IsLostAction, IsReal, KeepsAction, ListsApart, ListsDescendantAction, MayStandAbove, PlainCause, PlainSchema, PlainUid, action_above, attributes_outside, choice_gone, context_outside, enumerated_kind, external_kind, gone, map_value, record_of, standard_kind, tags_outside, type_above}
 use Rattle.cedar_compare.proofs.ToldLemmas.{none_there}
-use Rattle.cedar_compare.specs.Difference.{IsActionCause, PlainCause, action_above, attributes_outside, choice_gone, context_outside, gone, tags_outside, type_above}
-use Rattle.cedar_compare.specs.Entities.{AreTagsOf, IsEntityOfKind, IsEntityOfType, IsReal, MayStandAbove}
-use Rattle.cedar_compare.specs.Keeps.{IsLostAction, KeepsAction}
-use Rattle.cedar_compare.specs.Uppers.{ListsApart}
-use Rattle.cedar_declarations.specs.ActionEntities.{DefinesAction, IsEntityOfAction}
-use Rattle.cedar_declarations.specs.EntityTypeKind.{EntityTypeKind, standard_kind, enumerated_kind, external_kind}
-use Rattle.cedar_declarations.specs.PlainSchema.{ActionEntity, PlainSchema}
-use Rattle.cedar_declarations.specs.ValidSchema.{ListsDescendantAction}
-use Rattle.cedar_type_rules.specs.Has.{Has}
-use Rattle.cedar_type_rules.specs.Ty.{record_of}
 
 -- a list without members is empty
 pub no_members : {A : Type 0} (xs : List A) → ((x : A) → ¬ Contains xs x) → xs ≡ []

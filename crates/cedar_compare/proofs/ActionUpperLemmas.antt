@@ -7,16 +7,10 @@ use Rattle.std.specs.Option.{option_map}
 use Rattle.std.specs.Ordering.{is_eq}
 use Rattle.cedar_below.proofs.Lists.{Contains-cons_cases}
 use Rattle.cedar_below.proofs.Uids.{entity_uid_ord-uid_cmp}
-use Rattle.cedar_below.specs.EntityUID.{uid_of}
-use Rattle.cedar_below.specs.PlainUid.{PlainUid, uid_cmp}
+use Rattle.cedar_compare.specs.Words.{AreActionUppersSoFar, EntityUID, IsActionUpperSoFar, IsKeyed, ListsApart, ListsDescendantAction, PlainSchema, PlainUid, SchemaAction, action_upper_at, uid_cmp, uid_of}
 use Rattle.cedar_below.specs.contracts.entity_uid.EntityUIDOrd.TheImpl as uid_ord
-use Rattle.cedar_below.specs.declared.entity_uid.EntityUID.{EntityUID}
 use Rattle.cedar_compare.proofs.ToldLemmas.{none_there}
-use Rattle.cedar_compare.specs.Lookup.{IsKeyed}
-use Rattle.cedar_compare.specs.Uppers.{AreActionUppersSoFar, IsActionUpperSoFar, ListsApart, action_upper_at}
 use Rattle.cedar_declarations.proofs.OccurrenceLemmas.{Contains-image, uid_test}
-use Rattle.cedar_declarations.specs.PlainSchema.{PlainSchema, SchemaAction}
-use Rattle.cedar_declarations.specs.ValidSchema.{ListsDescendantAction}
 
 -- what is apart in two schemas is apart in them turned round
 pub apart_turned : (one other : PlainSchema) (lower upper : PlainUid) → ListsApart one other lower upper → ListsApart other one lower upper

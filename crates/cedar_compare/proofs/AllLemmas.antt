@@ -9,16 +9,8 @@ use Rattle.std.specs.declared.cmp.Ordering.TheVariants.{Less, Equal}
 use Rattle.cedar_below.proofs.Lists.{Contains-cons_cases, Contains-preimage}
 use Rattle.cedar_below.proofs.Ordered.{IsStrictlySortedBy-map}
 use Rattle.cedar_below.proofs.PlainNames.{name_cmp-Equal, uid_cmp-Equal}
-use Rattle.cedar_below.specs.PlainName.{PlainName, name_cmp}
-use Rattle.cedar_below.specs.PlainUid.{PlainUid, uid_cmp}
-use Rattle.cedar_below.specs.declared.extension.Extensions.{Extensions}
+use Rattle.cedar_compare.specs.Words.{AreActionAnswers, AreAnswers, AreLosses, DefinesAction, Environment, Extensions, IsEnvironmentOf, IsLoss, Keeps, KeepsOf, LosesOf, PlainDifference, PlainName, PlainSchema, PlainUid, SchemaEntityType, Subject, action_lost, action_subject, entity_lost, environment_subject, name_cmp, request_lost, subject_cmp, subject_of, type_subject, uid_cmp}
 use Rattle.cedar_compare.proofs.ToldLemmas.{answered_append, none_there}
-use Rattle.cedar_compare.specs.Difference.{AreAnswers, AreLosses, IsLoss, KeepsOf, LosesOf, PlainDifference, Subject, action_lost, action_subject, entity_lost, environment_subject, request_lost, subject_cmp, subject_of, type_subject}
-use Rattle.cedar_compare.specs.Keeps.{Keeps}
-use Rattle.cedar_compare.specs.PlainRequests.{AreActionAnswers}
-use Rattle.cedar_declarations.specs.ActionEntities.{DefinesAction}
-use Rattle.cedar_declarations.specs.Environments.{Environment, IsEnvironmentOf}
-use Rattle.cedar_declarations.specs.PlainSchema.{PlainSchema, SchemaEntityType}
 
 -- environments of one action with one principal are in the order of their resources
 same_head : (uid : PlainUid) (principal r s : PlainName)

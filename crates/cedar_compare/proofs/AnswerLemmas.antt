@@ -1,20 +1,8 @@
 -- What is answered of a standard entity type.
 use Rattle.std.proofs.Common.{Option, Some, None, Result, Ok, Err, IfOk, Contains}
 use Rattle.std.specs.Option.{option_map}
-use Rattle.cedar_below.specs.PlainName.{PlainName}
-use Rattle.cedar_below.specs.declared.extension.Extensions.{Extensions}
-use Rattle.cedar_below.specs.declared.memory.Memory.{Memory}
+use Rattle.cedar_compare.specs.Words.{Difference, Extensions, IsAnswer, IsBesideAnswer, IsKeyed, IsStandard, Memory, PlainName, PlainSchema, SchemaEntityType, ValuesIncluded, kind_fields, kind_openness, kind_tags, plain_difference, record_of, type_subject}
 use Rattle.cedar_compare.proofs.LostLemmas.{kept_standard}
-use Rattle.cedar_compare.specs.Difference.{IsAnswer, type_subject}
-use Rattle.cedar_compare.specs.LostEntities.{IsBesideAnswer}
-use Rattle.cedar_compare.specs.Lookup.{IsKeyed}
-use Rattle.cedar_compare.specs.Told.{plain_difference}
-use Rattle.cedar_compare.specs.Versions.{IsStandard}
-use Rattle.cedar_compare.specs.declared.difference.Difference.{Difference}
-use Rattle.cedar_declarations.specs.EntityTypeKind.{kind_fields, kind_openness, kind_tags}
-use Rattle.cedar_declarations.specs.PlainSchema.{PlainSchema, SchemaEntityType}
-use Rattle.cedar_type_rules.specs.InclusionLaws.{ValuesIncluded}
-use Rattle.cedar_type_rules.specs.Ty.{record_of}
 
 -- where the attributes are included, what is found beside them is the answer
 pub standard_answered : (extensions : Extensions) (old new : PlainSchema) (name : PlainName) (ty other : SchemaEntityType) → IsKeyed old

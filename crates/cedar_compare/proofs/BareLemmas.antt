@@ -1,12 +1,6 @@
 -- Entities without attributes, tags and ancestors, and enumerated entity types.
 use Rattle.std.proofs.Common.{◌≡◌, List, subst, sym, Contains}
-use Rattle.cedar_below.specs.declared.extension.Extensions.{Extensions}
-use Rattle.cedar_compare.specs.Difference.{IsAlike}
-use Rattle.cedar_compare.specs.Entities.{IsEntityOfKind, IsEntityOfType}
-use Rattle.cedar_compare.specs.Lookup.{IsKeyed}
-use Rattle.cedar_declarations.specs.EntityTypeKind.{EntityTypeKind, standard_kind, enumerated_kind, external_kind}
-use Rattle.cedar_declarations.specs.PlainSchema.{ActionEntity, PlainSchema, SchemaEntityType}
-use Rattle.cedar_declarations.specs.ValidSchema.{IsEnumerated}
+use Rattle.cedar_compare.specs.Words.{ActionEntity, EntityTypeKind, Extensions, IsAlike, IsEntityOfKind, IsEntityOfType, IsEnumerated, IsKeyed, PlainSchema, SchemaEntityType, enumerated_kind, external_kind, standard_kind}
 
 -- a kind of the sort of an enumerated one is enumerated
 pub alike_enumerated : (a b : EntityTypeKind) → IsAlike a b → IsEnumerated a → IsEnumerated b

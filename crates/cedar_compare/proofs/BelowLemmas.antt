@@ -1,25 +1,8 @@
 -- What a schema below another admits, that one admits.
 use Rattle.std.proofs.Common.{◌≡◌, Contains, None, Option, Some, inl, inr, refl, subst, sym, ◌∙◌, ⊎_elim}
 use Rattle.cedar_below.proofs.Lists.{Contains-preimage}
-use Rattle.cedar_below.specs.Fits.{Gives}
-use Rattle.cedar_below.specs.PlainName.{PlainName}
-use Rattle.cedar_below.specs.PlainUid.{PlainUid}
-use Rattle.cedar_below.specs.Text.{Text}
-use Rattle.cedar_below.specs.Tree.{Entries, Tree, entry_at, map_value}
-use Rattle.cedar_below.specs.declared.extension.Extensions.{Extensions}
-use Rattle.cedar_below.specs.declared.validation_mode.ValidationMode.TheVariants.{Permissive}
-use Rattle.cedar_compare.specs.Entities.{AreTagsOf, IsEntityIn, IsEntityOfKind, IsIdOf, MayStandAbove}
-use Rattle.cedar_compare.specs.Keeps.{Keeps}
-use Rattle.cedar_compare.specs.Requests.{IsRequestIn, MayHaveId, PlainRequest}
-use Rattle.cedar_compare.specs.SchemaBelow.{ActionBelow, KindBelow, SchemaBelow, TagsBelow}
-use Rattle.cedar_declarations.specs.ActionEntities.{IsDefinedKind}
-use Rattle.cedar_declarations.specs.EntityTypeKind.{EntityTypeKind, standard_kind, enumerated_kind, external_kind}
-use Rattle.cedar_declarations.specs.Environments.{Environment, IsRequestOf}
-use Rattle.cedar_declarations.specs.PlainSchema.{ActionEntity, ActionKind, PlainSchema, SchemaEntityType, defined_action, external_action}
-use Rattle.cedar_declarations.specs.ValidSchema.{HasEntityType}
+use Rattle.cedar_compare.specs.Words.{ActionBelow, ActionEntity, ActionKind, AreTagsOf, EntityTypeKind, Entries, Environment, Extensions, Gives, Has, HasEntityType, IsDefinedKind, IsEntityIn, IsEntityOfKind, IsIdOf, IsRequestIn, IsRequestOf, Keeps, KindBelow, MayHaveId, MayStandAbove, Permissive, PlainName, PlainRequest, PlainSchema, PlainUid, SchemaBelow, SchemaEntityType, TagsBelow, Text, Tree, Ty, defined_action, entry_at, enumerated_kind, external_action, external_kind, map_value, record_of, standard_kind}
 use Rattle.cedar_type_rules.proofs.MemberLaws.{HasBy-above}
-use Rattle.cedar_type_rules.specs.Has.{Has}
-use Rattle.cedar_type_rules.specs.Ty.{Ty, record_of}
 
 -- tags of a type that go over to another are tags of that one
 tags_above : (extensions : Extensions) (lower upper : Option Ty) (tags : Entries) → TagsBelow lower upper → AreTagsOf extensions lower tags

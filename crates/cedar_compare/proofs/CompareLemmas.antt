@@ -13,40 +13,13 @@ use Rattle.std.specs.declared.cmp.Ordering.TheVariants.{Less}
 use Rattle.cedar_below.proofs.Lists.{Contains-cons, Contains-cons_cases, Contains-preimage}
 use Rattle.cedar_below.proofs.Ordered.{IsStrictlySortedBy-map}
 use Rattle.cedar_below.proofs.PlainNames.{name_cmp-total, uid_cmp-total}
-use Rattle.cedar_below.specs.Entity.{entity_uid}
-use Rattle.cedar_below.specs.EntityType.{type_name}
-use Rattle.cedar_below.specs.EntityUID.{uid_of}
-use Rattle.cedar_below.specs.PlainName.{PlainName, name_cmp}
-use Rattle.cedar_below.specs.PlainUid.{PlainUid, uid_cmp}
-use Rattle.cedar_below.specs.declared.entity.Entity.{Entity}
-use Rattle.cedar_below.specs.declared.entity_type.EntityType.{EntityType}
-use Rattle.cedar_below.specs.declared.entity_uid.EntityUID.{EntityUID}
-use Rattle.cedar_below.specs.declared.extension.Extensions.{Extensions}
+use Rattle.cedar_compare.specs.Words.{ActionEntity, ActionKind, AreActionAnswers, AreActionEntities, AreAllRequests, AreAnswers, AreEnvironmentSubjects, AreLosses, Difference, Entity, EntityType, EntityTypeKind, EntityUID, Extensions, IsAnswer, IsCompleteSchema, IsEntityOfAction, IsKeyed, IsLoss, Keeps, PlainDifference, PlainName, PlainSchema, PlainUid, SchemaAction, SchemaEntityType, Subject, ValidatorActionId, ValidatorEntityType, ValidatorSchema, action_entries, action_lost, action_of, action_subject, action_subjects, defined_action, entity_lost, entity_type_of, entity_uid, enumerated_kind, environment_subject, external_action, external_actions, external_kind, external_types, is_external_kind, is_external_type, name_cmp, plain_action_entity, plain_action_entry, plain_difference, plain_entry, plain_type, request_lost, schema_entries, schema_of, schema_with, standard_kind, subject_cmp, type_name, type_subject, type_subjects, uid_cmp, uid_of, unresolved, unresolved_action, unresolved_type}
 use Rattle.cedar_compare.proofs.AllLemmas.{AreAllSubjects, RequestsSoFar, all_losses, nothing_lost, requests_more}
 use Rattle.cedar_compare.proofs.LeftLemmas.{SureSoFar}
 use Rattle.cedar_compare.proofs.SortedLemmas.{one_at}
 use Rattle.cedar_compare.proofs.ToldLemmas.{AnswersSoFar, answered_append, answered_none, none_there, told_kept, told_lost, told_none}
-use Rattle.cedar_compare.specs.CompareFault.{IsCompleteSchema}
-use Rattle.cedar_compare.specs.Difference.{AreAnswers, AreLosses, IsAnswer, IsLoss, PlainDifference, Subject, action_lost, action_subject, entity_lost, environment_subject, request_lost, subject_cmp, type_subject}
-use Rattle.cedar_compare.specs.Keeps.{Keeps}
-use Rattle.cedar_compare.specs.Lookup.{IsKeyed, plain_type}
-use Rattle.cedar_compare.specs.Losses.{AreAllRequests, AreEnvironmentSubjects, action_subjects, type_subjects}
-use Rattle.cedar_compare.specs.PlainRequests.{AreActionAnswers}
-use Rattle.cedar_compare.specs.Told.{plain_difference}
-use Rattle.cedar_compare.specs.declared.difference.Difference.{Difference}
 use Rattle.cedar_declarations.proofs.OccurrenceLemmas.{Contains-filter, Contains-image}
-use Rattle.cedar_declarations.specs.ActionEntities.{AreActionEntities, IsEntityOfAction}
-use Rattle.cedar_declarations.specs.EntityTypeKind.{EntityTypeKind, standard_kind, enumerated_kind, external_kind}
-use Rattle.cedar_declarations.specs.PlainSchema.{ActionEntity, ActionKind, PlainSchema, SchemaAction, SchemaEntityType, defined_action, external_action}
 use Rattle.cedar_queries.proofs.SelectedLemmas.{Contains-kept}
-use Rattle.cedar_queries.specs.Unresolved.{external_actions, external_types, is_external_kind, is_external_type, unresolved, unresolved_action, unresolved_type}
-use Rattle.cedar_schema.specs.ValidatorSchema.{action_entries, schema_entries, schema_of}
-use Rattle.cedar_schema.specs.declared.schema.ValidatorSchema.{ValidatorSchema}
-use Rattle.cedar_schema_elements.specs.ActionEntities.{plain_action_entity, schema_with}
-use Rattle.cedar_schema_elements.specs.ValidatorActionId.{action_of, plain_action_entry}
-use Rattle.cedar_schema_elements.specs.ValidatorEntityType.{entity_type_of, plain_entry}
-use Rattle.cedar_schema_elements.specs.declared.action_id.ValidatorActionId.{ValidatorActionId}
-use Rattle.cedar_schema_elements.specs.declared.entity_type.ValidatorEntityType.{ValidatorEntityType}
 
 -- the subjects of names are those of the schema's entity types
 pub named_subjects : (schema : ValidatorSchema) (names : List EntityType) → names ≡ map (λ entry. entry.0) (schema_entries schema)

@@ -7,21 +7,9 @@ use Rattle.std.specs.declared.alloc.Global.{Global}
 use Rattle.std.specs.declared.string.String.{String}
 use Rattle.cedar_below.proofs.Lists.{Contains-cons, Contains-cons_cases, Contains-preimage}
 use Rattle.cedar_below.proofs.ValueCopies.{uid_real}
-use Rattle.cedar_below.specs.Entities.{entities_of, entity_at}
-use Rattle.cedar_below.specs.Entity.{entity_attrs, entity_tags, entity_uid}
-use Rattle.cedar_below.specs.EntityUID.{uid_of}
-use Rattle.cedar_below.specs.IsValue.{IsValue}
-use Rattle.cedar_below.specs.PlainUid.{PlainUid, uid_cmp}
-use Rattle.cedar_below.specs.Tree.{Entries, entries_from, map_value, no_entry, uid_value}
-use Rattle.cedar_below.specs.RestrictedExpr.{tree_of}
-use Rattle.cedar_below.specs.Value.{value_expr}
-use Rattle.cedar_below.specs.declared.entities.Entities.{Entities}
-use Rattle.cedar_below.specs.declared.entity.Entity.{Entity}
-use Rattle.cedar_below.specs.declared.value.Value.{Value}
+use Rattle.cedar_compare.specs.Words.{Entities, Entity, Entries, IsReal, IsValue, PlainUid, Value, entities_of, entity_at, entity_attrs, entity_tags, entity_uid, entries_from, map_value, named_values, no_entry, plain_action_entity, tree_of, uid_cmp, uid_of, uid_value, value_expr}
 use Rattle.cedar_compare.proofs.ToldLemmas.{none_there}
-use Rattle.cedar_compare.specs.Entities.{IsReal}
 use Rattle.cedar_declarations.proofs.OccurrenceLemmas.{uid_test}
-use Rattle.cedar_schema_elements.specs.ActionEntities.{named_values, plain_action_entity}
 
 -- no values are no entries
 pub no_values : (values : BTreeMap (String Global) Value) → values.entries ≡ [] → named_values values ≡ no_entry

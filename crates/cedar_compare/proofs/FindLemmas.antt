@@ -6,23 +6,8 @@ use Rattle.std.specs.Map.{lookup}
 use Rattle.std.specs.Option.{option_map}
 use Rattle.std.specs.Ordering.{is_eq}
 use Rattle.cedar_below.proofs.Lists.{Contains-cons, Contains-cons_cases}
-use Rattle.cedar_below.specs.EntityType.{type_name}
-use Rattle.cedar_below.specs.EntityUID.{uid_of}
-use Rattle.cedar_below.specs.PlainName.{PlainName, name_cmp}
-use Rattle.cedar_below.specs.PlainUid.{PlainUid, uid_cmp}
-use Rattle.cedar_below.specs.Text.{Text}
-use Rattle.cedar_compare.specs.Choices.{kind_choices}
-use Rattle.cedar_compare.specs.Lookup.{IsActionAt, IsAt, IsKeyed, IsTypeAt, plain_type}
-use Rattle.cedar_compare.specs.PlainRequests.{AreChoicesAt}
+use Rattle.cedar_compare.specs.Words.{ActionKind, AreChoicesAt, DefinesAction, IsActionAt, IsAt, IsDefinedKind, IsKeyed, IsTypeAt, ListsDescendantAction, PlainName, PlainSchema, PlainUid, SchemaAction, SchemaEntityType, Text, ValidatorActionId, ValidatorEntityType, ValidatorSchema, action_of, action_of_uid, defined_action, entity_type_named, external_action, kind_choices, name_cmp, plain_type, schema_of, type_name, uid_cmp, uid_of}
 use Rattle.cedar_declarations.proofs.OccurrenceLemmas.{name_test, uid_test}
-use Rattle.cedar_declarations.specs.ActionEntities.{DefinesAction, IsDefinedKind}
-use Rattle.cedar_declarations.specs.PlainSchema.{ActionKind, PlainSchema, SchemaAction, SchemaEntityType, defined_action, external_action}
-use Rattle.cedar_declarations.specs.ValidSchema.{ListsDescendantAction}
-use Rattle.cedar_schema.specs.ValidatorSchema.{action_of_uid, entity_type_named, schema_of}
-use Rattle.cedar_schema.specs.declared.schema.ValidatorSchema.{ValidatorSchema}
-use Rattle.cedar_schema_elements.specs.ValidatorActionId.{action_of}
-use Rattle.cedar_schema_elements.specs.declared.action_id.ValidatorActionId.{ValidatorActionId}
-use Rattle.cedar_schema_elements.specs.declared.entity_type.ValidatorEntityType.{ValidatorEntityType}
 
 module _ {K V P D : Type 0} (f : K → P) (g : V → D) (name : P) (test : K → Bool)
     (decides : (key : K) → Decides (test key) (name ≡ f key)) where

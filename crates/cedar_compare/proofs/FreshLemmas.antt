@@ -1,11 +1,6 @@
 -- Uids that a schema doesn't name.
 use Rattle.std.proofs.Common.{◌≡◌, ◌≤◌, ◌+◌, ℕ, arith, length, subst}
-use Rattle.cedar_below.specs.PlainName.{PlainName}
-use Rattle.cedar_below.specs.PlainUid.{PlainUid}
-use Rattle.cedar_below.specs.Text.{Text}
-use Rattle.cedar_compare.specs.Fresh.{IsFreshIn, NoLongerChoice}
-use Rattle.cedar_declarations.specs.PlainSchema.{PlainSchema}
-use Rattle.cedar_declarations.specs.ValidSchema.{HasAction}
+use Rattle.cedar_compare.specs.Words.{HasAction, IsFreshIn, NoLongerChoice, PlainName, PlainSchema, PlainUid, Text}
 
 -- the uid is of another type, or its id is no longer than a number says
 abbrev pub IsNoLonger : PlainName → ℕ → PlainUid → Type 0

@@ -2,30 +2,10 @@
 use Rattle.std.proofs.Common.{◌≡◌, List, [], ◌∷◌, Some, None, inl, refl, ap, subst, sym, ⊎_elim, Contains}
 use Rattle.cedar_below.proofs.Lists.{Contains-cons, Contains-cons_cases}
 use Rattle.cedar_below.proofs.ValueLemmas.{IsText-nil}
-use Rattle.cedar_below.specs.IsValue.{IsValue}
-use Rattle.cedar_below.specs.PlainName.{PlainName}
-use Rattle.cedar_below.specs.PlainUid.{PlainUid}
-use Rattle.cedar_below.specs.Text.{Text}
-use Rattle.cedar_below.specs.Tree.{Entries, Tree, map_value, no_entry, uid_value}
-use Rattle.cedar_below.specs.declared.extension.Extensions.{Extensions}
+use Rattle.cedar_compare.specs.Words.{ActionEntity, AreTagsOf, AreTagsOutside, DefinesAction, EntityTypeKind, Entries, Extensions, Has, HasAction, IsAlike, IsCauseOfKinds, IsEntityOfKind, IsFreshEntity, IsIdOf, IsKeyed, IsLostEntity, IsOutsideAt, IsReal, IsSampleOf, IsStandard, IsTagOutside, IsTypeLoss, IsUpperCause, IsValue, KeepsEntityType, MayHave, MayStandAbove, PlainCause, PlainName, PlainSchema, PlainStep, PlainUid, SchemaAction, SchemaEntityType, Text, Tree, ValuesIncluded, attributes_outside, entity_lost, enumerated_kind, external_kind, gone, kind_choices, kind_fields, kind_openness, kind_tags, map_value, no_entry, one_tag, record_of, standard_kind, tags_outside, type_subject, uid_value}
 use Rattle.cedar_compare.proofs.NoTags.{no_tags}
 use Rattle.cedar_compare.proofs.ToldLemmas.{none_there}
-use Rattle.cedar_compare.specs.Choices.{MayHave, kind_choices}
-use Rattle.cedar_compare.specs.Difference.{AreTagsOutside, IsAlike, IsCauseOfKinds, PlainCause, attributes_outside, entity_lost, gone, tags_outside, type_subject}
-use Rattle.cedar_compare.specs.Entities.{AreTagsOf, IsEntityOfKind, IsIdOf, IsReal, MayStandAbove}
-use Rattle.cedar_compare.specs.Keeps.{IsLostEntity, KeepsEntityType}
-use Rattle.cedar_compare.specs.LostEntities.{IsSampleOf, IsTagOutside, IsTypeLoss, IsUpperCause, one_tag}
-use Rattle.cedar_compare.specs.Lookup.{IsKeyed}
-use Rattle.cedar_counterexample.specs.Steps.{IsOutsideAt, PlainStep}
-use Rattle.cedar_compare.specs.Versions.{IsFreshEntity, IsStandard}
 use Rattle.cedar_declarations.proofs.OccurrenceLemmas.{Contains-image}
-use Rattle.cedar_declarations.specs.ActionEntities.{DefinesAction}
-use Rattle.cedar_declarations.specs.EntityTypeKind.{EntityTypeKind, standard_kind, enumerated_kind, external_kind, kind_fields, kind_openness, kind_tags}
-use Rattle.cedar_declarations.specs.PlainSchema.{ActionEntity, PlainSchema, SchemaAction, SchemaEntityType}
-use Rattle.cedar_declarations.specs.ValidSchema.{HasAction}
-use Rattle.cedar_type_rules.specs.Has.{Has}
-use Rattle.cedar_type_rules.specs.InclusionLaws.{ValuesIncluded}
-use Rattle.cedar_type_rules.specs.Ty.{record_of}
 
 -- entities of a kind may have an id where its choices, if it has some, say so
 pub id_of_choices : (kind : EntityTypeKind) (id : Text) → IsIdOf kind id → MayHave (kind_choices kind) id

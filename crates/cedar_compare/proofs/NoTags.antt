@@ -1,9 +1,6 @@
 -- Entities without tags.
 use Rattle.std.proofs.Common.{◌≡◌, Option, Some, None, refl}
-use Rattle.cedar_below.specs.Tree.{no_entry}
-use Rattle.cedar_below.specs.declared.extension.Extensions.{Extensions}
-use Rattle.cedar_compare.specs.Entities.{AreTagsOf}
-use Rattle.cedar_type_rules.specs.Ty.{Ty}
+use Rattle.cedar_compare.specs.Words.{AreTagsOf, Extensions, Ty, no_entry}
 
 -- no tags are tags of each type
 pub no_tags : (extensions : Extensions) (ty : Option Ty) → AreTagsOf extensions ty no_entry

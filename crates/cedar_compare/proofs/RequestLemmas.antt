@@ -1,22 +1,7 @@
 -- Requests that the new version of a schema lacks, and environments of which it keeps all.
 use Rattle.std.proofs.Common.{◌≡◌, List, Option, Some, None, refl, ap, subst, sym, ◌∙◌, Contains}
-use Rattle.cedar_below.specs.PlainName.{PlainName}
-use Rattle.cedar_below.specs.PlainUid.{PlainUid}
-use Rattle.cedar_below.specs.Text.{Text}
-use Rattle.cedar_below.specs.declared.extension.Extensions.{Extensions}
+use Rattle.cedar_compare.specs.Words.{ActionKind, AreChoicesAt, Environment, Extensions, Has, IsEnvironmentOf, IsIdOf, IsKeyed, IsLostRequest, IsOfTypes, IsRealRequest, IsRequestIn, IsRequestOf, IsUidOfType, IsUidOutside, KeepsRequest, LacksChoice, MayHave, MayHaveId, PlainName, PlainRequest, PlainSchema, PlainUid, SchemaAction, SchemaEntityType, Text, Ty, ValuesIncluded, defined_action, external_action}
 use Rattle.cedar_compare.proofs.LostLemmas.{choices_of_id, id_of_choices}
-use Rattle.cedar_compare.specs.Choices.{MayHave}
-use Rattle.cedar_compare.specs.Difference.{LacksChoice}
-use Rattle.cedar_compare.specs.Entities.{IsIdOf}
-use Rattle.cedar_compare.specs.Keeps.{IsLostRequest, KeepsRequest}
-use Rattle.cedar_compare.specs.Lookup.{IsKeyed}
-use Rattle.cedar_compare.specs.PlainRequests.{AreChoicesAt, IsUidOfType, IsUidOutside}
-use Rattle.cedar_compare.specs.Requests.{IsOfTypes, IsRealRequest, IsRequestIn, MayHaveId, PlainRequest}
-use Rattle.cedar_declarations.specs.Environments.{Environment, IsEnvironmentOf, IsRequestOf}
-use Rattle.cedar_declarations.specs.PlainSchema.{ActionKind, PlainSchema, SchemaAction, SchemaEntityType, defined_action, external_action}
-use Rattle.cedar_type_rules.specs.Has.{Has}
-use Rattle.cedar_type_rules.specs.InclusionLaws.{ValuesIncluded}
-use Rattle.cedar_type_rules.specs.Ty.{Ty}
 
 module _ (schema : PlainSchema) (keyed : IsKeyed schema) where
   -- the schema may have the uid where the choices of its type say so

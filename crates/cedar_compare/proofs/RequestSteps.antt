@@ -14,29 +14,12 @@ use Rattle.std.specs.declared.cmp.Ordering.{Ordering}
 use Rattle.std.specs.declared.cmp.Ordering.TheVariants.{Less, Equal, Greater}
 use Rattle.cedar_below.proofs.Lists.{Contains-cons, Contains-cons_cases, Contains-preimage}
 use Rattle.cedar_below.proofs.PlainNames.{name_cmp-Equal, name_cmp-total}
-use Rattle.cedar_below.specs.Lists.{SameItems, Twice}
-use Rattle.cedar_below.specs.PlainName.{PlainName, name_cmp}
-use Rattle.cedar_below.specs.PlainUid.{PlainUid}
-use Rattle.cedar_below.specs.Tree.{Tree}
-use Rattle.cedar_below.specs.declared.extension.Extensions.{Extensions}
+use Rattle.cedar_compare.specs.Words.{ActionKind, AreActionAnswers, AreAnswers, Environment, Extensions, Has, HasEnvironment, IsActionAt, IsAnswer, IsAppliedBy, IsContextIn, IsContextOf, IsContextOutside, IsEnvironmentFor, IsEnvironmentLacking, IsEnvironmentOf, IsKeyed, IsLostRequest, IsOfTypes, IsOutsideAt, IsRequestOf, IsSampleRequest, IsUidOfType, IsUidOutside, KeepsOf, LacksChoice, MayHaveId, PlainDifference, PlainName, PlainRequest, PlainSchema, PlainStep, PlainUid, SameItems, SchemaAction, Subject, Tree, Twice, Ty, choice_gone, context_at, context_outside, defined_action, environment_subject, external_action, gone, kind_context, kind_principals, kind_resources, name_cmp, request_lost, subject_cmp, subjects_with}
 use Rattle.cedar_compare.proofs.AllLemmas.{principals_below}
 use Rattle.cedar_compare.proofs.RequestLemmas.{kept_requests, lacking, lost_request}
 use Rattle.cedar_compare.proofs.SortedLemmas.{all_at}
 use Rattle.cedar_compare.proofs.ToldLemmas.{AnswersSoFar, answered_append, answered_none, map_append, none_there, told_lost}
-use Rattle.cedar_compare.specs.Difference.{AreAnswers, IsAnswer, IsEnvironmentFor, KeepsOf, LacksChoice, PlainDifference, Subject, choice_gone, context_outside, environment_subject, gone, request_lost, subject_cmp}
-use Rattle.cedar_compare.specs.Keeps.{IsLostRequest}
-use Rattle.cedar_compare.specs.LostRequests.{IsAppliedBy, context_at, subjects_with}
-use Rattle.cedar_compare.specs.Lookup.{IsActionAt, IsKeyed}
-use Rattle.cedar_compare.specs.PlainRequests.{AreActionAnswers, HasEnvironment, IsContextIn, IsContextOutside, IsEnvironmentLacking, IsSampleRequest, IsUidOfType, IsUidOutside}
-use Rattle.cedar_compare.specs.Requests.{IsOfTypes, MayHaveId, PlainRequest}
-use Rattle.cedar_counterexample.specs.Steps.{IsOutsideAt, PlainStep}
 use Rattle.cedar_declarations.proofs.OccurrenceLemmas.{Contains-flat_map, Contains-given, Contains-image, Twice-distinct, name_test}
-use Rattle.cedar_declarations.specs.Environments.{Environment, IsEnvironmentOf, IsRequestOf}
-use Rattle.cedar_declarations.specs.PlainSchema.{ActionKind, PlainSchema, SchemaAction, defined_action, external_action}
-use Rattle.cedar_declarations.specs.ValidSchema.{IsContextOf}
-use Rattle.cedar_schema_elements.specs.ActionKind.{kind_context, kind_principals, kind_resources}
-use Rattle.cedar_type_rules.specs.Has.{Has}
-use Rattle.cedar_type_rules.specs.Ty.{Ty}
 
 -- the context of an environment is that of its action
 kind_of_environment : (kind : ActionKind) (environment : Environment) → IsRequestOf kind environment

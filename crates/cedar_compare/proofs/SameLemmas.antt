@@ -1,19 +1,7 @@
 -- A schema keeps all that another admits which is the same.
 use Rattle.std.proofs.Common.{◌≡◌, inl, inr, subst, sym, ◌∙◌, ⊎_elim, Contains}
-use Rattle.cedar_below.specs.Lists.{HoldsPairwise, SameItems}
-use Rattle.cedar_below.specs.PlainName.{PlainName}
-use Rattle.cedar_below.specs.PlainUid.{PlainUid}
-use Rattle.cedar_below.specs.declared.extension.Extensions.{Extensions}
-use Rattle.cedar_compare.specs.Entities.{IsEntityIn, IsEntityOfKind, IsIdOf, MayStandAbove}
-use Rattle.cedar_compare.specs.Keeps.{Keeps}
-use Rattle.cedar_compare.specs.Requests.{IsRequestIn, MayHaveId, PlainRequest}
+use Rattle.cedar_compare.specs.Words.{ActionEntity, ActionKind, EntityTypeKind, Environment, Extensions, HoldsPairwise, IsDefinedKind, IsEntityIn, IsEntityOfKind, IsIdOf, IsRequestIn, IsRequestOf, Keeps, ListsDescendantAction, MayHaveId, MayStandAbove, PlainName, PlainRequest, PlainSchema, PlainUid, SameAction, SameActionKind, SameEntityType, SameItems, SameSchema, SchemaAction, SchemaEntityType, defined_action, enumerated_kind, external_action, external_kind, standard_kind}
 use Rattle.cedar_declarations.proofs.TurnLemmas.{turn_back, turn_forth}
-use Rattle.cedar_declarations.specs.ActionEntities.{IsDefinedKind}
-use Rattle.cedar_declarations.specs.EntityTypeKind.{EntityTypeKind, standard_kind, enumerated_kind, external_kind}
-use Rattle.cedar_declarations.specs.Environments.{Environment, IsRequestOf}
-use Rattle.cedar_declarations.specs.PlainSchema.{ActionEntity, ActionKind, PlainSchema, SchemaAction, SchemaEntityType, defined_action, external_action}
-use Rattle.cedar_declarations.specs.SameSchema.{SameAction, SameActionKind, SameEntityType, SameSchema}
-use Rattle.cedar_declarations.specs.ValidSchema.{ListsDescendantAction}
 
 -- the same entity types the other way round
 type_back : (it other : PlainName × SchemaEntityType) → SameEntityType it other → SameEntityType other it

@@ -3,20 +3,8 @@ use Rattle.std.proofs.Common.{◌≡◌, List, [], ◌++◌, Some, None, inl, in
 use Rattle.std.proofs.lemmas.List.Elements.{Contains-append_left, Contains-append_right}
 use Rattle.std.specs.Option.{option_to_list}
 use Rattle.cedar_below.proofs.Lists.{Contains-cons}
-use Rattle.cedar_below.specs.PlainName.{PlainName}
-use Rattle.cedar_below.specs.PlainUid.{PlainUid}
-use Rattle.cedar_below.specs.Tree.{Tree}
-use Rattle.cedar_below.specs.declared.extension.Extensions.{Extensions}
-use Rattle.cedar_compare.specs.PlainRequests.{IsContextIn}
-use Rattle.cedar_compare.specs.Versions.{IsSchemaSampled, IsStandard}
+use Rattle.cedar_compare.specs.Words.{ActionKind, AreInhabitedWith, EntityTypeKind, Extensions, Fields, IsContextIn, IsContextOf, IsInhabitedWith, IsSchemaSampled, IsStandard, IsTypeOfKind, PlainName, PlainSchema, PlainUid, SchemaAction, SchemaEntityType, Tree, Ty, context_types, defined_action, end, entity_type_types, enumerated_kind, external_action, external_kind, field, field_types, kind_context, kind_fields, kind_openness, kind_tags, leaves, leaves_of_fields, record_of, schema_leaves, set_of, standard_kind}
 use Rattle.cedar_declarations.proofs.OccurrenceLemmas.{Contains-given}
-use Rattle.cedar_declarations.specs.EntityTypeKind.{EntityTypeKind, standard_kind, enumerated_kind, external_kind, kind_fields, kind_openness, kind_tags}
-use Rattle.cedar_declarations.specs.PlainSchema.{ActionKind, PlainSchema, SchemaAction, SchemaEntityType, defined_action, external_action}
-use Rattle.cedar_declarations.specs.ValidSchema.{IsContextOf, IsTypeOfKind}
-use Rattle.cedar_queries.specs.Leaves.{context_types, entity_type_types, field_types, leaves, leaves_of_fields, schema_leaves}
-use Rattle.cedar_schema_elements.specs.ActionKind.{kind_context}
-use Rattle.cedar_type_rules.specs.Stated.{AreInhabitedWith, IsInhabitedWith}
-use Rattle.cedar_type_rules.specs.Ty.{Ty, set_of, record_of, Fields, end, field}
 
 module _ (extensions : Extensions) (samples : List Tree) where
   mutual

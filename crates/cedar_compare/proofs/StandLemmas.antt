@@ -1,17 +1,7 @@
 -- What may stand above entities, told by the entity type of a name.
 use Rattle.std.proofs.Common.{refl, subst, Contains}
-use Rattle.cedar_below.specs.PlainName.{PlainName}
-use Rattle.cedar_below.specs.PlainUid.{PlainUid}
-use Rattle.cedar_below.specs.Text.{Text}
-use Rattle.cedar_below.specs.declared.extension.Extensions.{Extensions}
+use Rattle.cedar_compare.specs.Words.{EntityTypeKind, Extensions, IsEntityOfKind, IsEnumerated, IsKeyed, MayHave, MayStandAbove, PlainName, PlainSchema, PlainUid, SchemaEntityType, Text, bare_entity, enumerated_kind, external_kind, kind_choices, standard_kind}
 use Rattle.cedar_compare.proofs.LostLemmas.{choices_of_id, id_of_choices}
-use Rattle.cedar_compare.specs.Choices.{MayHave, kind_choices}
-use Rattle.cedar_compare.specs.Entities.{IsEntityOfKind, MayStandAbove}
-use Rattle.cedar_compare.specs.LostEntities.{bare_entity}
-use Rattle.cedar_compare.specs.Lookup.{IsKeyed}
-use Rattle.cedar_declarations.specs.EntityTypeKind.{EntityTypeKind, standard_kind, enumerated_kind, external_kind}
-use Rattle.cedar_declarations.specs.PlainSchema.{PlainSchema, SchemaEntityType}
-use Rattle.cedar_declarations.specs.ValidSchema.{IsEnumerated}
 
 module _ (schema : PlainSchema) (name : PlainName) (upper : PlainUid) (ty : SchemaEntityType)
     (there : Contains schema.entity_types (upper.ty, ty)) where

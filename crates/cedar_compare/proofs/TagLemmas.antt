@@ -3,19 +3,7 @@ use Rattle.std.proofs.Common.{◌≡◌, ◌↔◌, Bool, true, false, if◌then
 use Rattle.std.proofs.lemmas.Option.{same_Some}
 use Rattle.std.specs.Option.{option_map}
 use Rattle.std.specs.Str.{bytes_eq}
-use Rattle.cedar_below.specs.IsValue.{AreEntries, IsValue}
-use Rattle.cedar_below.specs.Text.{Text}
-use Rattle.cedar_below.specs.Tree.{Entries, Tree, entry, entry_at, no_entry}
-use Rattle.cedar_below.specs.declared.extension.Extensions.{Extensions}
-use Rattle.cedar_below.specs.declared.memory.Memory.{Memory}
-use Rattle.cedar_compare.specs.Entities.{AreTagsOf}
-use Rattle.cedar_compare.specs.LostEntities.{IsTagOutside, one_tag, plain_outside}
-use Rattle.cedar_counterexample.specs.Steps.{IsOutsideAt, steps_of}
-use Rattle.cedar_counterexample.specs.declared.found.Outside.{Outside}
-use Rattle.cedar_type_rules.specs.Has.{Has}
-use Rattle.cedar_type_rules.specs.InclusionLaws.{ValuesIncluded}
-use Rattle.cedar_type_rules.specs.Ty.{Ty}
-use Rattle.cedar_types.specs.Samples.{value_tree}
+use Rattle.cedar_compare.specs.Words.{AreEntries, AreTagsOf, Entries, Extensions, Has, IsOutsideAt, IsTagOutside, IsValue, Memory, Outside, Text, Tree, Ty, ValuesIncluded, entry, entry_at, no_entry, one_tag, plain_outside, steps_of, value_tree}
 
 -- a value of a real record is real
 pub real_at : (entries : Entries) (name : Text) (value : Tree) → AreEntries entries → entry_at name entries ≡ Some value → IsValue value

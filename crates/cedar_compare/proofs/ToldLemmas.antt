@@ -5,10 +5,8 @@ use Rattle.std.proofs.lemmas.List.Elements.{Contains-append_cases, Contains-appe
 use Rattle.std.specs.List.Sorted.{IsStrictlySortedBy}
 use Rattle.std.specs.declared.cmp.Ordering.TheVariants.{Less}
 use Rattle.cedar_below.proofs.Lists.{Contains-cons, Contains-cons_cases}
-use Rattle.cedar_below.specs.declared.extension.Extensions.{Extensions}
+use Rattle.cedar_compare.specs.Words.{AreAnswers, Extensions, IsLoss, KeepsOf, PlainDifference, PlainSchema, Subject, subject_cmp, subject_of}
 use Rattle.cedar_compare.proofs.SortedLemmas.{sorted_append, sorted_without}
-use Rattle.cedar_compare.specs.Difference.{AreAnswers, IsLoss, KeepsOf, PlainDifference, Subject, subject_cmp, subject_of}
-use Rattle.cedar_declarations.specs.PlainSchema.{PlainSchema}
 
 -- nothing stands in an empty list
 pub none_there : {A : Type 0} (x : A) → ¬ Contains [] x

@@ -7,22 +7,11 @@ use Rattle.std.specs.Option.{option_map}
 use Rattle.std.specs.Ordering.{is_eq}
 use Rattle.cedar_below.proofs.Lists.{Contains-cons_cases}
 use Rattle.cedar_below.proofs.Names.{entity_type_ord-name_cmp}
-use Rattle.cedar_below.specs.EntityType.{type_name}
-use Rattle.cedar_below.specs.EntityUID.{uid_of}
-use Rattle.cedar_below.specs.PlainName.{PlainName, name_cmp}
-use Rattle.cedar_below.specs.PlainUid.{PlainUid}
-use Rattle.cedar_below.specs.Text.{Text}
+use Rattle.cedar_compare.specs.Words.{AreUppersSoFar, EntityType, EntityUID, IsKeyed, IsListedBy, IsUpperKept, IsUpperSoFar, MayHave, MayStandAbove, PlainName, PlainSchema, PlainUid, SchemaEntityType, Text, kind_choices, name_cmp, type_name, uid_of, upper_at}
 use Rattle.cedar_below.specs.contracts.entity_type.EntityTypeOrd.TheImpl as type_ord
-use Rattle.cedar_below.specs.declared.entity_type.EntityType.{EntityType}
-use Rattle.cedar_below.specs.declared.entity_uid.EntityUID.{EntityUID}
 use Rattle.cedar_compare.proofs.LostLemmas.{choices_of_id, id_of_choices}
 use Rattle.cedar_compare.proofs.ToldLemmas.{none_there}
-use Rattle.cedar_compare.specs.Choices.{MayHave, kind_choices}
-use Rattle.cedar_compare.specs.Entities.{MayStandAbove}
-use Rattle.cedar_compare.specs.Lookup.{IsKeyed}
-use Rattle.cedar_compare.specs.Uppers.{AreUppersSoFar, IsListedBy, IsUpperKept, IsUpperSoFar, upper_at}
 use Rattle.cedar_declarations.proofs.OccurrenceLemmas.{Contains-image, name_test}
-use Rattle.cedar_declarations.specs.PlainSchema.{PlainSchema, SchemaEntityType}
 
 module _ (old new : PlainSchema) (keyed : IsKeyed old) (keyed' : IsKeyed new) (name : PlainName) (it : SchemaEntityType)
     (there : Contains old.entity_types (name, it)) (id : Text) (may : MayHave (kind_choices it.kind) id) (kept : Option SchemaEntityType)

@@ -1,17 +1,7 @@
 -- Schemas of one entity type.
 use Rattle.std.proofs.Common.{◌≡◌, [], ◌∷◌, Contains, ap, arith, inl, refl, subst, sym, ⊎_elim}
 use Rattle.cedar_below.proofs.Lists.{Contains-cons, Contains-cons_cases}
-use Rattle.cedar_below.specs.IsValue.{IsName, IsText}
-use Rattle.cedar_below.specs.PlainName.{PlainName}
-use Rattle.cedar_below.specs.PlainUid.{PlainUid}
-use Rattle.cedar_below.specs.Text.{Text}
-use Rattle.cedar_below.specs.Tree.{no_entry}
-use Rattle.cedar_below.specs.declared.extension.Extensions.{Extensions}
-use Rattle.cedar_compare.specs.Entities.{IsEntityIn, IsEntityOfType, IsEntityOfKind, IsReal, MayStandAbove}
-use Rattle.cedar_compare.specs.Keeps.{Keeps, LosesEntityType}
-use Rattle.cedar_compare.specs.Samples.{user, user_of, users}
-use Rattle.cedar_declarations.specs.EntityTypeKind.{EntityTypeKind}
-use Rattle.cedar_declarations.specs.PlainSchema.{ActionEntity, SchemaEntityType}
+use Rattle.cedar_compare.specs.Words.{ActionEntity, EntityTypeKind, Extensions, IsEntityIn, IsEntityOfKind, IsEntityOfType, IsName, IsReal, IsText, Keeps, LosesEntityType, MayStandAbove, PlainName, PlainUid, SchemaEntityType, Text, no_entry, user, user_of, users}
 
 -- nothing is among no members
 none_among : {A : Type 0} (item : A) → ¬ Contains [] item

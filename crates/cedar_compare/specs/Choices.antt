@@ -1,8 +1,6 @@
 -- The ids that entities of a type may have.
 use Rattle.std.specs.Prelude.{List, Option, Some, None, Contains, map}
-use Rattle.cedar_below.specs.Eid.{eid_text}
-use Rattle.cedar_below.specs.NonEmpty.{items_of}
-use Rattle.cedar_below.specs.Text.{Text}
+use Rattle.cedar_below.specs.Words.{Text, eid_text, items_of}
 use Rattle.cedar_below.specs.declared.eid.Eid.{Eid}
 use Rattle.cedar_below.specs.declared.non_empty.NonEmpty.{NonEmpty}
 use Rattle.cedar_declarations.specs.EntityTypeKind.{EntityTypeKind, standard_kind, enumerated_kind, external_kind}

@@ -4,18 +4,13 @@ use Rattle.std.specs.List.Sorted.{IsStrictlySortedBy}
 use Rattle.std.specs.Ordering.{ordering_then}
 use Rattle.std.specs.declared.cmp.Ordering.{Ordering}
 use Rattle.std.specs.declared.cmp.Ordering.TheVariants.{Less, Greater}
-use Rattle.cedar_below.specs.PlainName.{PlainName, name_cmp}
-use Rattle.cedar_below.specs.PlainUid.{PlainUid, uid_cmp}
+use Rattle.cedar_below.specs.Words.{PlainName, PlainUid, name_cmp, uid_cmp}
 use Rattle.cedar_below.specs.declared.extension.Extensions.{Extensions}
 use Rattle.cedar_compare.specs.Choices.{MayHave, kind_choices}
 use Rattle.cedar_compare.specs.Keeps.{IsLostAction, IsLostEntity, IsLostRequest, KeepsAction, KeepsEntityType, KeepsRequest, LosesAction, LosesEntityType, LosesRequest}
 use Rattle.cedar_compare.specs.Requests.{IsOfTypes, PlainRequest}
 use Rattle.cedar_counterexample.specs.Steps.{IsOutsideAt, PlainStep}
-use Rattle.cedar_declarations.specs.ActionEntities.{DefinesAction}
-use Rattle.cedar_declarations.specs.EntityTypeKind.{EntityTypeKind, standard_kind, enumerated_kind, external_kind}
-use Rattle.cedar_declarations.specs.Environments.{Environment, IsEnvironmentOf}
-use Rattle.cedar_declarations.specs.PlainSchema.{ActionEntity, PlainSchema, SchemaEntityType}
-use Rattle.cedar_declarations.specs.ValidSchema.{ListsDescendant, ListsDescendantAction}
+use Rattle.cedar_declarations.specs.Words.{ActionEntity, DefinesAction, EntityTypeKind, Environment, IsEnvironmentOf, ListsDescendant, ListsDescendantAction, PlainSchema, SchemaEntityType, enumerated_kind, external_kind, standard_kind}
 use Rattle.cedar_type_rules.specs.Ty.{Ty, record_of}
 
 -- what a difference is of: an entity type, an action, or an environment by its principal, its

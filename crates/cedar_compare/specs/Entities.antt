@@ -1,16 +1,9 @@
 -- The entities that a schema admits.
 use Rattle.std.specs.Prelude.{◌≡◌, ◌⊎◌, [], Option, Some, None, Contains}
-use Rattle.cedar_below.specs.IsValue.{IsValue}
-use Rattle.cedar_below.specs.PlainName.{PlainName}
-use Rattle.cedar_below.specs.PlainUid.{PlainUid}
-use Rattle.cedar_below.specs.Text.{Text}
-use Rattle.cedar_below.specs.Tree.{Entries, Tree, entry_at, map_value, no_entry, uid_value}
+use Rattle.cedar_below.specs.Words.{Entries, IsValue, PlainName, PlainUid, Text, Tree, entry_at, map_value, no_entry, uid_value}
 use Rattle.cedar_below.specs.declared.extension.Extensions.{Extensions}
-use Rattle.cedar_declarations.specs.ActionEntities.{IsEntityOfAction}
-use Rattle.cedar_declarations.specs.EntityTypeKind.{EntityTypeKind, standard_kind, enumerated_kind, external_kind}
-use Rattle.cedar_declarations.specs.PlainSchema.{ActionEntity, PlainSchema, SchemaEntityType}
-use Rattle.cedar_type_rules.specs.Has.{Has}
-use Rattle.cedar_type_rules.specs.Ty.{Ty, record_of}
+use Rattle.cedar_declarations.specs.Words.{ActionEntity, EntityTypeKind, IsEntityOfAction, PlainSchema, SchemaEntityType, enumerated_kind, external_kind, standard_kind}
+use Rattle.cedar_type_rules.specs.Words.{Has, Ty, record_of}
 
 -- an entity is one of the language: its uid, its attributes, its tags and the uids above it are
 abbrev pub IsReal : ActionEntity → Type 0

@@ -15,3 +15,4 @@ pub mod SchemaBelow
 pub mod Told
 pub mod Uppers
 pub mod Versions
+pub mod Words

@@ -1,7 +1,6 @@
 -- What a schema has under a name.
 use Rattle.std.specs.Prelude.{◌≡◌, List, Option, Some, None, Contains}
-use Rattle.cedar_below.specs.PlainName.{PlainName}
-use Rattle.cedar_below.specs.PlainUid.{PlainUid}
+use Rattle.cedar_below.specs.Words.{PlainName, PlainUid}
 use Rattle.cedar_declarations.specs.PlainSchema.{PlainSchema, SchemaAction, SchemaEntityType}
 use Rattle.cedar_schema_elements.specs.ValidatorEntityType.{descendant_names, entity_type_of}
 use Rattle.cedar_schema_elements.specs.declared.entity_type.ValidatorEntityType.{ValidatorEntityType}

@@ -1,13 +1,10 @@
 -- The subjects of what is told of two versions of a schema.
 use Rattle.std.specs.Prelude.{◌≡◌, List, Contains, map}
-use Rattle.cedar_below.specs.Entity.{entity_uid}
-use Rattle.cedar_below.specs.PlainName.{PlainName}
-use Rattle.cedar_below.specs.PlainUid.{PlainUid}
+use Rattle.cedar_below.specs.Words.{PlainName, PlainUid, entity_uid}
 use Rattle.cedar_below.specs.declared.entity.Entity.{Entity}
 use Rattle.cedar_below.specs.declared.extension.Extensions.{Extensions}
 use Rattle.cedar_compare.specs.Difference.{AreAnswers, PlainDifference, Subject, action_subject, environment_subject, type_subject}
-use Rattle.cedar_declarations.specs.Environments.{Environment, IsEnvironmentOf}
-use Rattle.cedar_declarations.specs.PlainSchema.{PlainSchema}
+use Rattle.cedar_declarations.specs.Words.{Environment, IsEnvironmentOf, PlainSchema}
 
 -- the entity types of a schema
 abbrev pub type_subjects : PlainSchema → List Subject

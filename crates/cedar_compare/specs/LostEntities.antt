@@ -1,19 +1,13 @@
 -- What is found on the way to an entity that is lost.
 use Rattle.std.specs.Prelude.{◌≡◌, List, [], Option, Some, None, Contains}
-use Rattle.cedar_below.specs.IsValue.{IsValue}
-use Rattle.cedar_below.specs.PlainName.{PlainName}
-use Rattle.cedar_below.specs.PlainUid.{PlainUid}
-use Rattle.cedar_below.specs.Text.{Text}
-use Rattle.cedar_below.specs.Tree.{Entries, Tree, entry, map_value, no_entry}
+use Rattle.cedar_below.specs.Words.{Entries, IsValue, PlainName, PlainUid, Text, Tree, entry, map_value, no_entry}
 use Rattle.cedar_below.specs.declared.extension.Extensions.{Extensions}
 use Rattle.cedar_compare.specs.Difference.{AreTagsOutside, IsLoss, IsTypeCause, PlainCause, PlainDifference, subject_of, type_subject}
 use Rattle.cedar_compare.specs.Entities.{AreTagsOf, IsEntityIn, MayStandAbove}
 use Rattle.cedar_counterexample.specs.Steps.{PlainStep, steps_of}
 use Rattle.cedar_counterexample.specs.declared.found.Outside.{Outside}
-use Rattle.cedar_declarations.specs.EntityTypeKind.{enumerated_kind}
-use Rattle.cedar_declarations.specs.PlainSchema.{ActionEntity, PlainSchema, SchemaEntityType}
-use Rattle.cedar_type_rules.specs.Has.{Has}
-use Rattle.cedar_type_rules.specs.Ty.{Fields, Ty, record_of}
+use Rattle.cedar_declarations.specs.Words.{ActionEntity, PlainSchema, SchemaEntityType, enumerated_kind}
+use Rattle.cedar_type_rules.specs.Words.{Fields, Has, Ty, record_of}
 use Rattle.cedar_type_rules.specs.declared.open_tag.OpenTag.{OpenTag}
 use Rattle.cedar_types.specs.Samples.{value_tree}
 

@@ -1,21 +1,13 @@
 -- What is found on the way to a request that is lost, as plain data.
 use Rattle.std.specs.Prelude.{◌≡◌, List, Option, Some, None, Contains}
-use Rattle.cedar_below.specs.IsValue.{IsValue}
-use Rattle.cedar_below.specs.PlainName.{PlainName}
-use Rattle.cedar_below.specs.PlainUid.{PlainUid}
-use Rattle.cedar_below.specs.Text.{Text}
-use Rattle.cedar_below.specs.Tree.{Tree}
+use Rattle.cedar_below.specs.Words.{IsValue, PlainName, PlainUid, Text, Tree}
 use Rattle.cedar_below.specs.declared.extension.Extensions.{Extensions}
 use Rattle.cedar_compare.specs.Choices.{kind_choices}
 use Rattle.cedar_compare.specs.Difference.{AreAnswers, LacksChoice, PlainDifference, Subject, environment_subject}
 use Rattle.cedar_compare.specs.Requests.{IsRealRequest, MayHaveId, PlainRequest}
 use Rattle.cedar_counterexample.specs.Steps.{IsOutsideAt, PlainStep}
-use Rattle.cedar_declarations.specs.Environments.{Environment, IsEnvironmentOf}
-use Rattle.cedar_declarations.specs.PlainSchema.{PlainSchema, SchemaAction, SchemaEntityType}
-use Rattle.cedar_declarations.specs.ValidSchema.{IsContextOf}
-use Rattle.cedar_type_rules.specs.Has.{Has}
-use Rattle.cedar_type_rules.specs.InclusionLaws.{ValuesIncluded}
-use Rattle.cedar_type_rules.specs.Ty.{Ty}
+use Rattle.cedar_declarations.specs.Words.{Environment, IsContextOf, IsEnvironmentOf, PlainSchema, SchemaAction, SchemaEntityType}
+use Rattle.cedar_type_rules.specs.Words.{Has, Ty, ValuesIncluded}
 
 -- these are the choices of the schema's entity type of the name, if it is an enumerated one
 abbrev pub AreChoicesAt : PlainSchema → PlainName → Option (List Text) → Type 0

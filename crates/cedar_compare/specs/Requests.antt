@@ -1,13 +1,9 @@
 -- The requests that a schema admits.
 use Rattle.std.specs.Prelude.{◌≡◌, Contains}
-use Rattle.cedar_below.specs.IsValue.{IsValue}
-use Rattle.cedar_below.specs.PlainName.{PlainName}
-use Rattle.cedar_below.specs.PlainUid.{PlainUid}
-use Rattle.cedar_below.specs.Tree.{Tree, uid_value}
+use Rattle.cedar_below.specs.Words.{IsValue, PlainName, PlainUid, Tree, uid_value}
 use Rattle.cedar_below.specs.declared.extension.Extensions.{Extensions}
 use Rattle.cedar_compare.specs.Entities.{IsIdOf}
-use Rattle.cedar_declarations.specs.Environments.{Environment, IsEnvironmentOf}
-use Rattle.cedar_declarations.specs.PlainSchema.{PlainSchema, SchemaEntityType}
+use Rattle.cedar_declarations.specs.Words.{Environment, IsEnvironmentOf, PlainSchema, SchemaEntityType}
 use Rattle.cedar_type_rules.specs.Has.{Has}
 
 -- a request as plain data

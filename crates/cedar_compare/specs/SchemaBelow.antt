@@ -1,15 +1,9 @@
 -- Schemas, one below another, by what permissive subtyping allows.
 use Rattle.std.specs.Prelude.{◌≡◌, ◌↔◌, Option, Some, None, Contains}
-use Rattle.cedar_below.specs.Lists.{Included}
-use Rattle.cedar_below.specs.PlainName.{PlainName}
-use Rattle.cedar_below.specs.PlainUid.{PlainUid}
+use Rattle.cedar_below.specs.Words.{Included, PlainName, PlainUid}
 use Rattle.cedar_below.specs.declared.validation_mode.ValidationMode.TheVariants.{Permissive}
-use Rattle.cedar_declarations.specs.EntityTypeKind.{EntityTypeKind, standard_kind, enumerated_kind, external_kind}
-use Rattle.cedar_declarations.specs.Environments.{Environment, IsEnvironmentOf}
-use Rattle.cedar_declarations.specs.PlainSchema.{ActionKind, PlainSchema, SchemaAction, SchemaEntityType, defined_action, external_action}
-use Rattle.cedar_declarations.specs.ValidSchema.{HasEntityType, ListsDescendantAction}
-use Rattle.cedar_type_rules.specs.Below.{Below}
-use Rattle.cedar_type_rules.specs.Ty.{Ty, record_of}
+use Rattle.cedar_declarations.specs.Words.{ActionKind, EntityTypeKind, Environment, HasEntityType, IsEnvironmentOf, ListsDescendantAction, PlainSchema, SchemaAction, SchemaEntityType, defined_action, enumerated_kind, external_action, external_kind, standard_kind}
+use Rattle.cedar_type_rules.specs.Words.{Below, Ty, record_of}
 
 -- tags go over to another type: there are none, or their type is below that one
 abbrev pub TagsBelow : Option Ty → Option Ty → Type 0

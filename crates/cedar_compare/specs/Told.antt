@@ -1,6 +1,5 @@
 -- Differences as plain data.
-use Rattle.cedar_below.specs.EntityType.{type_name}
-use Rattle.cedar_below.specs.EntityUID.{uid_of}
+use Rattle.cedar_below.specs.Words.{type_name, uid_of}
 use Rattle.cedar_compare.specs.Difference.{PlainCause, PlainDifference, action_above, action_lost, attributes_outside, choice_gone, context_outside, entity_lost, gone, request_lost, tags_outside, type_above}
 use Rattle.cedar_compare.specs.Requests.{PlainRequest}
 use Rattle.cedar_compare.specs.declared.difference.Cause.{Cause}

@@ -2,19 +2,13 @@
 use Rattle.std.specs.Prelude.{◌⊎◌, List, Option, Some, None, Contains}
 use Rattle.std.specs.BTreeMap.{BTreeMap, get_by}
 use Rattle.std.specs.Option.{option_map}
-use Rattle.cedar_below.specs.EntityType.{type_name}
-use Rattle.cedar_below.specs.EntityUID.{uid_of}
-use Rattle.cedar_below.specs.PlainName.{PlainName, name_cmp}
-use Rattle.cedar_below.specs.PlainUid.{PlainUid, uid_cmp}
-use Rattle.cedar_below.specs.Text.{Text}
+use Rattle.cedar_below.specs.Words.{PlainName, PlainUid, Text, name_cmp, type_name, uid_cmp, uid_of}
 use Rattle.cedar_below.specs.declared.entity_type.EntityType.{EntityType}
 use Rattle.cedar_below.specs.declared.entity_uid.EntityUID.{EntityUID}
 use Rattle.cedar_compare.specs.Choices.{MayHave, kind_choices}
 use Rattle.cedar_compare.specs.Difference.{IsActionCause, PlainCause}
 use Rattle.cedar_compare.specs.Entities.{MayStandAbove}
-use Rattle.cedar_declarations.specs.ActionEntities.{DefinesAction}
-use Rattle.cedar_declarations.specs.PlainSchema.{PlainSchema, SchemaEntityType}
-use Rattle.cedar_declarations.specs.ValidSchema.{ListsDescendantAction}
+use Rattle.cedar_declarations.specs.Words.{DefinesAction, ListsDescendantAction, PlainSchema, SchemaEntityType}
 
 -- what is kept under the name of an entity type
 abbrev pub upper_at : BTreeMap EntityType EntityUID → EntityType → Option PlainUid

@@ -1,22 +1,14 @@
 -- Two versions of a schema that are compared.
 use Rattle.std.specs.Prelude.{◌≡◌, List}
-use Rattle.cedar_below.specs.Entities.{entities_of}
-use Rattle.cedar_below.specs.IsValue.{IsValue}
-use Rattle.cedar_below.specs.PlainName.{PlainName}
-use Rattle.cedar_below.specs.PlainUid.{PlainUid}
-use Rattle.cedar_below.specs.Tree.{Entries, Tree, uid_value}
+use Rattle.cedar_below.specs.Words.{Entries, IsValue, PlainName, PlainUid, Tree, entities_of, uid_value}
 use Rattle.cedar_below.specs.declared.extension.Extensions.{Extensions}
 use Rattle.cedar_compare.specs.Fresh.{IsFreshIn}
 use Rattle.cedar_compare.specs.Lookup.{IsKeyed}
 use Rattle.cedar_compare.specs.declared.versions.Versions.{Versions}
-use Rattle.cedar_declarations.specs.ActionEntities.{AreActionEntities}
-use Rattle.cedar_declarations.specs.EntityTypeKind.{EntityTypeKind, standard_kind}
-use Rattle.cedar_declarations.specs.PlainSchema.{ActionEntity, PlainSchema}
-use Rattle.cedar_declarations.specs.ValidSchema.{IsTypeIn}
+use Rattle.cedar_declarations.specs.Words.{ActionEntity, AreActionEntities, EntityTypeKind, IsTypeIn, PlainSchema, standard_kind}
 use Rattle.cedar_schema.specs.ValidatorSchema.{action_entries, schema_of}
 use Rattle.cedar_schema_elements.specs.ActionEntities.{schema_with}
-use Rattle.cedar_type_rules.specs.Stated.{IsInhabitedWith}
-use Rattle.cedar_type_rules.specs.Ty.{Ty}
+use Rattle.cedar_type_rules.specs.Words.{IsInhabitedWith, Ty}
 use Rattle.cedar_types.specs.Samples.{value_trees}
 
 -- each type in a schema is inhabited by the samples

@@ -1,14 +1,7 @@
 //! What stands above actions in one of two versions alone.
 
 ghost use Rattle.std.specs.Prelude.{◌↔◌, ◌∷◌, List, Contains, IfOk, IsTrue, OnOk, map};
-ghost use Rattle.cedar_below.specs.EntityUID.{uid_of};
-ghost use Rattle.cedar_below.specs.PlainUid.{PlainUid};
-ghost use Rattle.cedar_compare.specs.Lookup.{IsKeyed};
-ghost use Rattle.cedar_compare.specs.Uppers.{AreActionUppers, AreActionUppersSoFar};
-ghost use Rattle.cedar_compare.specs.Versions.{AreVersions, new_of, old_of};
-ghost use Rattle.cedar_declarations.specs.ValidSchema.{ListsDescendantAction};
-ghost use Rattle.cedar_schema.specs.ValidatorSchema.{schema_of};
-ghost use Rattle.cedar_schema_elements.specs.ValidatorActionId.{action_of};
+ghost use Rattle.cedar_compare.specs.Words.{AreActionUppers, AreActionUppersSoFar, AreVersions, IsKeyed, ListsDescendantAction, PlainUid, action_of, new_of, old_of, schema_of, uid_of};
 
 use crate::keeping::keep;
 use crate::versions::{Versions, find_action};

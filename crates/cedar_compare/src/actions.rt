@@ -2,18 +2,7 @@
 
 ghost use Rattle.std.specs.Prelude.{◌≡◌, ◌↔◌, IfOk, IsTrue, map};
 ghost use Rattle.std.specs.Option.{option_map};
-ghost use Rattle.cedar_below.specs.Entity.{entity_ancestors, entity_uid};
-ghost use Rattle.cedar_below.specs.EntityUID.{uid_of};
-ghost use Rattle.cedar_below.specs.Lists.{SameItems};
-ghost use Rattle.cedar_compare.specs.Difference.{IsAnswer, action_subject};
-ghost use Rattle.cedar_compare.specs.Entities.{IsReal};
-ghost use Rattle.cedar_compare.specs.Lookup.{IsKeyed};
-ghost use Rattle.cedar_compare.specs.Told.{plain_cause, plain_difference};
-ghost use Rattle.cedar_compare.specs.Uppers.{AreActionUppers, IsActionAnswer};
-ghost use Rattle.cedar_compare.specs.Versions.{AreVersions, new_of, old_of};
-ghost use Rattle.cedar_declarations.specs.ActionEntities.{DefinesAction, IsEntityOfAction};
-ghost use Rattle.cedar_schema.specs.ValidatorSchema.{schema_of};
-ghost use Rattle.cedar_schema_elements.specs.ActionEntities.{plain_action_entity};
+ghost use Rattle.cedar_compare.specs.Words.{AreActionUppers, AreVersions, DefinesAction, IsActionAnswer, IsAnswer, IsEntityOfAction, IsKeyed, IsReal, SameItems, action_subject, entity_ancestors, entity_uid, new_of, old_of, plain_action_entity, plain_cause, plain_difference, schema_of, uid_of};
 
 use crate::action_uppers::ActionUppers;
 use crate::bare::is_bare_of_type;

@@ -1,21 +1,7 @@
 //! Entities without attributes and tags.
 
 ghost use Rattle.std.specs.Prelude.{◌≡◌, ◌↔◌, Contains, IsTrue, [], map};
-ghost use Rattle.cedar_below.specs.Entity.{entity_ancestors, entity_attrs, entity_tags, entity_uid};
-ghost use Rattle.cedar_below.specs.Entities.{entities_of};
-ghost use Rattle.cedar_below.specs.EntityType.{type_name};
-ghost use Rattle.cedar_below.specs.EntityUID.{uid_of};
-ghost use Rattle.cedar_below.specs.PlainUid.{PlainUid};
-ghost use Rattle.cedar_below.specs.Tree.{map_value, no_entry};
-ghost use Rattle.cedar_below.specs.declared.extension.Extensions.{Extensions};
-ghost use Rattle.cedar_compare.specs.Entities.{IsEntityOfType, MayStandAbove};
-ghost use Rattle.cedar_compare.specs.Lookup.{IsKeyed};
-ghost use Rattle.cedar_schema.specs.ValidatorSchema.{schema_of};
-ghost use Rattle.cedar_schema_elements.specs.ActionEntities.{named_values, plain_action_entity};
-ghost use Rattle.cedar_type_rules.specs.Has.{Has};
-ghost use Rattle.cedar_type_rules.specs.Ty.{record_of};
-ghost use Rattle.cedar_type_rules.specs.declared.open_tag.OpenTag.{OpenTag};
-ghost use Rattle.cedar_types.specs.Meaning.{fields_of};
+ghost use Rattle.cedar_compare.specs.Words.{Extensions, Has, IsEntityOfType, IsKeyed, MayStandAbove, OpenTag, PlainUid, entities_of, entity_ancestors, entity_attrs, entity_tags, entity_uid, fields_of, map_value, named_values, no_entry, plain_action_entity, record_of, schema_of, type_name, uid_of};
 
 use crate::choices::{choices_of, has_choice};
 use crate::versions::find_type;

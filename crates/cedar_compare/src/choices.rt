@@ -2,10 +2,7 @@
 
 ghost use Rattle.std.specs.Prelude.{◌≡◌, ◌↔◌, ◌+◌, ◌≤◌, Contains, IfOk, IfSome, IsTrue, None, length, map};
 ghost use Rattle.std.specs.Option.{option_copied, option_map};
-ghost use Rattle.cedar_below.specs.Eid.{eid_text};
-ghost use Rattle.cedar_below.specs.Text.{Text};
-ghost use Rattle.cedar_compare.specs.Choices.{IsIdOutside, MayHave, choice_texts, kind_choices};
-ghost use Rattle.cedar_schema_elements.specs.EntityTypeKind.{plain_kind};
+ghost use Rattle.cedar_compare.specs.Words.{IsIdOutside, MayHave, Text, choice_texts, eid_text, kind_choices, plain_kind};
 
 use cedar_below::{Eid, M, NonEmpty};
 use cedar_schema::ValidatorEntityTypeKind;

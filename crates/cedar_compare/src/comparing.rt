@@ -1,16 +1,7 @@
 //! Two versions of a schema, compared.
 
 ghost use Rattle.std.specs.Prelude.{◌≡◌, ◌↔◌, [], IfErr, IfOk, IfSome, None, OnOk, map, string_bytes};
-ghost use Rattle.cedar_below.specs.Entities.{entities_of};
-ghost use Rattle.cedar_compare.specs.CompareFault.{IsCompareFault, IsComparable, IsUnsampledType, IsVersionFault};
-ghost use Rattle.cedar_compare.specs.Difference.{AreLosses};
-ghost use Rattle.cedar_compare.specs.Keeps.{Keeps};
-ghost use Rattle.cedar_compare.specs.Told.{plain_difference};
-ghost use Rattle.cedar_compare.specs.Versions.{IsSchemaSampled};
-ghost use Rattle.cedar_declarations.specs.ActionEntities.{AreActionEntities};
-ghost use Rattle.cedar_schema.specs.ValidatorSchema.{action_entries, schema_of};
-ghost use Rattle.cedar_schema_elements.specs.ActionEntities.{schema_with};
-ghost use Rattle.cedar_types.specs.Samples.{value_trees};
+ghost use Rattle.cedar_compare.specs.Words.{AreActionEntities, AreLosses, IsComparable, IsCompareFault, IsSchemaSampled, IsUnsampledType, IsVersionFault, Keeps, action_entries, entities_of, plain_difference, schema_of, schema_with, value_trees};
 
 use crate::compare_fault::{CompareFault, Version};
 use crate::difference::Difference;

@@ -2,23 +2,7 @@
 
 ghost use Rattle.std.specs.Prelude.{◌≡◌, ◌↔◌, ◌∷◌, [], Contains, IfOk, IsTrue};
 ghost use Rattle.std.specs.Option.{option_map};
-ghost use Rattle.cedar_below.specs.Eid.{eid_text};
-ghost use Rattle.cedar_below.specs.EntityType.{type_name};
-ghost use Rattle.cedar_below.specs.EntityUID.{uid_of};
-ghost use Rattle.cedar_below.specs.Tree.{Entries, no_entry};
-ghost use Rattle.cedar_compare.specs.Choices.{choice_texts};
-ghost use Rattle.cedar_compare.specs.Difference.{IsAnswer, IsTypeCause, type_subject};
-ghost use Rattle.cedar_compare.specs.Entities.{IsEntityIn, MayStandAbove};
-ghost use Rattle.cedar_compare.specs.LostEntities.{IsBelowAnswer, IsBesideAnswer, IsChoiceAnswer, IsChoiceOf, IsSampleOf, IsTagOutside, IsUpperCause, bare_entity, one_tag, plain_outside};
-ghost use Rattle.cedar_compare.specs.Lookup.{plain_type};
-ghost use Rattle.cedar_compare.specs.Told.{plain_cause, plain_difference};
-ghost use Rattle.cedar_compare.specs.Uppers.{AreUppersLost};
-ghost use Rattle.cedar_compare.specs.Versions.{AreVersions, IsFreshEntity, IsStandard, new_of, old_of};
-ghost use Rattle.cedar_declarations.specs.EntityTypeKind.{enumerated_kind, kind_fields, kind_openness, kind_tags};
-ghost use Rattle.cedar_declarations.specs.PlainSchema.{ActionEntity, SchemaEntityType};
-ghost use Rattle.cedar_schema_elements.specs.ActionEntities.{named_values, plain_action_entity};
-ghost use Rattle.cedar_schema_elements.specs.ValidatorEntityType.{entity_type_of};
-ghost use Rattle.cedar_types.specs.Samples.{value_tree};
+ghost use Rattle.cedar_compare.specs.Words.{ActionEntity, AreUppersLost, AreVersions, Entries, IsAnswer, IsBelowAnswer, IsBesideAnswer, IsChoiceAnswer, IsChoiceOf, IsEntityIn, IsFreshEntity, IsSampleOf, IsStandard, IsTagOutside, IsTypeCause, IsUpperCause, MayStandAbove, SchemaEntityType, bare_entity, choice_texts, eid_text, entity_type_of, enumerated_kind, kind_fields, kind_openness, kind_tags, named_values, new_of, no_entry, old_of, one_tag, plain_action_entity, plain_cause, plain_difference, plain_outside, plain_type, type_name, type_subject, uid_of, value_tree};
 
 use crate::bare::{is_bare_of_type, is_without_ancestors};
 use crate::difference::{Cause, Difference};

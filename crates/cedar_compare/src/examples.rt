@@ -1,9 +1,7 @@
 //! Worked examples of what a new version of a schema keeps and loses.
 
 ghost use Rattle.std.specs.Prelude.{true, false, codes};
-ghost use Rattle.cedar_below.specs.declared.extension.Extensions.{Extensions};
-ghost use Rattle.cedar_compare.specs.Keeps.{Keeps, LosesEntityType};
-ghost use Rattle.cedar_compare.specs.Samples.{choice, user, users, with_age, without_attributes};
+ghost use Rattle.cedar_compare.specs.Words.{Extensions, Keeps, LosesEntityType, choice, user, users, with_age, without_attributes};
 
 /// An optional attribute is added: each entity stays one.
 pub fn optional_attributes_are_kept()

@@ -1,13 +1,7 @@
 //! Uids that a schema doesn't name.
 
 ghost use Rattle.std.specs.Prelude.{◌≤◌, IfOk, length};
-ghost use Rattle.cedar_below.specs.EntityType.{type_name};
-ghost use Rattle.cedar_below.specs.EntityUID.{uid_of};
-ghost use Rattle.cedar_below.specs.Text.{Text};
-ghost use Rattle.cedar_compare.specs.Fresh.{IsFreshIn, NoLongerChoice};
-ghost use Rattle.cedar_compare.specs.Lookup.{IsKeyed};
-ghost use Rattle.cedar_declarations.specs.ValidSchema.{HasAction};
-ghost use Rattle.cedar_schema.specs.ValidatorSchema.{schema_of};
+ghost use Rattle.cedar_compare.specs.Words.{HasAction, IsFreshIn, IsKeyed, NoLongerChoice, Text, schema_of, type_name, uid_of};
 
 use crate::choices::{choices_of, id_of_length, longest_choice};
 use crate::versions::find_type;

@@ -1,15 +1,7 @@
 //! What a new version of a schema takes away.
 
 ghost use Rattle.std.specs.Prelude.{◌≡◌, [], IfOk, map};
-ghost use Rattle.cedar_below.specs.Entities.{entities_of};
-ghost use Rattle.cedar_compare.specs.Difference.{AreAnswers, AreLosses};
-ghost use Rattle.cedar_compare.specs.Keeps.{Keeps};
-ghost use Rattle.cedar_compare.specs.Losses.{AreAllRequests, action_subjects, type_subjects};
-ghost use Rattle.cedar_compare.specs.Told.{plain_difference};
-ghost use Rattle.cedar_compare.specs.Versions.{AreVersions, new_of, old_of};
-ghost use Rattle.cedar_declarations.specs.ActionEntities.{AreActionEntities};
-ghost use Rattle.cedar_schema.specs.ValidatorSchema.{action_entries};
-ghost use Rattle.cedar_schema_elements.specs.ActionEntities.{schema_with};
+ghost use Rattle.cedar_compare.specs.Words.{AreActionEntities, AreAllRequests, AreAnswers, AreLosses, AreVersions, Keeps, action_entries, action_subjects, entities_of, new_of, old_of, plain_difference, schema_with, type_subjects};
 
 use crate::action_uppers::action_uppers;
 use crate::actions::lost_action;

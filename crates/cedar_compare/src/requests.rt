@@ -4,21 +4,7 @@ ghost use Rattle.std.specs.Prelude.{◌≡◌, ◌≢◌, ◌↔◌, All, AllPai
 ghost use Rattle.std.specs.List.{flat_map};
 ghost use Rattle.std.specs.List.Sorted.{IsStrictlySortedBy};
 ghost use Rattle.std.specs.Option.{option_copied, option_map};
-ghost use Rattle.cedar_below.specs.EntityType.{type_name};
-ghost use Rattle.cedar_below.specs.EntityUID.{uid_of};
-ghost use Rattle.cedar_below.specs.Lists.{SameItems};
-ghost use Rattle.cedar_below.specs.PlainName.{name_cmp};
-ghost use Rattle.cedar_compare.specs.Choices.{choice_texts};
-ghost use Rattle.cedar_compare.specs.Difference.{AreAnswers, IsAnswer, environment_subject};
-ghost use Rattle.cedar_compare.specs.LostRequests.{AreRequestsOf, IsAppliedBy, environment_with, new_action, subjects_with};
-ghost use Rattle.cedar_compare.specs.PlainRequests.{AreActionAnswers, AreChoicesAt, HasEnvironment, IsContextIn, IsEnvironmentLacking, IsSampleRequest, IsUidOfType, IsUidOutside};
-ghost use Rattle.cedar_compare.specs.Lookup.{IsKeyed};
-ghost use Rattle.cedar_compare.specs.Told.{plain_difference, plain_request};
-ghost use Rattle.cedar_compare.specs.Versions.{AreVersions, new_of, old_of};
-ghost use Rattle.cedar_counterexample.specs.Steps.{steps_of};
-ghost use Rattle.cedar_declarations.specs.Environments.{IsEnvironmentOf};
-ghost use Rattle.cedar_schema.specs.ValidatorSchema.{schema_of};
-ghost use Rattle.cedar_types.specs.Meaning.{ty_of};
+ghost use Rattle.cedar_compare.specs.Words.{AreActionAnswers, AreAnswers, AreChoicesAt, AreRequestsOf, AreVersions, HasEnvironment, IsAnswer, IsAppliedBy, IsContextIn, IsEnvironmentLacking, IsEnvironmentOf, IsKeyed, IsSampleRequest, IsUidOfType, IsUidOutside, SameItems, choice_texts, environment_subject, environment_with, name_cmp, new_action, new_of, old_of, plain_difference, plain_request, schema_of, steps_of, subjects_with, ty_of, type_name, uid_of};
 
 use crate::choices::{choices_of, id_outside, some_id};
 use crate::difference::{Cause, Difference, Request};

@@ -1,14 +1,7 @@
 //! Laws of what a new version of a schema keeps.
 
 ghost use Rattle.std.specs.Prelude.{◌≡◌, List, []};
-ghost use Rattle.cedar_below.specs.PlainName.{PlainName};
-ghost use Rattle.cedar_below.specs.PlainUid.{PlainUid};
-ghost use Rattle.cedar_below.specs.declared.extension.Extensions.{Extensions};
-ghost use Rattle.cedar_compare.specs.Difference.{AreLosses, PlainDifference};
-ghost use Rattle.cedar_compare.specs.Keeps.{Keeps, LosesAction, LosesEntityType, LosesRequest};
-ghost use Rattle.cedar_compare.specs.SchemaBelow.{SchemaBelow};
-ghost use Rattle.cedar_declarations.specs.PlainSchema.{PlainSchema};
-ghost use Rattle.cedar_declarations.specs.SameSchema.{SameSchema};
+ghost use Rattle.cedar_compare.specs.Words.{AreLosses, Extensions, Keeps, LosesAction, LosesEntityType, LosesRequest, PlainDifference, PlainName, PlainSchema, PlainUid, SameSchema, SchemaBelow};
 
 /// Every schema keeps itself, and what keeps a schema keeps all that this one keeps.
 pub fn keeping_is_a_preorder()

@@ -2,14 +2,7 @@
 
 ghost use Rattle.std.specs.Prelude.{◌↔◌, ◌∷◌, List, Contains, IfOk, IsTrue, OnOk};
 ghost use Rattle.std.specs.Option.{option_copied, option_map};
-ghost use Rattle.cedar_below.specs.Eid.{eid_text};
-ghost use Rattle.cedar_below.specs.EntityType.{type_name};
-ghost use Rattle.cedar_below.specs.PlainName.{PlainName};
-ghost use Rattle.cedar_compare.specs.Choices.{MayHave, kind_choices};
-ghost use Rattle.cedar_compare.specs.Lookup.{plain_type};
-ghost use Rattle.cedar_compare.specs.Uppers.{AreUppersLost, AreUppersSoFar, IsListedBy, IsUpperKept};
-ghost use Rattle.cedar_compare.specs.Versions.{AreVersions, new_of, old_of};
-ghost use Rattle.cedar_schema_elements.specs.EntityTypeKind.{plain_kind};
+ghost use Rattle.cedar_compare.specs.Words.{AreUppersLost, AreUppersSoFar, AreVersions, IsListedBy, IsUpperKept, MayHave, PlainName, eid_text, kind_choices, new_of, old_of, plain_kind, plain_type, type_name};
 
 use crate::choices::{choices_of, id_outside, some_id};
 use crate::keeping::keep;

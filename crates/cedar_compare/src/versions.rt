@@ -2,12 +2,7 @@
 
 ghost use Rattle.std.specs.Prelude.{◌↔◌, IsTrue};
 ghost use Rattle.std.specs.Option.{option_copied, option_map};
-ghost use Rattle.cedar_below.specs.EntityType.{type_name};
-ghost use Rattle.cedar_below.specs.EntityUID.{uid_of};
-ghost use Rattle.cedar_compare.specs.Lookup.{IsActionAt, IsKeyed, IsTypeAt, plain_type};
-ghost use Rattle.cedar_declarations.specs.ValidSchema.{IsEnumerated, IsOfKind, ListsDescendant};
-ghost use Rattle.cedar_schema.specs.ValidatorSchema.{schema_of};
-ghost use Rattle.cedar_schema_elements.specs.ValidatorActionId.{action_of};
+ghost use Rattle.cedar_compare.specs.Words.{IsActionAt, IsEnumerated, IsKeyed, IsOfKind, IsTypeAt, ListsDescendant, action_of, plain_type, schema_of, type_name, uid_of};
 
 use cedar_below::{Entities, EntityType, EntityUID, Extensions, Value};
 use cedar_schema::{ValidatorActionId, ValidatorEntityType, ValidatorSchema};

@@ -12,7 +12,7 @@ pub use Rattle.cedar_declarations.specs.Bag.{Bag, action_in, action_uids, alias_
 pub use Rattle.cedar_declarations.specs.ClosedSchema.{ClosesAction, ClosesSchema, ClosesType}
 pub use Rattle.cedar_declarations.specs.ConvertedBack.{AreFullNames, AreFullUids, AreRequestsWritten, AreTagsWritten, IsActionDeclaration, IsConvertedBack, IsKindWritten, IsNameWrittenIn, IsPathOf, IsTypeDeclaration, IsTypeWrittenIn, IsUidWrittenIn, IsWritable, NamesNoOther, NamesNoOtherAction, extension_written, fields_written, full_name, full_uid, schema_names, type_written}
 pub use Rattle.cedar_declarations.specs.Counted.{CountsIn, CountsInEntity, CountsInRequests, HasToResolve, IsAtEntityTypePosition, IsCounted, IsEntityTypePosition, IsPrincipalOrResource, PositionsFit, entity_parents}
-pub use Rattle.cedar_declarations.specs.DeclaredSchema.{AreDeclaredTags, IsDeclaredAction, IsDeclaredActionKind, IsDeclaredEntityType, IsDeclaredKind, IsDeclaredSchema, IsNamedBy}
+pub use Rattle.cedar_declarations.specs.DeclaredSchema.{AreDeclaredTags, IsActionKindOver, IsDeclaredAction, IsDeclaredActionKind, IsDeclaredEntityType, IsDeclaredKind, IsDeclaredSchema, IsKindOver, IsNamedBy}
 pub use Rattle.cedar_declarations.specs.Defined.{Defined, IsCommon, names_of}
 pub use Rattle.cedar_declarations.specs.Descent.{HasParent, HasParentAction, IsDescendant, IsDescendantAction}
 pub use Rattle.cedar_declarations.specs.ElaboratesTo.{ElaboratesTo, IsNoRecord, IsRecordType, MembersElaborateTo, as_common, as_entity, as_extension, as_long, as_member, as_no_member, as_record, as_set, as_text, as_truth}
@@ -33,4 +33,4 @@ pub use Rattle.cedar_declarations.specs.SchemaError.{carried_action, context_or_
 pub use Rattle.cedar_declarations.specs.Shadowing.{ShadowsAction, ShadowsType}
 pub use Rattle.cedar_declarations.specs.Together.{ActionSays, EntitiesSay, EntitySays, IsActionParent, IsExternalAction, IsExternalType, IsParent, action_definition_in, defined_actions, defined_entities, entity_definition_in, entity_definitions}
 pub use Rattle.cedar_declarations.specs.TypeMentions.{FieldsMentionEntity, FieldsMentionExtensionType, MentionsEntity, MentionsExtensionType}
-pub use Rattle.cedar_declarations.specs.ValidSchema.{HasAction, HasEntityType, IsContextOf, IsEnumerated, IsExternal, IsKnownType, IsOfKind, IsPrincipalOrResourceOf, IsTypeIn, IsTypeOfKind, IsUnknownType, IsValidSchema, ListsDescendant, ListsDescendantAction}
+pub use Rattle.cedar_declarations.specs.ValidSchema.{HasAction, HasEntityType, IsContextOf, IsEnumerated, IsExternal, IsKnownType, IsOfKind, IsPrincipalOrResourceOf, IsSchemaFault, IsTypeIn, IsTypeOfKind, IsUnknownType, IsValidSchema, ListsDescendant, ListsDescendantAction}

@@ -4,17 +4,9 @@ use Rattle.std.proofs.lemmas.List.{map-append}
 use Rattle.std.proofs.lemmas.List.Elements.{Contains-append_cases}
 use Rattle.std.specs.List.{filter}
 use Rattle.cedar_below.proofs.Lists.{Contains-preimage}
-use Rattle.cedar_below.specs.Extensions.{extension_types}
-use Rattle.cedar_below.specs.PlainName.{PlainName}
-use Rattle.cedar_below.specs.Text.{Text}
-use Rattle.cedar_below.specs.TypeNames.{TypeNamesFit}
-use Rattle.cedar_below.specs.declared.extension.Extensions.{Extensions}
+use Rattle.cedar_elaboration.specs.Words.{Bag, Expr, Extensions, HasOpenRecord, PlainName, Text, Twice, TypeNamesFit, alias_name, aliases, built_in_name, built_in_types, built_ins, declared_common, definitions, extension_expr, extension_types, is_declared_here}
 use Rattle.cedar_declarations.proofs.BuiltInLemmas.{alias_apart, alias_of, built_in_once, common_cases}
 use Rattle.cedar_declarations.proofs.OccurrenceLemmas.{Twice-append, Contains-filter, Contains-image}
-use Rattle.cedar_declarations.specs.Bag.{Bag, declared_common, is_declared_here, built_in_types, built_in_name, alias_name, built_ins, aliases, definitions}
-use Rattle.cedar_declarations.specs.Mentions.{HasOpenRecord}
-use Rattle.cedar_below.specs.Lists.{Twice}
-use Rattle.cedar_names.specs.Expr.{Expr, extension_expr}
 
 -- a built-in type under its alias
 abbrev alias_item : Text × Expr → PlainName × Expr

@@ -4,34 +4,13 @@ use Rattle.std.proofs.lemmas.List.{map-append}
 use Rattle.std.proofs.lemmas.List.Elements.{Contains-append_left}
 use Rattle.std.specs.BTreeSet.{BTreeSet}
 use Rattle.cedar_below.proofs.Chains.{refined}
-use Rattle.cedar_below.specs.Chain.{Chain, one}
-use Rattle.cedar_below.specs.Extensions.{extension_types}
-use Rattle.cedar_below.specs.InternalName.{name_of}
-use Rattle.cedar_below.specs.Lists.{SameItems, Twice}
-use Rattle.cedar_below.specs.PlainName.{PlainName}
-use Rattle.cedar_below.specs.declared.extension.Extensions.{Extensions}
-use Rattle.cedar_below.specs.declared.internal_name.InternalName.{InternalName}
+use Rattle.cedar_elaboration.specs.Words.{AreElaborated, AreSound, AreTypesOf, Bag, Chain, CommonTypesAreSound, Defined, Expr, Extensions, Fault, HoldsElaborated, InternalName, IsCommonFault, IsCounted, IsFault, PlainName, RefersToCommon, SameItems, Twice, Ty, «Type», aliases, built_ins, collected_common, common_type_cycle, declared_common, defined_by, definitions, duplicate_common_type, extension_types, item_names, name_of, one, open_record, out_of_memory, reserved_name, resolved_expr, type_not_defined, unknown_extension_type}
 use Rattle.cedar_elaboration.proofs.AliasLemmas.{built_in_closed, declared_or_built_in, defined_twice}
-use Rattle.cedar_elaboration.specs.DeclaredTypes.{AreTypesOf, AreElaborated}
-use Rattle.cedar_elaboration.specs.SoundTypes.{CommonTypesAreSound}
 use Rattle.cedar_declarations.proofs.BuiltInLemmas.{refers_declared}
 use Rattle.cedar_declarations.proofs.DeclarationLemmas.{common_declaration}
 use Rattle.cedar_declarations.proofs.DefinedLemmas.{SameDefined, SameDefined-sym, resolves_there, unresolved_there, elaborated_there}
 use Rattle.cedar_declarations.proofs.OccurrenceLemmas.{Contains-image, Twice-left}
-use Rattle.cedar_declarations.specs.Bag.{Bag, declared_common, aliases, built_ins, definitions}
-use Rattle.cedar_declarations.specs.Counted.{IsCounted}
-use Rattle.cedar_declarations.specs.Defined.{Defined}
-use Rattle.cedar_declarations.specs.Fault.{Fault, out_of_memory, open_record, type_not_defined, unknown_extension_type, reserved_name, duplicate_common_type, common_type_cycle}
-use Rattle.cedar_declarations.specs.IllFormed.{IsFault, RefersToCommon}
-use Rattle.cedar_declarations.specs.ResolvedExpr.{resolved_expr}
 use Rattle.cedar_declaration_laws.proofs.MentionLemmas.{known_built_in}
-use Rattle.cedar_names.specs.Expr.{Expr}
-use Rattle.cedar_names.specs.declared.json_schema.type_of.Type.{«Type»}
-use Rattle.cedar_type_rules.specs.Ty.{Ty}
-use Rattle.cedar_elaboration.specs.Common.{AreSound, IsCommonFault}
-use Rattle.cedar_elaboration.specs.Scope.{HoldsElaborated}
-use Rattle.cedar_elaboration.specs.Indices.{defined_by, item_names}
-use Rattle.cedar_resolution.specs.Collected.{collected_common}
 
 -- a step from a common type to one that it refers to is one where the same is defined
 refers_there : (defined other : Defined) → SameDefined defined other → (name to : PlainName)

@@ -5,26 +5,12 @@ use Rattle.std.specs.BTreeMap.{BTreeMap, insert_entry}
 use Rattle.std.specs.Prelude.{slice_get}
 use Rattle.cedar_below.proofs.Lists.{Contains-preimage}
 use Rattle.cedar_below.proofs.Names.{internal_name_ord-Equal}
-use Rattle.cedar_below.specs.InternalName.{name_of}
-use Rattle.cedar_below.specs.Lists.{Included, SameItems, Twice}
-use Rattle.cedar_below.specs.PlainName.{PlainName}
+use Rattle.cedar_elaboration.specs.Words.{Covers, ElaboratesTo, Expr, Fault, HoldsElaborated, Included, InternalName, IsCommonFault, IsElaborationOrder, IsExprFault, IsSoundExpr, PlainName, SameItems, Twice, Ty, TypeScope, common_type_cycle, defined_over, duplicate_common_type, elaborated_types, item_names, name_of, out_of_memory, set_names, ty_of}
 use Rattle.cedar_below.specs.contracts.internal_name.InternalNameOrd.TheImpl as order
-use Rattle.cedar_below.specs.declared.internal_name.InternalName.{InternalName}
 use Rattle.cedar_declarations.proofs.OccurrenceLemmas.{Contains-image, Contains-single, value_once}
-use Rattle.cedar_declarations.specs.Fault.{Fault, common_type_cycle, duplicate_common_type, out_of_memory}
-use Rattle.cedar_declarations.specs.ElaboratesTo.{ElaboratesTo}
-use Rattle.cedar_names.specs.Expr.{Expr}
-use Rattle.cedar_type_rules.specs.Ty.{Ty}
-use Rattle.cedar_types.specs.Meaning.{ty_of}
 use Rattle.cedar_types.specs.declared.types.Type.{«Type»}
 use Rattle.cedar_elaboration.proofs.Entries.{inserted_cases, inserted_names, seen, seen_names}
 use Rattle.cedar_elaboration.proofs.IndexLemmas.{Contains-at}
-use Rattle.cedar_elaboration.specs.Common.{IsCommonFault, IsSoundExpr}
-use Rattle.cedar_elaboration.specs.Scope.{HoldsElaborated, Covers, set_names, elaborated_types}
-use Rattle.cedar_elaboration.specs.Order.{IsElaborationOrder}
-use Rattle.cedar_elaboration.specs.Indices.{defined_over, item_names}
-use Rattle.cedar_elaboration.specs.Refusals.{IsExprFault}
-use Rattle.cedar_elaboration.specs.declared.type_scope.TypeScope.{TypeScope}
 
 -- the types of some entries, each with the name that it stands under
 abbrev pub types_seen : List (InternalName × «Type») → List (PlainName × Ty)

@@ -10,17 +10,10 @@ use Rattle.std.specs.Option.{option_map}
 use Rattle.std.specs.Prelude.{slice_get}
 use Rattle.cedar_below.proofs.Lists.{Contains-cons, Contains-cons_cases}
 use Rattle.cedar_below.proofs.Names.{internal_name_ord-Equal}
-use Rattle.cedar_below.specs.InternalName.{name_of}
-use Rattle.cedar_below.specs.PlainName.{PlainName}
+use Rattle.cedar_elaboration.specs.Words.{AreIndices, InternalName, PlainName, Twice, «Type», collected_common, item_names, name_of, resolved_expr}
 use Rattle.cedar_below.specs.contracts.internal_name.InternalNameOrd.TheImpl as order
-use Rattle.cedar_below.specs.declared.internal_name.InternalName.{InternalName}
 use Rattle.cedar_declarations.proofs.OccurrenceLemmas.{Contains-single, Twice-append, Twice-both}
-use Rattle.cedar_below.specs.Lists.{Twice}
 use Rattle.cedar_elaboration.proofs.Entries.{inserted_cases, inserted_names, seen, seen_names}
-use Rattle.cedar_declarations.specs.ResolvedExpr.{resolved_expr}
-use Rattle.cedar_names.specs.declared.json_schema.type_of.Type.{«Type»}
-use Rattle.cedar_elaboration.specs.Indices.{AreIndices, item_names}
-use Rattle.cedar_resolution.specs.Collected.{collected_common}
 
 -- an item stays at its place as others come after
 pub slice_get-front : {X : Type 0} (xs ys : List X) (i : ℕ) (x : X) → slice_get xs i ≡ Some x → slice_get (xs ++ ys) i ≡ Some x

@@ -5,20 +5,10 @@ use Rattle.std.proofs.lemmas.Option.{slice_get-map, slice_get_within}
 use Rattle.std.specs.Option.{option_map}
 use Rattle.std.specs.Prelude.{slice_get}
 use Rattle.cedar_below.proofs.Lists.{Contains-preimage}
-use Rattle.cedar_below.specs.Chain.{Chain, one, more}
-use Rattle.cedar_below.specs.Lists.{HoldsPairwise, Twice}
-use Rattle.cedar_below.specs.PlainName.{PlainName}
-use Rattle.cedar_graph.specs.Numbered.{items_at}
-use Rattle.cedar_graph.specs.Order.{IsOrder, LeadsTo}
+use Rattle.cedar_elaboration.specs.Words.{AddsIndices, AreIndices, Chain, Expr, HasNoCycle, HoldsPairwise, IsElaborationOrder, IsOrder, LeadsTo, PlainName, Refers, RefersToCommon, Twice, defined_over, item_names, items_at, more, names_of, one}
 use Rattle.cedar_declarations.proofs.OccurrenceLemmas.{Contains-image}
 use Rattle.cedar_declarations.proofs.ResolutionLemmas.{first_defined}
-use Rattle.cedar_declarations.specs.Defined.{names_of}
-use Rattle.cedar_declarations.specs.IllFormed.{RefersToCommon}
-use Rattle.cedar_declarations.specs.Mentions.{Refers}
-use Rattle.cedar_names.specs.Expr.{Expr}
 use Rattle.cedar_elaboration.proofs.IndexLemmas.{Contains-at, index_of, index_once}
-use Rattle.cedar_elaboration.specs.Order.{HasNoCycle, IsElaborationOrder}
-use Rattle.cedar_elaboration.specs.Indices.{AddsIndices, AreIndices, defined_over, item_names}
 
 -- what holds pairwise holds of the item at an index and of the list there
 turn_at : {A Z : Type 0} (S : A → List ℕ → Type 0) (xs : List A) (vs : List (Vec ℕ Z)) → HoldsPairwise (λ x v. S x v.items) xs vs

@@ -9,31 +9,10 @@ use Rattle.std.specs.String.{string_cmp}
 use Rattle.std.specs.declared.alloc.Global.{Global}
 use Rattle.std.specs.declared.string.String.{String}
 use Rattle.cedar_below.proofs.Ordered.{IsStrictlySortedBy-map}
-use Rattle.cedar_below.specs.PlainName.{PlainName}
-use Rattle.cedar_below.specs.Text.{Text, text_cmp}
-use Rattle.cedar_below.specs.declared.internal_name.InternalName.{InternalName}
-use Rattle.cedar_declarations.specs.Defined.{Defined}
-use Rattle.cedar_declarations.specs.Fault.{Fault, open_record, reserved_name, type_not_defined, unknown_extension_type, out_of_memory}
-use Rattle.cedar_declarations.specs.Mentions.{HasOpenRecord, MembersHaveOpenRecord, MembersMentionExtension, MembersRefer}
-use Rattle.cedar_declarations.specs.ResolvedExpr.{resolved_expr, resolved_record, resolved_reference}
-use Rattle.cedar_declarations.specs.ElaboratesTo.{MembersElaborateTo, as_record, as_no_member, as_member}
+use Rattle.cedar_elaboration.specs.Words.{AttributeType, ClosedAttributes, Covers, CoversExtensions, Defined, ElaboratesAs, Expr, Fault, Fields, HasOpenRecord, HoldsLast, InternalName, IsExprFault, IsRefusal, IsSortedByName, Members, MembersElaborateTo, MembersHaveOpenRecord, MembersMentionExtension, MembersRefer, PlainName, RecordType, Reference, Text, Ty, TypeOfAttribute, TypeScope, as_member, as_no_member, as_record, attribute_of, end, extension_name, extensions_in_scope, field, field_names, fields_from, flag_and_expr, member, members_from, no_member, open_record, out-RecordType, out-TypeOfAttribute, out_of_memory, plain_attributes, record_expr, record_of, reserved_name, resolved_expr, resolved_record, resolved_reference, text_cmp, type_not_defined, unknown_extension_type}
 use Rattle.cedar_names.proofs.ExprLemmas.{record_type_expr-entries, flag_and_expr-parts}
-use Rattle.cedar_names.specs.Expr.{Expr, record_expr, Members, no_member, member, members_from}
-use Rattle.cedar_names.specs.Reference.{Reference}
-use Rattle.cedar_names.specs.TypeExpr.{flag_and_expr}
-use Rattle.cedar_names.specs.declared.json_schema.type_of.RecordType.{RecordType, out-RecordType}
-use Rattle.cedar_names.specs.declared.json_schema.type_of.TypeOfAttribute.{TypeOfAttribute, out-TypeOfAttribute}
 use Rattle.cedar_type_rules.proofs.Extensional.{fields_from-HoldsLast}
-use Rattle.cedar_type_rules.specs.Fields.{field_names, IsSortedByName, HoldsLast}
-use Rattle.cedar_type_rules.specs.Ty.{Ty, record_of, Fields, end, field, fields_from}
-use Rattle.cedar_type_rules.specs.declared.open_tag.OpenTag.TheVariants.{ClosedAttributes}
-use Rattle.cedar_types.specs.Attributes.{plain_attributes}
-use Rattle.cedar_types.specs.Meaning.{attribute_of}
-use Rattle.cedar_types.specs.declared.attributes.AttributeType.{AttributeType}
 use Rattle.cedar_elaboration.proofs.ScopeLemmas.{Covers-part}
-use Rattle.cedar_elaboration.specs.Scope.{ElaboratesAs, Covers, CoversExtensions, extension_name, extensions_in_scope}
-use Rattle.cedar_elaboration.specs.Refusals.{IsExprFault, IsRefusal}
-use Rattle.cedar_elaboration.specs.declared.type_scope.TypeScope.{TypeScope}
 
 -- the attributes of one record after those of another
 abbrev pub append_members : Members → Members → Members

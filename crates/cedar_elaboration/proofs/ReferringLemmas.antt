@@ -2,21 +2,10 @@
 use Rattle.std.proofs.Common.{◌≡◌, ◌⊎◌, ℕ, List, [], ◌∷◌, ◌++◌, map, ap, sym, ◌∙◌, refl, inl, inr, append_assoc, Contains, Result, Ok, Err, OnOk}
 use Rattle.std.proofs.lemmas.List.{append-nil}
 use Rattle.std.proofs.lemmas.List.Elements.{Contains-append_left, Contains-push, Contains-push_cases}
-use Rattle.cedar_below.specs.PlainName.{PlainName}
-use Rattle.cedar_below.specs.declared.internal_name.InternalName.{InternalName}
+use Rattle.cedar_elaboration.specs.Words.{AddsIndices, Expr, InternalName, MayNameCommon, Members, MembersRefer, PlainName, RecordType, Reference, ReferenceType, Refers, TypeOfAttribute, member, named, no_member, out-RecordType, out-TypeOfAttribute, record_expr, reference_to_one, resolved_record, resolved_reference, set_expr}
 use Rattle.cedar_declarations.proofs.OccurrenceLemmas.{Contains-single}
-use Rattle.cedar_declarations.specs.Mentions.{MembersRefer, Refers}
-use Rattle.cedar_declarations.specs.Names.{MayNameCommon}
-use Rattle.cedar_declarations.specs.Resolved.{reference_to_one}
-use Rattle.cedar_declarations.specs.ResolvedExpr.{resolved_record, resolved_reference}
 use Rattle.cedar_names.proofs.ExprLemmas.{record_type_expr-entries}
-use Rattle.cedar_names.specs.Expr.{Expr, Members, member, named, no_member, record_expr, set_expr}
-use Rattle.cedar_names.specs.Reference.{Reference}
-use Rattle.cedar_names.specs.declared.json_schema.reference_type.ReferenceType.{ReferenceType}
-use Rattle.cedar_names.specs.declared.json_schema.type_of.RecordType.{RecordType, out-RecordType}
-use Rattle.cedar_names.specs.declared.json_schema.type_of.TypeOfAttribute.{TypeOfAttribute, out-TypeOfAttribute}
 use Rattle.cedar_elaboration.proofs.RecordLemmas.{Entries, append_members, attribute_expr, entries_of, refer-cases, refer-right, resolved_members, resolved_members-append, resolved_members-one}
-use Rattle.cedar_elaboration.specs.Indices.{AddsIndices}
 use Rattle.std.proofs.Common.{string_bytes}
 use Rattle.std.specs.declared.alloc.Global.{Global}
 use Rattle.std.specs.declared.string.String.{String}

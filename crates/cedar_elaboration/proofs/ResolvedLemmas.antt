@@ -2,16 +2,8 @@
 use Rattle.std.proofs.Common.{◌≡◌, Option, rules}
 use Rattle.std.specs.declared.alloc.Global.{Global}
 use Rattle.std.specs.declared.boxed.Box.{Box}
-use Rattle.cedar_below.specs.UnreservedId.{unreserved_id_text}
-use Rattle.cedar_below.specs.declared.internal_name.InternalName.{InternalName}
-use Rattle.cedar_below.specs.declared.loc.Loc.{Loc}
-use Rattle.cedar_below.specs.declared.unreserved_id.UnreservedId.{UnreservedId}
-use Rattle.cedar_declarations.specs.ResolvedExpr.{resolved_expr, resolved_record, resolved_reference, resolved_variant}
-use Rattle.cedar_names.specs.Expr.{text_expr, long_expr, truth_expr, set_expr, named, extension_expr}
+use Rattle.cedar_elaboration.specs.Words.{Boolean, CommonTypeRef, Entity, EntityOrCommon, Extension, InternalName, Loc, Long, Plain, Record, RecordType, Set, String, «Type», TypeVariant, UnreservedId, extension_expr, long_expr, named, resolved_expr, resolved_record, resolved_reference, resolved_variant, set_expr, text_expr, the_lemmas, truth_expr, unreserved_id_text}
 use Rattle.cedar_names.specs.declared.json_schema.reference_type.ReferenceType.TheVariants as kind
-use Rattle.cedar_names.specs.declared.json_schema.type_of.RecordType.{RecordType}
-use Rattle.cedar_names.specs.declared.json_schema.type_of.Type.{«Type», Plain, CommonTypeRef, the_lemmas}
-use Rattle.cedar_names.specs.declared.json_schema.type_of.TypeVariant.{TypeVariant, String, Long, Boolean, Set, Record, Entity, EntityOrCommon, Extension}
 
 -- a type that is elaborated
 pub resolved-Plain : (ty : TypeVariant InternalName) (loc : Option Loc) → resolved_expr (Plain ty loc) ≡ resolved_variant ty

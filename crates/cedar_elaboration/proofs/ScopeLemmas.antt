@@ -1,24 +1,9 @@
 -- References to what is known.
 use Rattle.std.proofs.Common.{◌≡◌, ◌⊎◌, List, [], ◌∷◌, map, subst, refl, inl, inr, Contains, arith, Result, Ok, Err, IfOk, OnOk}
 use Rattle.cedar_below.proofs.Lists.{Contains-cons, Contains-cons_cases, Contains-preimage}
-use Rattle.cedar_below.specs.PlainName.{PlainName, IsReserved}
-use Rattle.cedar_below.specs.Text.{Text}
+use Rattle.cedar_elaboration.specs.Words.{Covers, Defined, ElaboratesAs, ElaboratesTo, Expr, Fault, Fields, IsCommon, IsEntity, IsExprFault, IsRefusal, IsReserved, IsReservedEntity, IsUnresolved, MayNameCommon, MayNameEntity, Members, MembersElaborateTo, MembersRefer, PlainName, Reference, ReferenceType, Refers, ResolvesEach, ResolvesTo, Text, Ty, TypeScope, as_common, as_entity, as_extension, as_member, as_no_member, as_record, as_set, elaborated_types, extension_expr, extension_name, extension_of, extensions_in_scope, named, names_of, out_of_memory, reference_to_one, reserved_name, set_expr, set_names, set_of, ty_of, type_not_defined, union_of, unknown_extension_type}
 use Rattle.cedar_declarations.proofs.OccurrenceLemmas.{Contains-image, Contains-single}
-use Rattle.cedar_declarations.specs.Defined.{Defined, IsCommon, names_of}
-use Rattle.cedar_declarations.specs.Fault.{Fault, reserved_name, type_not_defined, unknown_extension_type, out_of_memory}
-use Rattle.cedar_declarations.specs.Mentions.{MembersRefer, Refers}
-use Rattle.cedar_declarations.specs.Names.{IsEntity, IsUnresolved, MayNameCommon, MayNameEntity, ResolvesTo}
-use Rattle.cedar_declarations.specs.Resolved.{reference_to_one}
-use Rattle.cedar_declarations.specs.ElaboratesTo.{ElaboratesTo, MembersElaborateTo, as_set, as_record, as_entity, as_common, as_extension, as_no_member, as_member}
-use Rattle.cedar_names.specs.Expr.{Expr, Members, extension_expr, named, set_expr}
-use Rattle.cedar_names.specs.Reference.{Reference}
-use Rattle.cedar_names.specs.declared.json_schema.reference_type.ReferenceType.{ReferenceType}
-use Rattle.cedar_type_rules.specs.Ty.{Ty, Fields, extension_of, set_of, union_of}
-use Rattle.cedar_types.specs.Meaning.{ty_of}
 use Rattle.cedar_types.specs.declared.types.Type.{«Type»}
-use Rattle.cedar_elaboration.specs.Scope.{ElaboratesAs, Covers, ResolvesEach, extension_name, extensions_in_scope, set_names, elaborated_types}
-use Rattle.cedar_elaboration.specs.Refusals.{IsExprFault, IsRefusal, IsReservedEntity}
-use Rattle.cedar_elaboration.specs.declared.type_scope.TypeScope.{TypeScope}
 
 -- what is known for an expression is known for its parts
 pub Covers-part : (defined : Defined) (scope : TypeScope) (whole part : Expr)

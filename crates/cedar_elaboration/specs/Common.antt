@@ -1,16 +1,8 @@
 -- What is promised of common types that are elaborated, and why they are refused.
 use Rattle.std.specs.Prelude.{List, Contains}
-use Rattle.cedar_below.specs.Chain.{Chain}
-use Rattle.cedar_below.specs.PlainName.{PlainName}
-use Rattle.cedar_below.specs.Text.{Text}
-use Rattle.cedar_declarations.specs.Defined.{Defined, names_of}
-use Rattle.cedar_declarations.specs.Fault.{Fault, common_type_cycle, duplicate_common_type, out_of_memory}
-use Rattle.cedar_declarations.specs.IllFormed.{RefersToCommon}
-use Rattle.cedar_declarations.specs.Mentions.{HasOpenRecord, MentionsExtension, Refers}
-use Rattle.cedar_declarations.specs.Names.{ResolvesTo}
-use Rattle.cedar_below.specs.Lists.{Twice}
-use Rattle.cedar_names.specs.Expr.{Expr}
-use Rattle.cedar_names.specs.Reference.{Reference}
+use Rattle.cedar_below.specs.Words.{Chain, PlainName, Text, Twice}
+use Rattle.cedar_declarations.specs.Words.{Defined, Fault, HasOpenRecord, MentionsExtension, Refers, RefersToCommon, ResolvesTo, common_type_cycle, duplicate_common_type, names_of, out_of_memory}
+use Rattle.cedar_names.specs.Words.{Expr, Reference}
 use Rattle.cedar_elaboration.specs.Scope.{extension_name}
 use Rattle.cedar_elaboration.specs.Indices.{item_names}
 use Rattle.cedar_elaboration.specs.Refusals.{IsExprFault}

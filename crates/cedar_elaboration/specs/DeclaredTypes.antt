@@ -1,10 +1,7 @@
 -- Types that are declared, of a bag, and what its common types are elaborated as.
 use Rattle.std.specs.Prelude.{◌≡◌, List, ◌++◌, map, Contains}
 use Rattle.std.specs.BTreeSet.{BTreeSet}
-use Rattle.cedar_below.specs.Extensions.{extension_types}
-use Rattle.cedar_below.specs.Lists.{SameItems}
-use Rattle.cedar_below.specs.PlainName.{PlainName, IsReserved}
-use Rattle.cedar_below.specs.TypeNames.{TypeNamesFit}
+use Rattle.cedar_below.specs.Words.{IsReserved, PlainName, SameItems, TypeNamesFit, extension_types}
 use Rattle.cedar_below.specs.declared.extension.Extensions.{Extensions}
 use Rattle.cedar_below.specs.declared.internal_name.InternalName.{InternalName}
 use Rattle.cedar_declarations.specs.Bag.{Bag, declared_common, aliases, built_ins, definitions}

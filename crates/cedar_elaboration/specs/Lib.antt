@@ -5,3 +5,4 @@ pub mod Order
 pub mod Refusals
 pub mod Scope
 pub mod SoundTypes
+pub mod Words

@@ -1,14 +1,8 @@
 -- Common types in an order in which each comes after those that it refers to.
 use Rattle.std.specs.Prelude.{◌≡◌, ◌↔◌, ◌<◌, ◌++◌, ◌∷◌, ℕ, List, Some, Contains, length, slice_get}
-use Rattle.cedar_below.specs.Chain.{Chain}
-use Rattle.cedar_below.specs.PlainName.{PlainName}
-use Rattle.cedar_declarations.specs.Fault.{Fault, common_type_cycle, duplicate_common_type, out_of_memory}
-use Rattle.cedar_declarations.specs.IllFormed.{RefersToCommon}
-use Rattle.cedar_declarations.specs.Mentions.{Refers}
-use Rattle.cedar_declarations.specs.Names.{MayNameCommon}
-use Rattle.cedar_below.specs.Lists.{Twice}
-use Rattle.cedar_names.specs.Expr.{Expr}
-use Rattle.cedar_names.specs.Reference.{Reference}
+use Rattle.cedar_below.specs.Words.{Chain, PlainName, Twice}
+use Rattle.cedar_declarations.specs.Words.{Fault, MayNameCommon, Refers, RefersToCommon, common_type_cycle, duplicate_common_type, out_of_memory}
+use Rattle.cedar_names.specs.Words.{Expr, Reference}
 use Rattle.cedar_elaboration.specs.Indices.{defined_over, item_names}
 
 -- the indices are just those of the items, and each comes after those of the common types that its

@@ -1,12 +1,8 @@
 -- Why a type isn't elaborated.
 use Rattle.std.specs.Prelude.{◌≢◌, List, [], Contains}
 use Rattle.cedar_below.specs.PlainName.{PlainName, IsReserved, IsUnqualified}
-use Rattle.cedar_declarations.specs.Defined.{Defined, IsCommon, names_of}
-use Rattle.cedar_declarations.specs.Fault.{Fault, open_record, type_not_defined, unknown_extension_type, reserved_name, out_of_memory}
-use Rattle.cedar_declarations.specs.Mentions.{HasOpenRecord, MentionsExtension, Refers}
-use Rattle.cedar_declarations.specs.Names.{IsEntity, IsUnresolved, ResolvesTo}
-use Rattle.cedar_names.specs.Expr.{Expr}
-use Rattle.cedar_names.specs.Reference.{Reference}
+use Rattle.cedar_declarations.specs.Words.{Defined, Fault, HasOpenRecord, IsCommon, IsEntity, IsUnresolved, MentionsExtension, Refers, ResolvesTo, names_of, open_record, out_of_memory, reserved_name, type_not_defined, unknown_extension_type}
+use Rattle.cedar_names.specs.Words.{Expr, Reference}
 use Rattle.cedar_elaboration.specs.Scope.{Covers, extensions_in_scope}
 use Rattle.cedar_elaboration.specs.declared.type_scope.TypeScope.{TypeScope}
 

@@ -2,18 +2,10 @@
 use Rattle.std.specs.Prelude.{List, [], Contains, map}
 use Rattle.std.specs.BTreeMap.{BTreeMap}
 use Rattle.std.specs.BTreeSet.{BTreeSet}
-use Rattle.cedar_below.specs.Extensions.{extension_types}
-use Rattle.cedar_below.specs.InternalName.{name_of}
-use Rattle.cedar_below.specs.Lists.{SameItems}
-use Rattle.cedar_below.specs.PlainName.{PlainName}
-use Rattle.cedar_below.specs.Text.{Text}
+use Rattle.cedar_below.specs.Words.{PlainName, SameItems, Text, extension_types, name_of}
 use Rattle.cedar_below.specs.declared.internal_name.InternalName.{InternalName}
-use Rattle.cedar_declarations.specs.Defined.{Defined, IsCommon, names_of}
-use Rattle.cedar_declarations.specs.Mentions.{MentionsExtension, Refers}
-use Rattle.cedar_declarations.specs.Names.{ResolvesTo}
-use Rattle.cedar_declarations.specs.ElaboratesTo.{ElaboratesTo}
-use Rattle.cedar_names.specs.Expr.{Expr}
-use Rattle.cedar_names.specs.Reference.{Reference}
+use Rattle.cedar_declarations.specs.Words.{Defined, ElaboratesTo, IsCommon, MentionsExtension, Refers, ResolvesTo, names_of}
+use Rattle.cedar_names.specs.Words.{Expr, Reference}
 use Rattle.cedar_type_rules.specs.Ty.{Ty}
 use Rattle.cedar_types.specs.Meaning.{ty_of}
 use Rattle.cedar_types.specs.declared.types.Type.{«Type»}

@@ -1,13 +1,8 @@
 -- What is sure of the common types of a bag once they are elaborated.
 use Rattle.std.specs.Prelude.{Contains}
-use Rattle.cedar_below.specs.Extensions.{extension_types}
-use Rattle.cedar_below.specs.PlainName.{PlainName}
-use Rattle.cedar_below.specs.Text.{Text}
+use Rattle.cedar_below.specs.Words.{PlainName, Text, extension_types}
 use Rattle.cedar_below.specs.declared.extension.Extensions.{Extensions}
-use Rattle.cedar_declarations.specs.Bag.{Bag, declared_common}
-use Rattle.cedar_declarations.specs.Fault.{duplicate_common_type, common_type_cycle}
-use Rattle.cedar_declarations.specs.IllFormed.{IsFault}
-use Rattle.cedar_declarations.specs.Mentions.{HasOpenRecord, MentionsExtension}
+use Rattle.cedar_declarations.specs.Words.{Bag, HasOpenRecord, IsFault, MentionsExtension, common_type_cycle, declared_common, duplicate_common_type}
 use Rattle.cedar_names.specs.Expr.{Expr}
 use Rattle.cedar_elaboration.specs.Scope.{extension_name}
 

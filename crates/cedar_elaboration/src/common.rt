@@ -1,20 +1,7 @@
 //! Common types, each elaborated once.
 
 ghost use Rattle.std.specs.Prelude.{◌≡◌, Contains, IfErr, IfOk, OnOk, map};
-ghost use Rattle.cedar_below.specs.Chain.{Chain};
-ghost use Rattle.cedar_below.specs.Extensions.{extension_types};
-ghost use Rattle.cedar_below.specs.Lists.{Included, SameItems, Twice};
-ghost use Rattle.cedar_below.specs.PlainName.{PlainName};
-ghost use Rattle.cedar_declarations.specs.IllFormed.{RefersToCommon};
-ghost use Rattle.cedar_declarations.specs.SchemaError.{fault_of};
-ghost use Rattle.cedar_declarations.specs.ElaboratesTo.{ElaboratesTo};
-ghost use Rattle.cedar_names.specs.Expr.{Expr};
-ghost use Rattle.cedar_type_rules.specs.Ty.{Ty};
-ghost use Rattle.cedar_elaboration.specs.Common.{AreSound, IsCommonFault};
-ghost use Rattle.cedar_elaboration.specs.Scope.{HoldsElaborated, elaborated_types};
-ghost use Rattle.cedar_elaboration.specs.Order.{IsElaborationOrder};
-ghost use Rattle.cedar_elaboration.specs.Indices.{defined_by, item_names};
-ghost use Rattle.cedar_resolution.specs.Collected.{collected_common};
+ghost use Rattle.cedar_elaboration.specs.Words.{AreSound, Chain, ElaboratesTo, Expr, HoldsElaborated, Included, IsCommonFault, IsElaborationOrder, PlainName, RefersToCommon, SameItems, Twice, Ty, collected_common, defined_by, elaborated_types, extension_types, fault_of, item_names};
 
 use crate::elaborating::elaborate;
 use crate::indices::CommonType;

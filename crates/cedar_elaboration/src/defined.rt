@@ -1,13 +1,7 @@
 //! The common types that are defined, each elaborated.
 
 ghost use Rattle.std.specs.Prelude.{◌≡◌, ◌⊎◌, IfErr, IfOk, OnOk};
-ghost use Rattle.cedar_elaboration.specs.DeclaredTypes.{AreTypesOf, AreElaborated};
-ghost use Rattle.cedar_elaboration.specs.SoundTypes.{CommonTypesAreSound};
-ghost use Rattle.cedar_declarations.specs.Bag.{Bag};
-ghost use Rattle.cedar_declarations.specs.Fault.{out_of_memory};
-ghost use Rattle.cedar_declarations.specs.IllFormed.{IsFault};
-ghost use Rattle.cedar_declarations.specs.SchemaError.{fault_of};
-ghost use Rattle.cedar_elaboration.specs.Scope.{elaborated_types};
+ghost use Rattle.cedar_elaboration.specs.Words.{AreElaborated, AreTypesOf, Bag, CommonTypesAreSound, IsFault, elaborated_types, fault_of, out_of_memory};
 
 use crate::common::common_types;
 use cedar_below::{Extensions, InternalName};

@@ -1,15 +1,7 @@
 //! Types over full names, elaborated.
 
 ghost use Rattle.std.specs.Prelude.{◌≡◌, [], ◌∷◌, IfErr, IfOk, OnOk};
-ghost use Rattle.cedar_declarations.specs.Fault.{type_not_defined};
-ghost use Rattle.cedar_declarations.specs.Mentions.{HasOpenRecord};
-ghost use Rattle.cedar_declarations.specs.SchemaError.{fault_of};
-ghost use Rattle.cedar_declarations.specs.ResolvedExpr.{resolved_expr, resolved_record, resolved_reference, resolved_variant};
-ghost use Rattle.cedar_names.specs.Expr.{named};
-ghost use Rattle.cedar_type_rules.specs.Ty.{record_of};
-ghost use Rattle.cedar_types.specs.Meaning.{fields_of, ty_of};
-ghost use Rattle.cedar_elaboration.specs.Scope.{ElaboratesAs, CoversExtensions, ResolvesEach};
-ghost use Rattle.cedar_elaboration.specs.Refusals.{IsRefusal};
+ghost use Rattle.cedar_elaboration.specs.Words.{CoversExtensions, ElaboratesAs, HasOpenRecord, IsRefusal, ResolvesEach, fault_of, fields_of, named, record_of, resolved_expr, resolved_record, resolved_reference, resolved_variant, ty_of, type_not_defined};
 
 use crate::type_scope::TypeScope;
 use cedar_below::{InternalName, M, NonEmpty};

@@ -1,12 +1,7 @@
 //! The indices of common types among those that are declared.
 
 ghost use Rattle.std.specs.Prelude.{◌≡◌, ◌⊎◌, ◌+◌, IfErr, IfOk, OnOk};
-ghost use Rattle.cedar_below.specs.PlainName.{PlainName};
-ghost use Rattle.cedar_declarations.specs.Fault.{duplicate_common_type, out_of_memory};
-ghost use Rattle.cedar_below.specs.Lists.{Twice};
-ghost use Rattle.cedar_declarations.specs.SchemaError.{fault_of};
-ghost use Rattle.cedar_elaboration.specs.Indices.{AreIndices, item_names, indexed_names};
-ghost use Rattle.cedar_resolution.specs.Collected.{collected_common};
+ghost use Rattle.cedar_elaboration.specs.Words.{AreIndices, PlainName, Twice, collected_common, duplicate_common_type, fault_of, indexed_names, item_names, out_of_memory};
 
 use cedar_below::{InternalName, put};
 use cedar_declarations::SchemaError;

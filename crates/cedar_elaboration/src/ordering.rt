@@ -1,13 +1,7 @@
 //! Common types in an order in which each comes after those that it refers to.
 
 ghost use Rattle.std.specs.Prelude.{◌≡◌, [], IfErr, IfOk, OnOk};
-ghost use Rattle.cedar_below.specs.Lists.{HoldsPairwise, Twice};
-ghost use Rattle.cedar_below.specs.PlainName.{PlainName};
-ghost use Rattle.cedar_declarations.specs.Mentions.{Refers};
-ghost use Rattle.cedar_declarations.specs.SchemaError.{fault_of};
-ghost use Rattle.cedar_elaboration.specs.Order.{HasNoCycle, IsOrderFault, IsElaborationOrder};
-ghost use Rattle.cedar_elaboration.specs.Indices.{AddsIndices, item_names, indexed_names};
-ghost use Rattle.cedar_resolution.specs.Collected.{collected_common};
+ghost use Rattle.cedar_elaboration.specs.Words.{AddsIndices, HasNoCycle, HoldsPairwise, IsElaborationOrder, IsOrderFault, PlainName, Refers, Twice, collected_common, fault_of, indexed_names, item_names};
 
 use crate::indices::{CommonType, Indices, name_indices};
 use crate::referring::referred_indices;

@@ -1,13 +1,7 @@
 //! The indices of the common types that a type refers to.
 
 ghost use Rattle.std.specs.Prelude.{◌≡◌, [], ◌∷◌, IfOk, OnOk};
-ghost use Rattle.cedar_below.specs.InternalName.{name_of};
-ghost use Rattle.cedar_declarations.specs.Mentions.{Refers};
-ghost use Rattle.cedar_declarations.specs.Resolved.{reference_to_one};
-ghost use Rattle.cedar_declarations.specs.ResolvedExpr.{resolved_expr, resolved_record, resolved_reference, resolved_variant};
-ghost use Rattle.cedar_names.specs.Expr.{named};
-ghost use Rattle.cedar_names.specs.declared.json_schema.reference_type.ReferenceType.{ReferenceType};
-ghost use Rattle.cedar_elaboration.specs.Indices.{AddsIndices, indexed_names};
+ghost use Rattle.cedar_elaboration.specs.Words.{AddsIndices, ReferenceType, Refers, indexed_names, name_of, named, reference_to_one, resolved_expr, resolved_record, resolved_reference, resolved_variant};
 
 use crate::indices::Indices;
 use crate::type_scope::may_name_common;

@@ -1,15 +1,7 @@
 //! What is in scope as types are elaborated.
 
 ghost use Rattle.std.specs.Prelude.{◌≡◌, ◌↔◌, ◌⊎◌, [], ◌∷◌, Contains, IfErr, IfOk, IsTrue, MatchOption, OnOk, map};
-ghost use Rattle.cedar_below.specs.InternalName.{name_of};
-ghost use Rattle.cedar_below.specs.PlainName.{IsReserved};
-ghost use Rattle.cedar_below.specs.UnreservedId.{unreserved_id_text};
-ghost use Rattle.cedar_declarations.specs.Fault.{reserved_name, unknown_extension_type, out_of_memory};
-ghost use Rattle.cedar_declarations.specs.Names.{MayNameCommon, MayNameEntity};
-ghost use Rattle.cedar_declarations.specs.SchemaError.{fault_of};
-ghost use Rattle.cedar_type_rules.specs.Ty.{extension_of, union_of};
-ghost use Rattle.cedar_types.specs.Meaning.{ty_of};
-ghost use Rattle.cedar_elaboration.specs.Scope.{extension_name, extensions_in_scope, set_names, elaborated_types};
+ghost use Rattle.cedar_elaboration.specs.Words.{IsReserved, MayNameCommon, MayNameEntity, elaborated_types, extension_name, extension_of, extensions_in_scope, fault_of, name_of, out_of_memory, reserved_name, set_names, ty_of, union_of, unknown_extension_type, unreserved_id_text};
 
 use cedar_below::{EntityType, Extensions, InternalName, M, Name, UnreservedId};
 use cedar_declarations::SchemaError;

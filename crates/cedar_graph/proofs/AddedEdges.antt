@@ -2,9 +2,7 @@
 use Rattle.std.proofs.Common.{◌≡◌, ◌⊎◌, ◌↔◌, ◌<◌, ℕ, zero, suc, Bool, IsTrue, List, ◌∷◌, length, slice_index_or, Option, None, Some, HashMap, refl, sym, subst, inl, inr, arith, Contains}
 use Rattle.std.specs.HashMap.{get, ContainsKey}
 use Rattle.cedar_below.proofs.Chains.{refined}
-use Rattle.cedar_below.specs.Chain.{Chain, one}
-use Rattle.cedar_graph.specs.Edges.{HasEdge, IsEdgeIn, AreAlike}
-use Rattle.cedar_graph.specs.Growth.{GrowsAt}
+use Rattle.cedar_graph.specs.Words.{AreAlike, Chain, GrowsAt, HasEdge, IsEdgeIn, one}
 use Rattle.cedar_graph.proofs.Growing.{edge_kept, grows_at_onwards, grows_at_weaker, some_kept}
 
 -- an edge of a list is its first, or one of the rest

@@ -9,13 +9,10 @@ use Rattle.std.proofs.lemmas.Map.Views.{Contains-from_any}
 use Rattle.std.proofs.lemmas.Map.Steps.{length-le_from_distinct_below}
 use Rattle.cedar_below.proofs.Chains.{held_after, joined}
 use Rattle.cedar_below.proofs.Lists.{Contains-cons}
-use Rattle.cedar_below.specs.Chain.{Chain, one}
+use Rattle.cedar_graph.specs.Words.{AreGathered, AreReached, Chain, Done, Fresh, GathersMore, IsTarget, Met, mark_of, one}
 use Rattle.cedar_graph.proofs.OrderProgress.{distinct_snoc}
 use Rattle.cedar_graph.proofs.OrderSteps.{single}
-use Rattle.cedar_graph.specs.Gathered.{AreGathered, AreReached, GathersMore, mark_of}
-use Rattle.cedar_graph.specs.Numbered.{IsTarget}
 use Rattle.cedar_graph.specs.declared.closing.Mark.{Mark}
-use Rattle.cedar_graph.specs.declared.closing.Mark.TheVariants.{Fresh, Met, Done}
 
 -- a mark that was read is that of its number
 pub mark_read : (marks : List Mark) (n : ℕ) (mark : Mark) → n < length marks → mark ≡ get_or marks n mark → mark_of marks n ≡ mark

@@ -3,8 +3,7 @@ use Rattle.std.proofs.Common.{◌≡◌, Bool, cond, ◌||◌, IsTrue, ◌⊎◌
 use Rattle.std.specs.Cmp.{IsEquivalence}
 use Rattle.std.specs.HashMap.{get}
 use Rattle.std.proofs.lemmas.Bool.{cases_Bool, cond-true, cond-false, or_cases, or_right}
-use Rattle.cedar_graph.specs.Edges.{AreAlike}
-use Rattle.cedar_graph.specs.Growth.{GrowsBy, GrowsAt}
+use Rattle.cedar_graph.specs.Words.{AreAlike, GrowsAt, GrowsBy}
 use Rattle.cedar_graph.proofs.Numbers.{get_alike}
 
 module _ {K V : Type 0} (has_edge : V → K → Bool) (is_alike : V → V → Type 0) where

@@ -4,10 +4,7 @@ use Rattle.std.specs.Cmp.{IsEquivalence}
 use Rattle.std.specs.HashMap.{get, keys, values, IsUnique}
 use Rattle.std.proofs.lemmas.Map.Entries.{place_from_lookup, lookup_from_place}
 use Rattle.std.proofs.lemmas.Option.{slice_get-map, slice_get_cases}
-use Rattle.cedar_below.specs.Chain.{Chain, one, more}
-use Rattle.cedar_graph.specs.Edges.{HasEdge}
-use Rattle.cedar_graph.specs.Numbered.{items_at, IsTarget}
-use Rattle.cedar_graph.specs.Numbering.{IsNumbered, AreNumbersOf}
+use Rattle.cedar_graph.specs.Words.{AreNumbersOf, Chain, HasEdge, IsNumbered, IsTarget, items_at, more, one}
 use Rattle.cedar_graph.proofs.Lists.{items_at-past}
 use Rattle.cedar_graph.proofs.Numbers.{number_alike, number_same, number_below, get_alike}
 

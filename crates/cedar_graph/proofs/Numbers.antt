@@ -7,8 +7,7 @@ use Rattle.std.proofs.lemmas.Bool.{both_ways, cases_Bool, cond-true, cond-false}
 use Rattle.std.proofs.lemmas.Option.{MatchOption-at_some, slice_get-get_or, get_or_from_slice_get, none-some, same_Some, slice_get_within}
 use Rattle.std.specs.List.{IsDistinct}
 use Rattle.std.proofs.lemmas.Map.Keys.{apart_from_distinct}
-use Rattle.cedar_below.specs.Chain.{Chain, one, more}
-use Rattle.cedar_graph.specs.Numbering.{IsNumbered, AreNumbers, KeepsNumbers, AreNumbersOf}
+use Rattle.cedar_graph.specs.Words.{AreNumbers, AreNumbersOf, Chain, IsNumbered, KeepsNumbers, more, one}
 
 -- what is never some value is none
 none_from_no_some : {X : Type 0} (o : Option X) → ((x : X) → o ≡ Some x → ⊥) → o ≡ None

@@ -3,17 +3,12 @@ use Rattle.std.proofs.Common.{◌≡◌, ◌≢◌, ◌⊎◌, ◌↔◌, ◌<�
 use Rattle.std.proofs.lemmas.List.{append_assoc, map-append, get_or-set_same, get_or-set_other, length-set, length-append}
 use Rattle.std.proofs.lemmas.List.Elements.{Contains-append_left, Contains-append_right, Contains-append_cases}
 use Rattle.cedar_below.proofs.Lists.{Contains-cons, Contains-cons_cases}
-use Rattle.cedar_below.specs.Chain.{Chain, one, more}
+use Rattle.cedar_graph.specs.Words.{Chain, Enter, IsOrder, IsTarget, LeadsTo, Leave, Mark, Open, Step, items_at, more, one}
 use Rattle.cedar_below.proofs.Chains.{last_step}
 use Rattle.std.proofs.Math.ListN.{get_or-append}
 use Rattle.std.proofs.Math.Seq.{get_or-append_seam}
 use Rattle.cedar_graph.proofs.OrderSteps.{number_of, single, image, enter_or_leave, enters_leave_none, AreSteps, steps_before, steps_opened, left_once, left_covered, left_within, leads_back}
-use Rattle.cedar_graph.specs.Numbered.{IsTarget, items_at}
-use Rattle.cedar_graph.specs.Order.{LeadsTo, IsOrder}
-use Rattle.cedar_graph.specs.declared.ordering.Mark.{Mark}
-use Rattle.cedar_graph.specs.declared.ordering.Mark.TheVariants.{Fresh, Open, Done}
-use Rattle.cedar_graph.specs.declared.ordering.Step.{Step}
-use Rattle.cedar_graph.specs.declared.ordering.Step.TheVariants.{Enter, Leave}
+use Rattle.cedar_graph.specs.declared.ordering.Mark.TheVariants.{Fresh, Done}
 
 -- the mark of a number
 abbrev pub mark_at : List Mark → ℕ → Mark

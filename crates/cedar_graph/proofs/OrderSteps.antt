@@ -3,11 +3,7 @@ use Rattle.std.proofs.Common.{◌≡◌, ◌⊎◌, ◌<◌, ℕ, List, [], ◌�
 use Rattle.std.proofs.lemmas.List.{map-append}
 use Rattle.std.proofs.lemmas.List.Elements.{Contains-append_left, Contains-append_right, Contains-append_cases}
 use Rattle.cedar_below.proofs.Lists.{Contains-cons, Contains-cons_cases}
-use Rattle.cedar_below.specs.Chain.{Chain, one, more}
-use Rattle.cedar_graph.specs.Numbered.{IsTarget}
-use Rattle.cedar_graph.specs.Order.{LeadsTo}
-use Rattle.cedar_graph.specs.declared.ordering.Step.{Step}
-use Rattle.cedar_graph.specs.declared.ordering.Step.TheVariants.{Enter, Leave}
+use Rattle.cedar_graph.specs.Words.{Chain, Enter, IsTarget, LeadsTo, Leave, Step, more, one}
 
 -- the number of a step
 abbrev pub number_of : Step → ℕ

@@ -13,13 +13,7 @@ use Rattle.std.proofs.lemmas.Map.Made.{keys_of-zip}
 use Rattle.std.proofs.lemmas.Option.{get_or_from_slice_get, same_Some, slice_get-map, slice_get_within}
 use Rattle.std.proofs.lemmas.Slice.Zip.{seconds-zip}
 use Rattle.cedar_below.proofs.Chains.{refined}
-use Rattle.cedar_below.specs.Chain.{Chain, one}
-use Rattle.cedar_below.specs.Lists.{HoldsPairwise}
-use Rattle.cedar_graph.specs.Numbered.{items_at, IsTarget}
-use Rattle.cedar_graph.specs.Numbering.{ListHas, StandsIn}
-use Rattle.cedar_graph.specs.Tables.{AreInTurn, IsClosedTo, IsGrown, IsLack, IsTableFault, StepsTo}
-use Rattle.cedar_graph.specs.declared.table_fault.TableFault.{TableFault}
-use Rattle.cedar_graph.specs.declared.table_fault.TableFault.TheVariants.{HasCycle, Lacks, Memory}
+use Rattle.cedar_graph.specs.Words.{AreInTurn, Chain, HasCycle, HoldsPairwise, IsClosedTo, IsGrown, IsLack, IsTableFault, IsTarget, Lacks, ListHas, Memory, StandsIn, StepsTo, TableFault, items_at, one}
 use Rattle.cedar_graph.proofs.Growing.{grows_weaker}
 use Rattle.cedar_graph.proofs.TableEdges.{chain_of_keys, chain_of_numbers, entry_numbered, one_place}
 

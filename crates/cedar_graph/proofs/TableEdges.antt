@@ -10,18 +10,11 @@ use Rattle.std.proofs.lemmas.Bool.{both_ways, cases_Bool, cases_eq, cases_lt, co
 use Rattle.std.proofs.lemmas.List.{length-append, length-map}
 use Rattle.std.proofs.lemmas.Map.Keys.{apart_from_distinct}
 use Rattle.std.proofs.lemmas.Option.{get_or_from_slice_get, none-some, same_Some, slice_get-get_or, slice_get-map, slice_get_cases, slice_get_within}
-use Rattle.cedar_below.specs.Chain.{Chain}
-use Rattle.cedar_graph.specs.Growth.{GrowsBy}
-use Rattle.cedar_graph.specs.Numbered.{items_at, IsTarget}
-use Rattle.cedar_graph.specs.Numbering.{AreNumbersOf, IsNumbered, ListHas, StandsIn}
-use Rattle.cedar_graph.specs.Tables.{AreInTurn, HasEntry, IsGrown, IsLack, StepsTo}
-use Rattle.cedar_graph.specs.declared.table_fault.TableFault.{TableFault}
-use Rattle.cedar_graph.specs.declared.table_fault.TableFault.TheVariants.{HasCycle, Lacks, Memory}
+use Rattle.cedar_graph.specs.Words.{AreInTurn, AreNumbersOf, Chain, GrowsBy, HasCycle, HasEntry, IsGrown, IsLack, IsNumbered, IsTarget, Lacks, ListHas, Memory, StandsAt, StandsIn, StepsTo, TableFault, items_at}
 use Rattle.cedar_graph.proofs.Growing.{grows_weaker}
 use Rattle.cedar_graph.proofs.KeyedEdges.{nothing_in_nil, some_with}
 use Rattle.cedar_graph.proofs.Lists.{items_at-past}
 use Rattle.cedar_graph.proofs.Numbers.{eq_back, eq_trans, keys_from_numbers, number_alike, number_below, number_same, numbered_from_name, numbers_from_keys}
-use Rattle.cedar_table.specs.StandsAt.{StandsAt}
 
 -- where an entry's key passes, something is found
 found_at : {K V : Type 0} (test : K → Bool) (es : List (K × V)) (i : ℕ) (e : K × V) → slice_get es i ≡ Some e

@@ -6,3 +6,4 @@ pub mod Numbering
 pub mod Order
 pub mod Tables
 pub mod TcError
+pub mod Words

@@ -2,8 +2,7 @@
 
 ghost use Rattle.std.specs.Prelude.{◌≡◌, ◌⊎◌, IsTrue, OnOk};
 ghost use Rattle.std.specs.HashMap.{get, keys, ContainsKey};
-ghost use Rattle.cedar_graph.specs.Edges.{HasEdge, IsEdgeIn, AreAlike};
-ghost use Rattle.cedar_graph.specs.Growth.{GrowsAt};
+ghost use Rattle.cedar_graph.specs.Words.{AreAlike, GrowsAt, HasEdge, IsEdgeIn};
 
 use crate::tc_node::TCNode;
 use cedar_below::M;

@@ -1,10 +1,7 @@
 //! What chains of targets reach from each number that has a list of them.
 
 ghost use Rattle.std.specs.Prelude.{◌≡◌, ◌≢◌, ◌++◌, ℕ, ◌*◌, ◌<◌, ◌≤◌, ◌↔◌, All, Contains, IfNone, IfOk, IfSome, IsTrue, List, OnOk, false, length, vec_len};
-ghost use Rattle.cedar_below.specs.Chain.{Chain};
-ghost use Rattle.cedar_graph.specs.Gathered.{AreClosed, AreGathered, AreReached, GathersMore, mark_of};
-ghost use Rattle.cedar_graph.specs.Numbered.{IsTarget};
-ghost use Rattle.cedar_graph.specs.declared.closing.Mark.TheVariants.{Done, Fresh};
+ghost use Rattle.cedar_graph.specs.Words.{AreClosed, AreGathered, AreReached, Chain, Done, Fresh, GathersMore, IsTarget, mark_of};
 
 use cedar_below::M;
 use std::alloc::Global;

@@ -2,10 +2,7 @@
 
 ghost use Rattle.std.specs.Prelude.{◌≡◌, ℕ, ◌*◌, ◌<◌, ◌≤◌, vec_len, IsTrue, IfOk, IfErr, OnOk};
 ghost use Rattle.std.specs.HashMap.{get, keys, hash_map_len};
-ghost use Rattle.cedar_graph.specs.Edges.{HasEdge, Reaches, AreAlike};
-ghost use Rattle.cedar_graph.specs.Numbered.{IsTarget};
-ghost use Rattle.cedar_graph.specs.TcError.{IsRefusal};
-ghost use Rattle.cedar_graph.specs.Numbering.{IsNumbered, ListHas};
+ghost use Rattle.cedar_graph.specs.Words.{AreAlike, HasEdge, IsNumbered, IsRefusal, IsTarget, ListHas, Reaches};
 
 use crate::closing::{closed_lists, first_on_cycle};
 use crate::list_edges::add_all_edges;

@@ -2,10 +2,7 @@
 
 ghost use Rattle.std.specs.Prelude.{◌≡◌, ℕ, ◌<◌, ◌≤◌, Contains, IsTrue, OnOk, vec_len};
 ghost use Rattle.std.specs.HashMap.{get, keys, ContainsKey};
-ghost use Rattle.cedar_graph.specs.Edges.{HasEdge};
-ghost use Rattle.cedar_graph.specs.Growth.{GrowsBy, GrowsAt};
-ghost use Rattle.cedar_graph.specs.Numbered.{IsTarget};
-ghost use Rattle.cedar_graph.specs.Numbering.{ListHas, StandsIn};
+ghost use Rattle.cedar_graph.specs.Words.{GrowsAt, GrowsBy, HasEdge, IsTarget, ListHas, StandsIn};
 
 use crate::tc_node::TCNode;
 use cedar_below::M;

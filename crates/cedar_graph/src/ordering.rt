@@ -1,8 +1,7 @@
 //! Numbers in an order in which each comes after those that it leads to.
 
 ghost use Rattle.std.specs.Prelude.{◌≡◌, ◌++◌, ◌<◌, ℕ, Contains, IfOk, OnOk, map};
-ghost use Rattle.cedar_graph.specs.Order.{IsOrdered};
-ghost use Rattle.cedar_graph.specs.declared.ordering.Step.TheVariants.{Enter, Leave};
+ghost use Rattle.cedar_graph.specs.Words.{Enter, IsOrdered, Leave};
 
 use cedar_below::M;
 use std::alloc::Global;

@@ -2,9 +2,7 @@
 
 ghost use Rattle.std.specs.Prelude.{◌≡◌, ℕ, IfErr, IfOk, IfSome, IsTrue, length, slice_get, vec_len};
 ghost use Rattle.std.specs.Map.{keys_of, values_of};
-ghost use Rattle.cedar_graph.specs.Numbered.{items_at};
-ghost use Rattle.cedar_graph.specs.Numbering.{AreNumbersOf, IsNumbered};
-ghost use Rattle.cedar_graph.specs.Tables.{HasEntry, IsLack, StepsTo};
+ghost use Rattle.cedar_graph.specs.Words.{AreNumbersOf, HasEntry, IsLack, IsNumbered, StepsTo, items_at};
 
 use crate::table_fault::TableFault;
 use crate::tc_node::TCNode;

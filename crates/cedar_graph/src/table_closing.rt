@@ -3,11 +3,7 @@
 ghost use Rattle.std.specs.Prelude.{◌≡◌, ◌⊎◌, ℕ, ◌<◌, Contains, IfErr, IfOk, IfSome, IsTrue, OnOk, length, slice_get, vec_len, ⊤};
 ghost use Rattle.std.specs.List.Sorted.{IsStrictlySortedBy};
 ghost use Rattle.std.specs.Map.{keys_of, values_of};
-ghost use Rattle.cedar_below.specs.Chain.{Chain};
-ghost use Rattle.cedar_below.specs.Lists.{HoldsPairwise};
-ghost use Rattle.cedar_graph.specs.Numbered.{IsTarget, items_at};
-ghost use Rattle.cedar_graph.specs.Numbering.{ListHas, StandsIn};
-ghost use Rattle.cedar_graph.specs.Tables.{AreInTurn, HasEntry, IsClosedTo, IsGrown, IsTableFault, StepsTo};
+ghost use Rattle.cedar_graph.specs.Words.{AreInTurn, Chain, HasEntry, HoldsPairwise, IsClosedTo, IsGrown, IsTableFault, IsTarget, ListHas, StandsIn, StepsTo, items_at};
 
 use crate::closing::{closed_lists, first_on_cycle};
 use crate::list_edges::add_edges;

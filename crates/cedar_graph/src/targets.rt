@@ -2,8 +2,7 @@
 
 ghost use Rattle.std.specs.Prelude.{◌≡◌, ℕ, length, vec_len, IfOk, OnOk, IfSome, slice_get};
 ghost use Rattle.std.specs.HashMap.{values, hash_map_len};
-ghost use Rattle.cedar_graph.specs.Numbered.{items_at};
-ghost use Rattle.cedar_graph.specs.Numbering.{AreNumbers, KeepsNumbers, AreNumbersOf};
+ghost use Rattle.cedar_graph.specs.Words.{AreNumbers, AreNumbersOf, KeepsNumbers, items_at};
 
 use crate::numbering::{Numbering, number_of};
 use crate::tc_node::TCNode;

@@ -1,12 +1,8 @@
 -- Fields of actions that may be null, and the values of attributes.
 use Rattle.std.proofs.Common.{◌≡◌, Option, Some, None, ap, sym, ◌∙◌}
 use Rattle.json.specs.Json.{Json, null, boolean, number, string, array, object}
-use Rattle.cedar_below.specs.RestrictedExpr.{tree_of}
-use Rattle.cedar_below.specs.Tree.{Tree}
-use Rattle.cedar_below.specs.Value.{value_expr}
-use Rattle.cedar_below.specs.declared.value.RestrictedExpr.{RestrictedExpr}
+use Rattle.cedar_json.specs.Words.{RestrictedExpr, Tree, tree_of, unless_null, value_expr}
 use Rattle.cedar_below.specs.declared.value.Value.{Value as CedarValue}
-use Rattle.cedar_json.specs.ActionFormat.{unless_null}
 
 -- what a field holds that isn't null
 pub unless_null-held : (o : Option Json) (k : Json) → unless_null o ≡ Some k → o ≡ Some k

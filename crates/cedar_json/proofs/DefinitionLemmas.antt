@@ -5,9 +5,8 @@ use Rattle.std.specs.declared.cmp.Ordering.{Ordering}
 use Rattle.json.specs.Json.{Json}
 use Rattle.json.specs.Value.{members_view, value_view}
 use Rattle.json.specs.declared.value.Value.{Value}
-use Rattle.cedar_below.specs.Text.{Text}
+use Rattle.cedar_json.specs.Words.{Text, entries_of}
 use Rattle.cedar_json.proofs.MapLemmas.{seen-insert}
-use Rattle.cedar_json.specs.DefinitionFormat.{entries_of}
 
 abbrev Held : Type 0
 Held = Bor Text × Value Global

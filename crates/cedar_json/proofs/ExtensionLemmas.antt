@@ -4,15 +4,9 @@ use Rattle.std.proofs.lemmas.List.{drop_more}
 use Rattle.std.specs.BTreeMap.{insert_entry, is_at}
 use Rattle.std.specs.Map.{lookup}
 use Rattle.cedar_below.proofs.Names.{name_ord-name_cmp}
-use Rattle.cedar_below.specs.Name.{plain_name}
-use Rattle.cedar_below.specs.PlainName.{PlainName, name_cmp}
+use Rattle.cedar_json.specs.Words.{AreRows, ExtensionFunction, IsRow, Name, PlainName, Row, Signature, inserted, name_cmp, plain_name, row_signature, signature, unqualified}
 use Rattle.cedar_below.specs.contracts.name.NameOrd.TheImpl as name_ord
-use Rattle.cedar_below.specs.declared.extension.ExtensionFunction.{ExtensionFunction}
-use Rattle.cedar_below.specs.declared.name.Name.{Name}
 use Rattle.cedar_json.proofs.MapLemmas.{seen-insert}
-use Rattle.cedar_json.specs.CedarExtensions.{Signature, signature, unqualified}
-use Rattle.cedar_json.specs.ExtensionRows.{AreRows, IsRow, inserted, row_signature}
-use Rattle.cedar_json.specs.declared.extensions.Row.{Row}
 
 abbrev pub Signatures : Type 0
 Signatures = List (PlainName × Signature)

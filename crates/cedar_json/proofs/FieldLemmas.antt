@@ -8,9 +8,7 @@ use Rattle.json.specs.Find.{get, get_member, later_or, as_object}
 use Rattle.json.specs.Tree.{json_tokens, members_tokens}
 use Rattle.json.specs.Value.{value_view, members_view}
 use Rattle.json.specs.declared.value.Value.{Value}
-use Rattle.cedar_below.specs.Text.{Text}
-use Rattle.cedar_json.specs.Fields.{IsOther, has_only, is_among, keys_among, nth_member}
-use Rattle.cedar_json.specs.Place.{member_at}
+use Rattle.cedar_json.specs.Words.{IsOther, Text, has_only, is_among, keys_among, member_at, nth_member}
 
 or_assoc : (a b c : Bool) → ((a || b) || c) ≡ (a || (b || c))
 or_assoc true b c = refl

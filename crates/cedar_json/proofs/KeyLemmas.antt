@@ -8,10 +8,8 @@ use Rattle.json.specs.Json.{object}
 use Rattle.json.specs.Strict.{AreDistinct, keys}
 use Rattle.json.specs.Value.{members_view, value_view}
 use Rattle.json.specs.declared.value.Value.{Value}
-use Rattle.cedar_below.specs.Text.{Text}
+use Rattle.cedar_json.specs.Words.{IsRepeated, Text, nth_member}
 use Rattle.cedar_json.proofs.FieldLemmas.{nth_member-view}
-use Rattle.cedar_json.specs.Fields.{nth_member}
-use Rattle.cedar_json.specs.Repeats.{IsRepeated}
 
 abbrev pub Held : Type 0
 Held = Bor Text × Value Global

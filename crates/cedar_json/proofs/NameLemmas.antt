@@ -8,29 +8,8 @@ use Rattle.std.specs.Option.{option_cmp}
 use Rattle.std.specs.Str.{bytes_eq}
 use Rattle.cedar_below.proofs.NameReading.{both_true, either, ids_are_identifiers, path_text}
 use Rattle.cedar_below.proofs.Names.{name_ord-name_cmp}
-use Rattle.cedar_below.specs.Identifier.{IsIdentifier, begins_identifier, is_identifier_byte, is_identifier_text, reserved_word}
-use Rattle.cedar_below.specs.Joined.{joined}
-use Rattle.cedar_below.specs.InternalName.{name_of}
-use Rattle.cedar_below.specs.Name.{plain_name}
-use Rattle.cedar_below.specs.declared.internal_name.InternalName.{InternalName}
-use Rattle.cedar_below.specs.declared.name.Name.{Name}
-use Rattle.cedar_below.specs.NameFault.{IsNameFault}
-use Rattle.cedar_below.specs.NameText.{IsNameText, IsOfIdentifiers, IsReservedNameText}
-use Rattle.cedar_below.specs.PlainName.{IsReserved, PlainName, name_cmp, name_text}
-use Rattle.cedar_below.specs.Text.{Text}
-use Rattle.cedar_below.specs.declared.name_fault.NameFault.{NameFault}
-use Rattle.cedar_below.specs.declared.name_fault.NameFault.TheVariants.{NotAName, Reserved, NoCommonType}
-use Rattle.cedar_below.specs.UnreservedId.{unreserved_id_text}
+use Rattle.cedar_json.specs.Words.{CommonTypeId, InternalName, IsIdentifier, IsNameFault, IsNameText, IsOfIdentifiers, IsReserved, IsReservedNameText, Name, NameFault, NoCommonType, NotAName, PlainName, RawName, Reserved, Text, UnreservedId, begins_identifier, common_key, common_type_text, if_unreserved, is_among, is_identifier_byte, is_identifier_text, is_reserved, is_unreserved, joined, name_after, name_cmp, name_of, name_of_parts, name_text, namespace_key, pieces, plain_name, plain_name_in, raw_name, reserved_type_words, reserved_word, spelled_name, unreserved_id_text, with_byte}
 use Rattle.cedar_below.specs.contracts.name.NameOrd.TheImpl as name_ord
-use Rattle.cedar_below.specs.declared.unreserved_id.UnreservedId.{UnreservedId}
-use Rattle.cedar_names.specs.CommonTypeId.{common_type_text}
-use Rattle.cedar_names.specs.RawName.{raw_name}
-use Rattle.cedar_names.specs.ReservedTypeWord.{reserved_type_words}
-use Rattle.cedar_names.specs.declared.json_schema.common_type_id.CommonTypeId.{CommonTypeId}
-use Rattle.cedar_json.specs.DefinitionFormat.{common_key, namespace_key}
-use Rattle.cedar_names.specs.declared.json_schema.raw_name.RawName.{RawName}
-use Rattle.cedar_json.specs.Fields.{is_among}
-use Rattle.cedar_json.specs.WrittenName.{if_unreserved, is_reserved, is_unreserved, name_after, name_of_parts, pieces, plain_name_in, spelled_name, with_byte}
 
 -- a byte of an identifier is no colon
 no_colon : (byte : ℕ) (test : Bool) → (byte == 58) ≡ test → is_identifier_byte byte ≡ true → test ≡ false

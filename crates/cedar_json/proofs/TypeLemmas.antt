@@ -10,25 +10,11 @@ use Rattle.json.specs.Json.{Json, null, boolean, number, string, array, object, 
 use Rattle.json.specs.Find.{as_object, get, get_member, later_or}
 use Rattle.json.specs.Value.{value_view, members_view}
 use Rattle.json.specs.declared.value.Value.{Value}
-use Rattle.cedar_below.specs.declared.loc.Loc.{Loc}
-use Rattle.cedar_below.specs.Text.{Text, text_cmp}
+use Rattle.cedar_json.specs.Words.{Attributes, Common, Expr, Fault, Loc, OfAttribute, OfType, RawName, Text, «Type», TypeOfAttribute, additional_field, annotations_fit, attribute_by, attribute_of, attribute_step, attributes_field, attributes_held, attributes_in, attributes_of, element_field, element_of, flag_or, fold-roll-TypeOfAttribute, has_only, if_so, known_fields, later_field, members_from, plain_members, raw_attribute, raw_expr, raw_record, raw_reference, record_expr, record_step, reference_in, roll-RecordType, roll-TypeOfAttribute, text_cmp, text_held, type_by, type_by_word, type_of, type_step, type_with, variant_step}
 use Rattle.cedar_names.proofs.ExprLemmas.{record_type_expr-made}
-use Rattle.cedar_names.specs.Expr.{Expr, members_from, record_expr}
-use Rattle.cedar_names.specs.PlainMembers.{plain_members}
-use Rattle.cedar_names.specs.RawExpr.{raw_attribute, raw_expr, raw_record, raw_reference}
-use Rattle.cedar_names.specs.TypeExpr.{type_step, variant_step, record_step, attribute_step}
-use Rattle.cedar_names.specs.declared.json_schema.raw_name.RawName.{RawName}
-use Rattle.cedar_names.specs.declared.json_schema.reference_type.ReferenceType.TheVariants.{Common}
-use Rattle.cedar_names.specs.declared.json_schema.type_of.RecordType.{roll-RecordType}
-use Rattle.cedar_names.specs.declared.json_schema.type_of.Type.{«Type»}
-use Rattle.cedar_names.specs.declared.json_schema.type_of.TypeOfAttribute.{TypeOfAttribute, roll-TypeOfAttribute, fold-roll-TypeOfAttribute}
 use Rattle.cedar_json.proofs.MapLemmas.{seen-insert}
-use Rattle.cedar_json.specs.Fields.{annotations_fit, flag_or, has_only, known_fields, text_held}
-use Rattle.cedar_json.specs.TypeFormat.{Attributes, attributes_field, element_field, attribute_by, attribute_of, attributes_held, attributes_in, attributes_of, element_of, later_field, additional_field, if_so, reference_in, type_by, type_by_word, type_of, type_with}
-use Rattle.cedar_json.specs.declared.fault.Fault.{Fault}
 use Rattle.cedar_json.specs.declared.fault.Fault.TheVariants as fault
 use Rattle.cedar_json.specs.declared.fault.Row.{Row}
-use Rattle.cedar_json.specs.declared.fault.Row.TheVariants.{OfType, OfAttribute}
 
 -- a walk for a field is a look-up
 pub later : {A : Type 0} (f : Json → Option A) (o : Option Json) (found : Option A) (b : Bool) (j : Json)

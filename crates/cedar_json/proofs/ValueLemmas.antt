@@ -12,23 +12,11 @@ use Rattle.json.specs.declared.value.Value.{Value, the_lemmas}
 use Rattle.json.specs.declared.value.Value as kit
 use Rattle.cedar_below.proofs.TreeLemmas.{tree_of-call, tree_of-record}
 use Rattle.cedar_below.proofs.ValueCopies.{tree_of-text, tree_of-truth}
-use Rattle.cedar_below.specs.Name.{plain_name}
-use Rattle.cedar_below.specs.PlainName.{PlainName}
-use Rattle.cedar_below.specs.declared.name.Name.{Name}
-use Rattle.cedar_below.specs.RestrictedExpr.{tree_of, tree_step, trees_of}
-use Rattle.cedar_below.specs.Text.{Text, text_cmp}
-use Rattle.cedar_below.specs.Tree.{Tree, Trees, call_value, no_tree, number_value, set_value, text_value, tree, truth_value, uid_value}
-use Rattle.cedar_below.specs.declared.value.RestrictedExpr.{RestrictedExpr, fold-roll-RestrictedExpr, roll-RestrictedExpr}
+use Rattle.cedar_json.specs.Words.{Name, OfCall, Pairs, PlainName, RestrictedExpr, Text, Tree, Trees, argument_of, call_by, call_in, call_of, call_value, first_call, fold-roll-RestrictedExpr, has_only, if_so, known_fields, no_tree, number_value, object_by, pairs_of, plain_name, plain_name_in, record_of_pairs, roll-RestrictedExpr, set_value, sole_held, text_cmp, text_held, text_value, tree, tree_of, tree_step, trees_of, truth_value, uid_in, uid_value, value_of, values_of, whole_number}
 use Rattle.cedar_below.specs.declared.value.RestrictedExpr.TheOpen as layer
 use Rattle.cedar_below.specs.declared.value.RestrictedExpr.TheVariants as expr
 use Rattle.cedar_json.proofs.MapLemmas.{seen-insert}
 use Rattle.cedar_json.proofs.TypeLemmas.{later}
-use Rattle.cedar_json.specs.Fields.{has_only, known_fields, text_held}
-use Rattle.cedar_json.specs.TypeFormat.{if_so}
-use Rattle.cedar_json.specs.WholeNumber.{whole_number}
-use Rattle.cedar_json.specs.WrittenName.{plain_name_in}
-use Rattle.cedar_json.specs.declared.fault.Row.TheVariants.{OfCall}
-use Rattle.cedar_json.specs.ValueFormat.{Pairs, argument_of, call_by, call_in, call_of, first_call, object_by, pairs_of, record_of_pairs, sole_held, uid_in, value_of, values_of}
 
 argument_of-get : (ms : Members) → argument_of ms ≡ option_and_then value_of (get_member (codes "arg") ms)
 unfolding value_of

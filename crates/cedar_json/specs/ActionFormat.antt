@@ -5,14 +5,9 @@ use Rattle.std.specs.declared.alloc.Global.{Global}
 use Rattle.std.specs.declared.string.String.{String}
 use Rattle.json.specs.Find.{as_array, as_object, get}
 use Rattle.json.specs.Json.{Json, null, boolean, number, string, array, object}
-use Rattle.cedar_below.specs.RestrictedExpr.{tree_of}
-use Rattle.cedar_below.specs.Text.{Text}
-use Rattle.cedar_below.specs.Value.{value_expr}
+use Rattle.cedar_below.specs.Words.{Text, tree_of, value_expr}
 use Rattle.cedar_below.specs.declared.value.Value.{Value}
-use Rattle.cedar_names.specs.ActionBody.{Requests, requests}
-use Rattle.cedar_names.specs.Expr.{Expr}
-use Rattle.cedar_names.specs.RawExpr.{raw_expr, raw_reference}
-use Rattle.cedar_names.specs.Reference.{Reference}
+use Rattle.cedar_names.specs.Words.{Expr, Reference, Requests, raw_expr, raw_reference, requests}
 use Rattle.cedar_names.specs.declared.json_schema.action_type.ActionEntityUID.{ActionEntityUID}
 use Rattle.cedar_names.specs.declared.json_schema.action_type.ActionType.{ActionType}
 use Rattle.cedar_names.specs.declared.json_schema.action_type.ApplySpec.{ApplySpec}

@@ -2,11 +2,7 @@
 use Rattle.std.specs.Prelude.{List, [], ◌∷◌, Option, Some, codes, map}
 use Rattle.std.specs.BTreeMap.{BTreeMap, is_at}
 use Rattle.std.specs.Map.{lookup}
-use Rattle.cedar_below.specs.CoreSchemaType.{argument_types, result_type}
-use Rattle.cedar_below.specs.CoreTy.{CoreTy, core_extension, core_long, core_text, core_truth}
-use Rattle.cedar_below.specs.Name.{plain_name}
-use Rattle.cedar_below.specs.PlainName.{PlainName, name_cmp}
-use Rattle.cedar_below.specs.Text.{Text}
+use Rattle.cedar_below.specs.Words.{CoreTy, PlainName, Text, argument_types, core_extension, core_long, core_text, core_truth, name_cmp, plain_name, result_type}
 use Rattle.cedar_below.specs.declared.extension.ExtensionFunction.{ExtensionFunction}
 use Rattle.cedar_below.specs.declared.name.Name.{Name}
 

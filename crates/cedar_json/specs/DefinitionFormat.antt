@@ -7,16 +7,10 @@ use Rattle.std.specs.declared.cmp.Ordering.{Ordering}
 use Rattle.std.specs.declared.string.String.{String}
 use Rattle.json.specs.Find.{as_object, get}
 use Rattle.json.specs.Json.{Json, Members, no_members, member}
-use Rattle.cedar_below.specs.Name.{plain_name}
-use Rattle.cedar_below.specs.PlainName.{PlainName, name_cmp}
-use Rattle.cedar_below.specs.Text.{Text, text_cmp}
-use Rattle.cedar_below.specs.UnreservedId.{unreserved_id_text}
+use Rattle.cedar_below.specs.Words.{PlainName, Text, name_cmp, plain_name, text_cmp, unreserved_id_text}
 use Rattle.cedar_below.specs.declared.name.Name.{Name}
 use Rattle.cedar_below.specs.declared.unreserved_id.UnreservedId.{UnreservedId}
-use Rattle.cedar_names.specs.CommonTypeId.{common_type_text}
-use Rattle.cedar_names.specs.Expr.{Expr}
-use Rattle.cedar_names.specs.RawExpr.{raw_expr}
-use Rattle.cedar_names.specs.ReservedTypeWord.{reserved_type_words}
+use Rattle.cedar_names.specs.Words.{Expr, common_type_text, raw_expr, reserved_type_words}
 use Rattle.cedar_names.specs.declared.json_schema.action_type.ActionType.{ActionType}
 use Rattle.cedar_names.specs.declared.json_schema.common_type_id.CommonTypeId.{CommonTypeId}
 use Rattle.cedar_names.specs.declared.json_schema.entity_type.EntityType.{EntityType}

@@ -3,10 +3,7 @@ use Rattle.std.specs.Prelude.{List, [], ◌∷◌, Bool, false, Option, Some, No
 use Rattle.json.specs.Find.{as_array, as_str, get}
 use Rattle.json.specs.Json.{Json}
 use Rattle.cedar_below.specs.Text.{Text}
-use Rattle.cedar_names.specs.EntityBody.{EntityBody, enumerated, kind_body, standard}
-use Rattle.cedar_names.specs.Expr.{Expr, no_member, record_expr}
-use Rattle.cedar_names.specs.RawExpr.{raw_reference}
-use Rattle.cedar_names.specs.Reference.{Reference, reference_to}
+use Rattle.cedar_names.specs.Words.{EntityBody, Expr, Reference, enumerated, kind_body, no_member, raw_reference, record_expr, reference_to, standard}
 use Rattle.cedar_names.specs.declared.json_schema.entity_type.EntityType.{EntityType}
 use Rattle.cedar_names.specs.declared.json_schema.entity_type.EntityTypeKind.{EntityTypeKind}
 use Rattle.cedar_names.specs.declared.json_schema.raw_name.RawName.{RawName}

@@ -5,8 +5,7 @@ use Rattle.std.specs.Option.{unwrap_or}
 use Rattle.std.specs.Str.{bytes_eq}
 use Rattle.json.specs.Find.{as_bool, as_str, get}
 use Rattle.json.specs.Json.{Json, null, boolean, number, string, array, object, Members, no_members, member}
-use Rattle.cedar_below.specs.Identifier.{is_identifier_text}
-use Rattle.cedar_below.specs.Text.{Text}
+use Rattle.cedar_below.specs.Words.{Text, is_identifier_text}
 use Rattle.cedar_json.specs.declared.fault.Row.{Row}
 use Rattle.cedar_json.specs.declared.fault.Row.TheVariants.{OfType, OfCommonType, OfAttribute, OfEntityType, OfEnumeratedType, OfAction, OfAppliesTo, OfParent, OfEntityUid, OfCall, OfDefinition}
 

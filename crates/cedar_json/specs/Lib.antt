@@ -12,4 +12,5 @@ pub mod TextFormat
 pub mod TypeFormat
 pub mod ValueFormat
 pub mod WholeNumber
+pub mod Words
 pub mod WrittenName

@@ -2,9 +2,7 @@
 use Rattle.std.specs.Prelude.{◌≡◌, ℕ, false, List, [], ◌∷◌, Option, Some, None, option_and_then, reverse, IsSomeAnd, ⊤}
 use Rattle.json.specs.Find.{get, at, as_str, as_number, as_bool, as_array, as_object}
 use Rattle.json.specs.Json.{Json, null, no_items}
-use Rattle.cedar_below.specs.Identifier.{IsIdentifier, reserved_word}
-use Rattle.cedar_below.specs.NameText.{IsNameText, IsReservedNameText}
-use Rattle.cedar_below.specs.Text.{Text}
+use Rattle.cedar_below.specs.Words.{IsIdentifier, IsNameText, IsReservedNameText, Text, reserved_word}
 use Rattle.cedar_names.specs.ReservedTypeWord.{IsReservedTypeWord}
 use Rattle.cedar_json.specs.WholeNumber.{whole_number}
 use Rattle.cedar_json.specs.Fields.{is_among, is_text_or_null, known_fields, nth_member}

@@ -5,8 +5,7 @@ use Rattle.std.specs.Str.{bytes_eq}
 use Rattle.json.specs.Find.{get, get_member}
 use Rattle.json.specs.Json.{Json, null, boolean, number, string, array, object, Members, no_members, member}
 use Rattle.cedar_below.specs.Text.{Text, text_cmp}
-use Rattle.cedar_names.specs.Expr.{Expr, text_expr, long_expr, truth_expr, set_expr, record_expr, named, extension_expr, members_from}
-use Rattle.cedar_names.specs.Reference.{reference_to}
+use Rattle.cedar_names.specs.Words.{Expr, extension_expr, long_expr, members_from, named, record_expr, reference_to, set_expr, text_expr, truth_expr}
 use Rattle.cedar_names.specs.declared.json_schema.reference_type.ReferenceType.{ReferenceType}
 use Rattle.cedar_names.specs.declared.json_schema.reference_type.ReferenceType.TheVariants.{Common, Entity, CommonOrEntity}
 use Rattle.cedar_json.specs.Fields.{annotations_fit, flag_or, has_only, known_fields, text_held}

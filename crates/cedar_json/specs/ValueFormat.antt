@@ -6,11 +6,7 @@ use Rattle.std.specs.declared.alloc.Global.{Global}
 use Rattle.std.specs.declared.string.String.{String}
 use Rattle.json.specs.Find.{get_member}
 use Rattle.json.specs.Json.{Json, null, boolean, number, string, array, object, Items, no_items, item, Members, no_members, member}
-use Rattle.cedar_below.specs.PlainName.{PlainName}
-use Rattle.cedar_below.specs.PlainUid.{PlainUid}
-use Rattle.cedar_below.specs.RestrictedExpr.{tree_of}
-use Rattle.cedar_below.specs.Text.{Text, text_cmp}
-use Rattle.cedar_below.specs.Tree.{Tree, truth_value, number_value, text_value, uid_value, set_value, map_value, call_value, Trees, no_tree, tree, entries_from}
+use Rattle.cedar_below.specs.Words.{PlainName, PlainUid, Text, Tree, Trees, call_value, entries_from, map_value, no_tree, number_value, set_value, text_cmp, text_value, tree, tree_of, truth_value, uid_value}
 use Rattle.cedar_below.specs.declared.value.RestrictedExpr.{RestrictedExpr}
 use Rattle.cedar_json.specs.Fields.{has_only, known_fields, text_held}
 use Rattle.cedar_json.specs.TypeFormat.{if_so, later_field}

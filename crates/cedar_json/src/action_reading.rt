@@ -4,13 +4,7 @@ ghost use Rattle.std.specs.Prelude.{◌≡◌, ◌≢◌, [], Some, None, MatchR
 ghost use Rattle.json.specs.Find.{get};
 ghost use Rattle.json.specs.Json.{array, object};
 ghost use Rattle.json.specs.Value.{items_view, members_view, value_view};
-ghost use Rattle.cedar_names.specs.RawExpr.{raw_reference};
-ghost use Rattle.cedar_names.specs.declared.json_schema.reference_type.ReferenceType.TheVariants.{Entity};
-ghost use Rattle.cedar_json.specs.ActionFormat.{action_of, optional, pairs_in, parent_of, parents_of, requests_of, unless_null, written_action, written_pairs, written_parent, written_requests};
-ghost use Rattle.cedar_json.specs.EntityFormat.{entity_reference, references_in};
-ghost use Rattle.cedar_json.specs.Lists.{all_of};
-ghost use Rattle.cedar_json.specs.Place.{IsTrueOf};
-ghost use Rattle.cedar_json.specs.ValueFormat.{pairs_of};
+ghost use Rattle.cedar_json.specs.Words.{Entity, IsTrueOf, action_of, all_of, entity_reference, optional, pairs_in, pairs_of, parent_of, parents_of, raw_reference, references_in, requests_of, unless_null, written_action, written_pairs, written_parent, written_requests};
 
 use crate::annotations::check_annotations;
 use crate::entity_reading::{read_reference, read_references, shape_field};

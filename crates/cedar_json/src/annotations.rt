@@ -4,8 +4,7 @@ ghost use Rattle.std.specs.Prelude.{◌≡◌, ◌≢◌, Some, None, true, fals
 ghost use Rattle.json.specs.Find.{get};
 ghost use Rattle.json.specs.Json.{Json, object};
 ghost use Rattle.json.specs.Value.{value_view, members_view};
-ghost use Rattle.cedar_json.specs.Fields.{annotations_fit, are_annotations, is_text_or_null};
-ghost use Rattle.cedar_json.specs.Place.{IsTrueOf};
+ghost use Rattle.cedar_json.specs.Words.{IsTrueOf, annotations_fit, are_annotations, is_text_or_null};
 
 use crate::fault::{Fault, FaultKind, Wanted};
 use crate::fields::members_of;

@@ -5,17 +5,7 @@ ghost use Rattle.std.specs.Option.{option_cmp};
 ghost use Rattle.json.specs.Find.{as_object, get};
 ghost use Rattle.json.specs.Json.{Json, object};
 ghost use Rattle.json.specs.Value.{members_view, value_view};
-ghost use Rattle.cedar_below.specs.Name.{plain_name};
-ghost use Rattle.cedar_below.specs.PlainName.{name_cmp};
-ghost use Rattle.cedar_below.specs.Text.{Text, text_cmp};
-ghost use Rattle.cedar_below.specs.UnreservedId.{unreserved_id_text};
-ghost use Rattle.cedar_names.specs.CommonTypeId.{common_type_text};
-ghost use Rattle.cedar_names.specs.RawExpr.{raw_expr};
-ghost use Rattle.cedar_json.specs.ActionFormat.{action_of, written_action};
-ghost use Rattle.cedar_json.specs.DefinitionFormat.{actions_in, common_key, common_type_of, common_types_in, definition_of, entity_types_in, entries_of, fragment_of, id_key, namespace_key, written_actions, written_common_types, written_definition, written_entity_types, written_fragment, written_namespaces};
-ghost use Rattle.cedar_json.specs.EntityFormat.{entity_of, written_entity};
-ghost use Rattle.cedar_json.specs.Lists.{field_or};
-ghost use Rattle.cedar_json.specs.Place.{IsTrueOf, member_at};
+ghost use Rattle.cedar_json.specs.Words.{IsTrueOf, Text, action_of, actions_in, common_key, common_type_of, common_type_text, common_types_in, definition_of, entity_of, entity_types_in, entries_of, field_or, fragment_of, id_key, member_at, name_cmp, namespace_key, plain_name, raw_expr, text_cmp, unreserved_id_text, written_action, written_actions, written_common_types, written_definition, written_entity, written_entity_types, written_fragment, written_namespaces};
 
 use crate::action_reading::read_action;
 use crate::annotations::check_annotations;

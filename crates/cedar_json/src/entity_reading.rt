@@ -4,14 +4,8 @@ ghost use Rattle.std.specs.Prelude.{◌≡◌, ◌≢◌, Some, None, MatchResul
 ghost use Rattle.json.specs.Find.{as_str, get};
 ghost use Rattle.json.specs.Json.{array};
 ghost use Rattle.json.specs.Value.{items_view, value_view};
-ghost use Rattle.cedar_below.specs.Eid.{eid_text};
-ghost use Rattle.cedar_below.specs.NonEmpty.{items_of};
-ghost use Rattle.cedar_names.specs.RawExpr.{raw_expr, raw_record, raw_reference};
+ghost use Rattle.cedar_json.specs.Words.{Entity, IsTrueOf, all_of, body_by, choices_in, eid_text, empty_record, entity_of, entity_reference, items_of, parents_in, raw_expr, raw_record, raw_reference, references_in, shape_in, standard_of, tags_in, written_entity, written_kind};
 ghost use Rattle.cedar_names.specs.declared.json_schema.entity_type.EntityTypeKind.TheVariants as kind;
-ghost use Rattle.cedar_names.specs.declared.json_schema.reference_type.ReferenceType.TheVariants.{Entity};
-ghost use Rattle.cedar_json.specs.EntityFormat.{body_by, choices_in, empty_record, entity_of, entity_reference, parents_in, references_in, shape_in, standard_of, tags_in, written_entity, written_kind};
-ghost use Rattle.cedar_json.specs.Lists.{all_of};
-ghost use Rattle.cedar_json.specs.Place.{IsTrueOf};
 
 use crate::annotations::check_annotations;
 use crate::fault::{Fault, FaultKind, Row};

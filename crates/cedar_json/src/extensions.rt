@@ -1,13 +1,7 @@
 //! The extensions of Cedar.
 
 ghost use Rattle.std.specs.Prelude.{◌≡◌, [], IfOk, map, option_map};
-ghost use Rattle.cedar_below.specs.CoreSchemaType.{core_ty_of};
-ghost use Rattle.cedar_below.specs.Extensions.{extension_types, function_named};
-ghost use Rattle.cedar_below.specs.Name.{plain_name};
-ghost use Rattle.cedar_below.specs.PlainName.{PlainName, name_cmp};
-ghost use Rattle.cedar_below.specs.TypeNames.{TypeNamesFit};
-ghost use Rattle.cedar_json.specs.CedarExtensions.{cedar_function, cedar_type_names, signature, signatures, unqualified};
-ghost use Rattle.cedar_json.specs.ExtensionRows.{AreKinds, AreRows, IsKind, IsRow, SpellsName, inserted, kind_type, row_signature};
+ghost use Rattle.cedar_json.specs.Words.{AreKinds, AreRows, IsKind, IsRow, PlainName, SpellsName, TypeNamesFit, cedar_function, cedar_type_names, core_ty_of, extension_types, function_named, inserted, kind_type, name_cmp, plain_name, row_signature, signature, signatures, unqualified};
 
 use crate::fault::Fault;
 use crate::spelling::read_plain_name;

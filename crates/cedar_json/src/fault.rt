@@ -3,8 +3,7 @@
 ghost use Rattle.std.specs.Prelude.{◌≡◌, ◌≢◌, Some};
 ghost use Rattle.json.specs.Json.{Json};
 ghost use Rattle.json.specs.Find.{at, get};
-ghost use Rattle.cedar_below.specs.Text.{Text};
-ghost use Rattle.cedar_json.specs.Place.{IsFault, IsTrueOf, member_at, step_into};
+ghost use Rattle.cedar_json.specs.Words.{IsFault, IsTrueOf, Text, member_at, step_into};
 
 use cedar_below::Memory;
 use std::alloc::{AllocError, AllocFailed, Global};

@@ -5,9 +5,7 @@ ghost use Rattle.json.specs.Find.{at};
 ghost use Rattle.json.specs.Json.{Json, array, object};
 ghost use Rattle.json.specs.Strict.{AreDistinct, HasUniqueKeys, ItemsHaveUniqueKeys, MembersHaveUniqueKeys, keys};
 ghost use Rattle.json.specs.Value.{items_view, members_view, value_view};
-ghost use Rattle.cedar_below.specs.Text.{Text};
-ghost use Rattle.cedar_json.specs.Place.{member_at, step_into};
-ghost use Rattle.cedar_json.specs.Repeats.{IsRepeatIn, IsRepeated};
+ghost use Rattle.cedar_json.specs.Words.{IsRepeatIn, IsRepeated, Text, member_at, step_into};
 
 use crate::fault::Step;
 use cedar_below::{M, Memory};

@@ -4,12 +4,7 @@ ghost use Rattle.std.specs.Prelude.{◌≡◌, ◌≢◌, Some, None, true, fals
 ghost use Rattle.std.specs.List.{list_all};
 ghost use Rattle.json.specs.Find.{as_str};
 ghost use Rattle.json.specs.Json.{Json};
-ghost use Rattle.cedar_below.specs.Identifier.{begins_identifier, is_identifier_byte, is_identifier_start, is_identifier_text};
-ghost use Rattle.cedar_below.specs.Name.{plain_name};
-ghost use Rattle.cedar_below.specs.UnreservedId.{unreserved_id_text};
-ghost use Rattle.cedar_names.specs.RawName.{raw_name};
-ghost use Rattle.cedar_json.specs.Place.{IsTrueOf};
-ghost use Rattle.cedar_json.specs.WrittenName.{is_unreserved, plain_name_in, spelled_name};
+ghost use Rattle.cedar_json.specs.Words.{IsTrueOf, begins_identifier, is_identifier_byte, is_identifier_start, is_identifier_text, is_unreserved, plain_name, plain_name_in, raw_name, spelled_name, unreserved_id_text};
 
 use crate::fault::{Fault, FaultKind};
 use cedar_below::{Loc, Name, NameFault, UnreservedId};

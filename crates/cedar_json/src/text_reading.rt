@@ -4,8 +4,7 @@ ghost use Rattle.std.specs.Prelude.{◌≡◌, ◌≢◌, Some, IfErr, IfOk, IsS
 ghost use Rattle.json.specs.Json.{document};
 ghost use Rattle.json.specs.Strict.{HasUniqueKeys};
 ghost use Rattle.json.specs.Value.{value_view};
-ghost use Rattle.cedar_json.specs.DefinitionFormat.{WrittenFragment, fragment_of, written_fragment};
-ghost use Rattle.cedar_json.specs.TextFormat.{Describes, IsFaultOf};
+ghost use Rattle.cedar_json.specs.Words.{Describes, IsFaultOf, WrittenFragment, fragment_of, written_fragment};
 
 use crate::definition_reading::read_fragment;
 use crate::fault::{Fault, FaultKind};

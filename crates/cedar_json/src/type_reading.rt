@@ -3,15 +3,7 @@
 ghost use Rattle.std.specs.Prelude.{◌≡◌, ◌≢◌, [], Some, None, MatchResult, IfErr, codes, option_and_then, option_map};
 ghost use Rattle.json.specs.Json.{object};
 ghost use Rattle.json.specs.Value.{value_view, members_view};
-ghost use Rattle.cedar_names.specs.Expr.{set_expr};
-ghost use Rattle.cedar_names.specs.PlainMembers.{plain_members};
-ghost use Rattle.cedar_names.specs.RawExpr.{raw_attribute, raw_expr, raw_variant};
-ghost use Rattle.cedar_names.specs.RawName.{raw_name};
-ghost use Rattle.cedar_names.specs.declared.json_schema.reference_type.ReferenceType.TheVariants.{Common};
-ghost use Rattle.cedar_json.specs.Fields.{text_held};
-ghost use Rattle.cedar_json.specs.Place.{IsTrueOf};
-ghost use Rattle.cedar_json.specs.TypeFormat.{additional_field, attribute_of, attributes_field, attributes_of, element_field, extension_in, record_of, reference_in, type_by_word, type_of, type_with};
-ghost use Rattle.cedar_json.specs.WrittenName.{spelled_name};
+ghost use Rattle.cedar_json.specs.Words.{Common, IsTrueOf, additional_field, attribute_of, attributes_field, attributes_of, element_field, extension_in, plain_members, raw_attribute, raw_expr, raw_name, raw_variant, record_of, reference_in, set_expr, spelled_name, text_held, type_by_word, type_of, type_with};
 
 use crate::annotations::check_annotations;
 use crate::fault::{Fault, Row};

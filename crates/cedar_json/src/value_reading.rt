@@ -4,14 +4,7 @@ ghost use Rattle.std.specs.Prelude.{◌≡◌, ◌≢◌, [], Some, None, MatchR
 ghost use Rattle.json.specs.Find.{as_number};
 ghost use Rattle.json.specs.Json.{array, object};
 ghost use Rattle.json.specs.Value.{items_view, members_view, value_view};
-ghost use Rattle.cedar_below.specs.EntityUID.{uid_of};
-ghost use Rattle.cedar_below.specs.Name.{plain_name};
-ghost use Rattle.cedar_below.specs.RestrictedExpr.{tree_of, trees_of};
-ghost use Rattle.cedar_json.specs.Fields.{text_held};
-ghost use Rattle.cedar_json.specs.Place.{IsTrueOf};
-ghost use Rattle.cedar_json.specs.ValueFormat.{call_in, pairs_of, sole_held, uid_in, value_of, values_of, written_exprs};
-ghost use Rattle.cedar_json.specs.WholeNumber.{whole_number};
-ghost use Rattle.cedar_json.specs.WrittenName.{plain_name_in};
+ghost use Rattle.cedar_json.specs.Words.{IsTrueOf, call_in, pairs_of, plain_name, plain_name_in, sole_held, text_held, tree_of, trees_of, uid_in, uid_of, value_of, values_of, whole_number, written_exprs};
 
 use crate::fault::{Fault, FaultKind, Row, Wanted};
 use crate::fields::{check_fields, field, text_field};

@@ -2,35 +2,8 @@
 use Rattle.std.proofs.Common.{◌≡◌, Bool, true, false, List, [], ◌∷◌, ◌++◌, map, Option, Some, None, String, Global, string_bytes, option_map, is_some, refl, ap, sym, ◌∙◌}
 use Rattle.std.specs.List.{flat_map}
 use Rattle.std.specs.declared.vec.Vec.{Vec}
-use Rattle.cedar_below.specs.Name.{plain_name}
-use Rattle.cedar_below.specs.PlainName.{PlainName}
-use Rattle.cedar_below.specs.Text.{Text}
-use Rattle.cedar_below.specs.UnreservedId.{unreserved_id_text}
-use Rattle.cedar_below.specs.declared.name.Name.{Name}
-use Rattle.cedar_below.specs.declared.unreserved_id.UnreservedId.{UnreservedId}
-use Rattle.cedar_names.specs.ActionBody.{ActionBody, Requests, requests, elsewhere, action_body, parent_action, parent_actions, parent_type, plain_action_type, requests_by}
-use Rattle.cedar_names.specs.CommonTypeId.{common_type_text}
-use Rattle.cedar_names.specs.Declaration.{Body, Declaration, common_type, entity_type, action, action_declarations, common_declarations, entity_declarations, raw_declarations, raw_fragment}
-use Rattle.cedar_names.specs.EntityBody.{EntityBody, standard, enumerated, external, kind_body}
-use Rattle.cedar_names.specs.Expr.{no_member, record_expr}
-use Rattle.cedar_names.specs.RawExpr.{raw_expr, raw_reference}
-use Rattle.cedar_names.specs.Reference.{ActionReference, Reference, reference_to}
-use Rattle.cedar_names.specs.declared.json_schema.action_type.ActionEntityUID.{ActionEntityUID}
-use Rattle.cedar_names.specs.declared.json_schema.action_type.ActionType.{ActionType}
-use Rattle.cedar_names.specs.declared.json_schema.action_type.ApplySpec.{ApplySpec}
-use Rattle.cedar_names.specs.declared.json_schema.common_type_id.CommonTypeId.{CommonTypeId}
-use Rattle.cedar_names.specs.declared.json_schema.entity_type.EntityType.{EntityType}
-use Rattle.cedar_names.specs.declared.json_schema.entity_type.EntityTypeKind.{EntityTypeKind}
+use Rattle.cedar_json_laws.specs.Words.{ActionBody, ActionEntityUID, ActionReference, ActionType, ApplySpec, Body, CommonType, CommonTypeId, Declaration, Entity, EntityBody, EntityType, EntityTypeKind, Fragment, Name, NamespaceDefinition, PlainName, RawName, Reference, Requests, Text, «Type», UnreservedId, WrittenAction, WrittenDefinition, WrittenEntity, WrittenFragment, WrittenParent, action, action_body, action_declarations, common_declarations, common_type, common_type_text, elsewhere, entity_declarations, entity_type, enumerated, external, kind_body, no_member, parent_action, parent_actions, parent_type, plain_action_type, plain_name, raw_declarations, raw_expr, raw_fragment, raw_reference, record_expr, reference_to, requests, requests_by, standard, unreserved_id_text, written_action, written_definition, written_entity, written_fragment, written_pairs, written_parent, written_requests}
 use Rattle.cedar_names.specs.declared.json_schema.entity_type.EntityTypeKind.TheVariants as variant
-use Rattle.cedar_names.specs.declared.json_schema.fragment.CommonType.{CommonType}
-use Rattle.cedar_names.specs.declared.json_schema.fragment.Fragment.{Fragment}
-use Rattle.cedar_names.specs.declared.json_schema.fragment.NamespaceDefinition.{NamespaceDefinition}
-use Rattle.cedar_names.specs.declared.json_schema.raw_name.RawName.{RawName}
-use Rattle.cedar_names.specs.declared.json_schema.reference_type.ReferenceType.TheVariants.{Entity}
-use Rattle.cedar_names.specs.declared.json_schema.type_of.Type.{«Type»}
-use Rattle.cedar_json.specs.ActionFormat.{WrittenAction, WrittenParent, written_action, written_pairs, written_parent, written_requests}
-use Rattle.cedar_json.specs.DefinitionFormat.{WrittenDefinition, WrittenFragment, written_definition, written_fragment}
-use Rattle.cedar_json.specs.EntityFormat.{WrittenEntity, written_entity}
 use Rattle.cedar_json_laws.proofs.Placed.{expr_in, reference_in, types_placed}
 
 module _ (namespace : Option PlainName) where

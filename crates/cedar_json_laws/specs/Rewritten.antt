@@ -1,8 +1,7 @@
 -- Fragments that are read of what was written of others.
 use Rattle.std.specs.Prelude.{◌<◌, length}
 use Rattle.cedar_below.specs.Text.{Text}
-use Rattle.cedar_json.specs.DefinitionFormat.{written_fragment}
-use Rattle.cedar_json.specs.TextFormat.{Describes, too_long}
+use Rattle.cedar_json.specs.Words.{Describes, too_long, written_fragment}
 use Rattle.cedar_names.specs.declared.json_schema.fragment.Fragment.{Fragment}
 use Rattle.cedar_names.specs.declared.json_schema.raw_name.RawName.{RawName}
 

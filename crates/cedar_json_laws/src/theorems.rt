@@ -1,22 +1,7 @@
 //! The law of schemas that are written as JSON and built again of what is read.
 
 ghost use Rattle.std.specs.Prelude.{◌≡◌, ℕ, List, IsTrue, Ok, Err};
-ghost use Rattle.cedar_below.specs.Extensions.{extension_types};
-ghost use Rattle.cedar_below.specs.TypeNames.{TypeNamesFit};
-ghost use Rattle.cedar_below.specs.declared.extension.Extensions.{Extensions};
-ghost use Rattle.cedar_declaration_laws.specs.EndToEnd.{IsBuiltFrom};
-ghost use Rattle.cedar_declarations.specs.Bag.{Bag};
-ghost use Rattle.cedar_declarations.specs.ConvertedBack.{IsConvertedBack, IsWritable};
-ghost use Rattle.cedar_declarations.specs.Counted.{PositionsFit};
-ghost use Rattle.cedar_declarations.specs.Fault.{Fault, out_of_memory};
-ghost use Rattle.cedar_json.specs.DefinitionFormat.{written_fragment};
-ghost use Rattle.cedar_json.specs.TextFormat.{Describes};
-ghost use Rattle.cedar_json_laws.specs.Rewritten.{IsRewritten};
-ghost use Rattle.cedar_names.specs.Declaration.{raw_fragment};
-ghost use Rattle.cedar_names.specs.declared.json_schema.fragment.Fragment.{Fragment};
-ghost use Rattle.cedar_names.specs.declared.json_schema.raw_name.RawName.{RawName};
-ghost use Rattle.cedar_schema.specs.ValidatorSchema.{schema_of};
-ghost use Rattle.cedar_schema.specs.declared.schema.ValidatorSchema.{ValidatorSchema};
+ghost use Rattle.cedar_json_laws.specs.Words.{Bag, Describes, Extensions, Fault, Fragment, IsBuiltFrom, IsConvertedBack, IsRewritten, IsWritable, PositionsFit, RawName, TypeNamesFit, ValidatorSchema, extension_types, out_of_memory, raw_fragment, schema_of, written_fragment};
 
 use cedar_schema::ValidatorSchema;
 

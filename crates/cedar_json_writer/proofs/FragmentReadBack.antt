@@ -11,31 +11,12 @@ use Rattle.json.specs.Json.{Json, string, object, no_members, member}
 use Rattle.json.specs.Value.{items_of}
 use Rattle.cedar_below.proofs.PlainNames.{name_cmp-total}
 use Rattle.cedar_below.proofs.Texts.{text_cmp-total}
-use Rattle.cedar_below.specs.PlainName.{PlainName, name_text}
-use Rattle.cedar_below.specs.Text.{Text, text_cmp}
-use Rattle.cedar_below.specs.Tree.{entries_from}
-use Rattle.cedar_names.specs.ActionBody.{Requests, requests, elsewhere}
-use Rattle.cedar_names.specs.EntityBody.{EntityBody, standard, enumerated, external}
-use Rattle.cedar_names.specs.Expr.{Expr}
-use Rattle.cedar_names.specs.Reference.{Reference, reference_to}
-use Rattle.cedar_names.specs.declared.json_schema.reference_type.ReferenceType.TheVariants.{Entity}
+use Rattle.cedar_json_writer.specs.Words.{Each, Entity, EntityBody, Expr, Flaw, IfThere, IsPlain, IsWrittenEntity, Pairs, PlainName, Reference, Requests, SoundAction, SoundBody, SoundDeclarations, SoundDefinition, SoundFragment, SoundPairs, SoundParent, SoundRequests, SoundType, SoundValue, Text, WrittenAction, WrittenDefinition, WrittenEntity, WrittenFragment, WrittenParent, action_by, action_document, action_flaws, action_of, actions_in, all_of, at_least_one, body_flaws, body_members, choices_in, common_key, common_type_of, common_types_held, common_types_in, declared_flaws, declared_members, definition_by, definition_document, definition_flaws, definition_of, elsewhere, entity_by, entity_of, entity_reference, entity_type_document, entity_types_in, entries_from, enumerated, external, field_or, flag_held, flag_or, flaws_in, fragment_document, fragment_of, id_key, keyed_members, name_text, namespace_key, namespace_text, optional, optional_member, pairs_document, pairs_flaws, pairs_in, parent_array, parent_by, parent_document, parent_of, parents_held, parents_in, parents_of, parts_flaws, plain_name_in, reference_array, reference_text, reference_to, references_in, requests, requests_by, requests_document, requests_flaws, requests_of, shape_held, shape_in, standard, standard_by, tags_in, text_array, text_cmp, type_document, type_flaws}
 use Rattle.cedar_json.proofs.NameLemmas.{spelled_name-text}
-use Rattle.cedar_json.specs.ActionFormat.{WrittenAction, WrittenParent, action_by, action_of, optional, pairs_in, parent_by, parent_of, parents_of, requests_by, requests_of}
-use Rattle.cedar_json.specs.DefinitionFormat.{WrittenDefinition, WrittenFragment, actions_in, common_key, common_type_of, common_types_in, definition_by, definition_of, entity_types_in, entries_of, fragment_of, id_key, namespace_key}
-use Rattle.cedar_json.specs.EntityFormat.{WrittenEntity, at_least_one, choices_in, entity_by, entity_of, entity_reference, parents_in, references_in, shape_in, standard_by, tags_in}
-use Rattle.cedar_json.specs.Fields.{flag_or}
-use Rattle.cedar_json.specs.Lists.{all_of, field_or}
-use Rattle.cedar_json.specs.ValueFormat.{Pairs}
-use Rattle.cedar_json.specs.WrittenName.{plain_name_in}
+use Rattle.cedar_json.specs.DefinitionFormat.{entries_of}
 use Rattle.cedar_json_writer.proofs.TypeReadBack.{common_type_back, shape_back, type_back}
 use Rattle.cedar_json_writer.proofs.ValueReadBack.{entries_back, listed, plain_name-back}
 use Rattle.cedar_json_writer.proofs.WrittenOrder.{both_none, put-last, still_sorted}
-use Rattle.cedar_json_writer.specs.Flaws.{Flaw, action_flaws, body_flaws, declared_flaws, definition_flaws, flaws_in, pairs_flaws, parts_flaws, requests_flaws, type_flaws}
-use Rattle.cedar_json_writer.specs.FragmentDocument.{action_document, body_members, common_types_held, declared_members, definition_document, entity_type_document, fragment_document, namespace_text, pairs_document, parent_array, parent_document, parents_held, reference_array, requests_document}
-use Rattle.cedar_json_writer.specs.Sound.{Each, IfThere, IsPlain, IsWrittenEntity, SoundAction, SoundBody, SoundDeclarations, SoundDefinition, SoundFragment, SoundPairs, SoundParent, SoundRequests, SoundType}
-use Rattle.cedar_json_writer.specs.Sound.{SoundValue}
-use Rattle.cedar_json_writer.specs.TypeDocument.{reference_text, shape_held, type_document}
-use Rattle.cedar_json_writer.specs.WrittenFields.{flag_held, keyed_members, optional_member, text_array}
 
 -- what is written of a reference to an entity type describes it
 reference_back : (reference : Reference) → IsWrittenEntity reference → entity_reference (string (reference_text reference)) ≡ Some reference

@@ -8,21 +8,11 @@ use Rattle.std.specs.Map.{keys_of}
 use Rattle.std.specs.Str.{bytes_eq}
 use Rattle.cedar_below.proofs.NameReading.{either}
 use Rattle.cedar_below.proofs.Texts.{text_cmp-total}
-use Rattle.cedar_below.specs.Identifier.{reserved_word}
-use Rattle.cedar_below.specs.PlainName.{IsReserved, PlainName, name_text}
-use Rattle.cedar_below.specs.PlainUid.{PlainUid}
-use Rattle.cedar_below.specs.Text.{Text, text_cmp}
-use Rattle.cedar_below.specs.Tree.{Tree, truth_value, number_value, text_value, uid_value, set_value, map_value, call_value, Trees, no_tree, tree, Entries, no_entry, entry, entry_names, entries_from}
+use Rattle.cedar_json_writer.specs.Words.{Entries, IsPlain, IsReserved, Pairs, PlainName, PlainUid, SoundEntries, SoundValue, SoundValues, Text, Tree, Trees, call_of, call_value, entries_flaws, entries_from, entry, entry_names, if_unreserved, is_among, is_reserved, key_flaws, lone_key, map_value, name_text, no_entry, no_tree, number_value, pairs_of, plain_name_in, record_of_pairs, reserved_word, set_value, sole_held, text_cmp, text_value, tree, truth_value, uid_by, uid_document, uid_in, uid_value, value_document, value_flaws, value_items, value_keys, value_members, value_of, values_flaws, values_of}
 use Rattle.cedar_json.proofs.NameLemmas.{spelled_name-text}
 use Rattle.cedar_json.proofs.ValueLemmas.{pairs_of-member, pairs_of-none, value_of-record}
-use Rattle.cedar_json.specs.Fields.{is_among}
-use Rattle.cedar_json.specs.ValueFormat.{Pairs, call_of, pairs_of, record_of_pairs, sole_held, uid_by, uid_in, value_of, values_of}
-use Rattle.cedar_json.specs.WrittenName.{if_unreserved, is_reserved, plain_name_in}
 use Rattle.cedar_json_writer.proofs.NumberReadBack.{whole_number-back}
 use Rattle.cedar_json_writer.proofs.WrittenOrder.{both_none, put-last, still_sorted}
-use Rattle.cedar_json_writer.specs.Flaws.{entries_flaws, key_flaws, lone_key, value_flaws, value_keys, values_flaws}
-use Rattle.cedar_json_writer.specs.Sound.{IsPlain, SoundEntries, SoundValue, SoundValues}
-use Rattle.cedar_json_writer.specs.ValueDocument.{uid_document, value_document, value_items, value_members}
 
 listed-among : (text : Text) (texts : List Text) → is_among text texts ≡ true → Contains texts text
 listed-among text [] e = absurd (false≢true e)

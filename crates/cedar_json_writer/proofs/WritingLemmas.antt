@@ -4,10 +4,7 @@ use Rattle.std.proofs.lemmas.List.Elements.{Contains-append_left, Contains-appen
 use Rattle.json.specs.Json.{Json, array, object, Items, no_items, item, Members, no_members, member}
 use Rattle.json.specs.Token.{Token, begin_array, begin_object, end_array, end_object, key}
 use Rattle.json.specs.Tree.{items_tokens, json_tokens, members_tokens}
-use Rattle.cedar_below.specs.Text.{Text}
-use Rattle.cedar_json_writer.specs.Flaws.{Flaw}
-use Rattle.cedar_json_writer.specs.Writing.{AddsField, AddsFields, AddsValue, IsFlawOf, IsFree, flaw_of}
-use Rattle.cedar_json_writer.specs.declared.fault.WriteFault.{WriteFault}
+use Rattle.cedar_json_writer.specs.Words.{AddsField, AddsFields, AddsValue, Flaw, IsFlawOf, IsFree, Text, WriteFault, flaw_of}
 use Rattle.cedar_json_writer.specs.declared.fault.WriteFault.TheVariants as fault
 
 -- a flaw of the first of two lists is one of both

@@ -3,22 +3,10 @@ use Rattle.std.proofs.Common.{◌≡◌, Global, List, [], ◌∷◌, ◌++◌, 
 use Rattle.std.specs.declared.vec.Vec.{Vec}
 use Rattle.json.specs.Json.{Json, object, no_members, member}
 use Rattle.json.specs.Token.{Token, begin_object, end_object, key}
-use Rattle.cedar_names.specs.ActionBody.{requests}
-use Rattle.cedar_names.specs.Expr.{Expr}
-use Rattle.cedar_names.specs.RawExpr.{raw_reference}
-use Rattle.cedar_names.specs.declared.json_schema.action_type.ActionEntityUID.{ActionEntityUID}
-use Rattle.cedar_names.specs.declared.json_schema.raw_name.RawName.{RawName}
-use Rattle.cedar_names.specs.declared.json_schema.reference_type.ReferenceType.TheVariants.{Entity}
-use Rattle.cedar_json.specs.ActionFormat.{WrittenAction, written_parent}
+use Rattle.cedar_json_writer.specs.Words.{ActionEntityUID, AddsField, AddsValue, Each, Entity, Expr, IfThere, IsFlawOf, IsFree, IsWrittenEntity, RawName, SoundAction, SoundPairs, SoundParent, SoundRequests, WriteFault, WrittenAction, action_flaws, flaws_in, optional_member, pairs_flaws, raw_name, raw_reference, requests, requests_flaws, written_parent}
 use Rattle.cedar_json_writer.proofs.WritingLemmas.{field_added, fields_after, flaw_left, flaw_right, none_both, object_added}
 use Rattle.cedar_json_writer.proofs.WrittenEntities.{names_sound}
 use Rattle.cedar_json_writer.proofs.WrittenTypes.{FreeType, raw_ids}
-use Rattle.cedar_json_writer.specs.Flaws.{action_flaws, flaws_in, pairs_flaws, requests_flaws}
-use Rattle.cedar_json_writer.specs.Sound.{Each, IfThere, IsWrittenEntity, SoundAction, SoundPairs, SoundParent, SoundRequests}
-use Rattle.cedar_json_writer.specs.WrittenFields.{optional_member}
-use Rattle.cedar_json_writer.specs.Writing.{AddsField, AddsValue, IsFlawOf, IsFree}
-use Rattle.cedar_json_writer.specs.declared.fault.WriteFault.{WriteFault}
-use Rattle.cedar_names.specs.RawName.{raw_name}
 
 -- the object of requests
 pub requests_added : (old opened keyed one_of named two_of inside new : List Token) (principals resources : Json) (context : Option Json)

@@ -8,31 +8,12 @@ use Rattle.std.specs.declared.cmp.Ordering.{Ordering}
 use Rattle.json.specs.Json.{Json, object, no_members, member}
 use Rattle.json.specs.Token.{Token, begin_object, end_object, key}
 use Rattle.cedar_below.proofs.Ordered.{IsStrictlySortedBy-map}
-use Rattle.cedar_below.specs.Name.{plain_name}
-use Rattle.cedar_below.specs.PlainName.{PlainName, name_cmp}
-use Rattle.cedar_below.specs.Text.{Text, text_cmp}
+use Rattle.cedar_json_writer.specs.Words.{AddsField, AddsValue, CommonType, CommonTypeId, Each, Expr, Flaw, IfThere, IsFlawOf, IsFree, IsPlain, Name, NamespaceDefinition, PlainName, RawName, SoundAction, SoundBody, SoundDeclarations, SoundDefinition, SoundFragment, SoundType, Text, WriteFault, WrittenDefinition, WrittenEntity, action_flaws, body_flaws, common_key, common_type_text, common_types_held, declared_flaws, declared_members, definition_document, definition_flaws, id_key, keyed_members, name_cmp, namespace_text, optional_member, plain_name, raw_expr, text_cmp, type_document, type_flaws, written_common_types, written_definition}
 use Rattle.cedar_below.specs.contracts.name.NameOrd.TheImpl as name_ord
-use Rattle.cedar_below.specs.declared.name.Name.{Name}
-use Rattle.cedar_names.specs.CommonTypeId.{common_type_text}
-use Rattle.cedar_names.specs.Expr.{Expr}
-use Rattle.cedar_names.specs.RawExpr.{raw_expr}
-use Rattle.cedar_names.specs.declared.json_schema.common_type_id.CommonTypeId.{CommonTypeId}
-use Rattle.cedar_names.specs.declared.json_schema.fragment.CommonType.{CommonType}
-use Rattle.cedar_names.specs.declared.json_schema.fragment.NamespaceDefinition.{NamespaceDefinition}
-use Rattle.cedar_names.specs.declared.json_schema.raw_name.RawName.{RawName}
 use Rattle.cedar_json.proofs.ListLemmas.{no_length}
 use Rattle.cedar_json.proofs.NameLemmas.{namespace_order}
-use Rattle.cedar_json.specs.DefinitionFormat.{WrittenDefinition, common_key, id_key, written_common_types, written_definition}
-use Rattle.cedar_json.specs.EntityFormat.{WrittenEntity}
 use Rattle.cedar_json_writer.proofs.WritingLemmas.{MembersShape, field_added, fields_after, flaw_left, flaw_right, none_both, object_added}
 use Rattle.cedar_json_writer.proofs.WrittenValues.{name_plain}
-use Rattle.cedar_json_writer.specs.Flaws.{Flaw, action_flaws, body_flaws, declared_flaws, definition_flaws, type_flaws}
-use Rattle.cedar_json_writer.specs.FragmentDocument.{common_types_held, declared_members, definition_document, namespace_text}
-use Rattle.cedar_json_writer.specs.Sound.{Each, IfThere, IsPlain, SoundAction, SoundBody, SoundDeclarations, SoundDefinition, SoundFragment, SoundType}
-use Rattle.cedar_json_writer.specs.TypeDocument.{type_document}
-use Rattle.cedar_json_writer.specs.WrittenFields.{keyed_members, optional_member}
-use Rattle.cedar_json_writer.specs.Writing.{AddsField, AddsValue, IsFlawOf, IsFree}
-use Rattle.cedar_json_writer.specs.declared.fault.WriteFault.{WriteFault}
 
 -- declarations that a map holds, each under a key that is shown as a name and written as a text
 module _ {K L V A : Type 0} (shown : K → L) (text : L → Text) (view : V → A) (document : A → Json) (flaws : A → List Flaw)

@@ -2,21 +2,10 @@
 use Rattle.std.proofs.Common.{◌≡◌, ◌≢◌, List, [], ◌∷◌, Bool, true, false, map, length, Option, Some, None, codes, refl, sym, subst}
 use Rattle.std.specs.List.Sorted.{IsStrictlySortedBy}
 use Rattle.json.specs.Token.{Token}
-use Rattle.cedar_names.specs.EntityBody.{standard}
-use Rattle.cedar_names.specs.Expr.{Expr, record_expr}
-use Rattle.cedar_names.specs.RawExpr.{raw_reference}
-use Rattle.cedar_names.specs.RawName.{raw_name}
-use Rattle.cedar_names.specs.declared.json_schema.raw_name.RawName.{RawName}
-use Rattle.cedar_names.specs.declared.json_schema.reference_type.ReferenceType.TheVariants.{Entity}
-use Rattle.cedar_json.specs.EntityFormat.{empty_record}
+use Rattle.cedar_json_writer.specs.Words.{AddsField, Each, Entity, Expr, IfThere, IsFree, IsWrittenEntity, RawName, SoundBody, SoundType, body_flaws, empty_record, flaws_in, is_empty_record, parents_held, raw_name, raw_reference, record_expr, reference_array, standard, type_flaws}
 use Rattle.cedar_json_writer.proofs.TypeReadBack.{empty-is}
 use Rattle.cedar_json_writer.proofs.WritingLemmas.{none_both}
 use Rattle.cedar_json_writer.proofs.WrittenTypes.{Entries, FreeType, listed, raw_ids}
-use Rattle.cedar_json_writer.specs.Flaws.{body_flaws, flaws_in, type_flaws}
-use Rattle.cedar_json_writer.specs.FragmentDocument.{parents_held, reference_array}
-use Rattle.cedar_json_writer.specs.Sound.{Each, IfThere, IsWrittenEntity, SoundBody, SoundType}
-use Rattle.cedar_json_writer.specs.TypeDocument.{is_empty_record}
-use Rattle.cedar_json_writer.specs.Writing.{AddsField, IsFree}
 
 -- a record with an attribute isn't the one without any
 pub filled_record : (entries : Entries) (additional : Bool) → length entries ≢ 0 → is_empty_record (record_expr (listed entries) additional) ≡ false

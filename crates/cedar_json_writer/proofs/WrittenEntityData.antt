@@ -4,20 +4,9 @@ use Rattle.std.specs.BTreeMap.{BTreeMap}
 use Rattle.json.specs.Json.{Json, array, object, item, no_members, member}
 use Rattle.json.specs.Token.{Token, begin_object, end_object, key}
 use Rattle.json.specs.Value.{items_of}
-use Rattle.cedar_below.specs.PlainUid.{PlainUid}
-use Rattle.cedar_below.specs.RestrictedExpr.{tree_of}
-use Rattle.cedar_below.specs.Value.{value_expr}
-use Rattle.cedar_below.specs.declared.value.Value.{Value}
+use Rattle.cedar_json_writer.specs.Words.{AddsField, AddsValue, Pairs, PlainUid, Value, optional_member, pairs_document, pairs_flaws, tags_held, tree_of, uid_array, uid_document, value_expr, value_flaws, written_pairs}
 use Rattle.cedar_json.proofs.ListLemmas.{no_length}
-use Rattle.cedar_json.specs.ActionFormat.{written_pairs}
-use Rattle.cedar_json.specs.ValueFormat.{Pairs}
 use Rattle.cedar_json_writer.proofs.WritingLemmas.{field_absent, field_added, fields_after, items_from, object_added}
-use Rattle.cedar_json_writer.specs.EntityDocument.{tags_held, uid_array}
-use Rattle.cedar_json_writer.specs.Flaws.{pairs_flaws, value_flaws}
-use Rattle.cedar_json_writer.specs.FragmentDocument.{pairs_document}
-use Rattle.cedar_json_writer.specs.ValueDocument.{uid_document}
-use Rattle.cedar_json_writer.specs.Writing.{AddsField, AddsValue}
-use Rattle.cedar_json_writer.specs.WrittenFields.{optional_member}
 
 uids-items : (uids : List PlainUid) → items_from uid_document uids ≡ items_of (map uid_document uids)
 uids-items [] = refl

@@ -16,28 +16,10 @@ use Rattle.json.specs.Strict.{AreDistinct, HasUniqueKeys, ItemsHaveUniqueKeys, M
 use Rattle.cedar_below.proofs.Ordered.{not_itself}
 use Rattle.cedar_below.proofs.PlainNames.{name_cmp-total}
 use Rattle.cedar_below.proofs.Texts.{text_cmp-total}
-use Rattle.cedar_below.specs.PlainName.{PlainName, name_cmp}
-use Rattle.cedar_below.specs.Text.{Text, text_cmp}
-use Rattle.cedar_below.specs.Tree.{Tree, truth_value, number_value, text_value, uid_value, set_value, map_value, call_value, Trees, no_tree, tree, Entries, no_entry, entry, entry_names, entries_from}
-use Rattle.cedar_names.specs.ActionBody.{Requests, requests, elsewhere}
-use Rattle.cedar_names.specs.EntityBody.{EntityBody, standard, enumerated, external}
-use Rattle.cedar_names.specs.Expr.{Expr, text_expr, long_expr, truth_expr, set_expr, record_expr, named, extension_expr, Members as AttributeList, no_member as no_attribute, member as attribute}
-use Rattle.cedar_names.specs.Reference.{Reference}
-use Rattle.cedar_names.specs.declared.json_schema.reference_type.ReferenceType.{ReferenceType}
-use Rattle.cedar_names.specs.declared.json_schema.reference_type.ReferenceType.TheVariants.{Common, Entity, CommonOrEntity}
-use Rattle.cedar_json.specs.ActionFormat.{WrittenAction, WrittenParent}
-use Rattle.cedar_json.specs.DefinitionFormat.{WrittenDefinition, WrittenFragment, common_key, id_key, namespace_key}
-use Rattle.cedar_json.specs.EntityFormat.{WrittenEntity}
-use Rattle.cedar_json.specs.Fields.{is_among}
-use Rattle.cedar_json.specs.ValueFormat.{Pairs}
+use Rattle.cedar_json_writer.specs.Words.{Common, CommonOrEntity, Each, Entity, EntityBody, Entries, Expr, Flaw, IfThere, IsPlain, Pairs, PlainName, Reference, ReferenceType, Requests, SoundAction, SoundAttributes, SoundBody, SoundDeclarations, SoundDefinition, SoundEntries, SoundFragment, SoundPairs, SoundRequests, SoundType, SoundValue, SoundValues, Text, Tree, Trees, WrittenAction, WrittenDefinition, WrittenEntity, WrittenFragment, WrittenParent, action_document, action_flaws, attribute_members, attribute_names, body_flaws, body_members, call_value, common_key, common_types_held, declared_flaws, declared_members, definition_document, definition_flaws, elsewhere, entity_type_document, entries_flaws, entries_from, entry, entry_names, enumerated, extension_expr, external, flag_held, flaws_in, fragment_document, id_key, is_among, is_empty_record, key_flaws, keyed_members, long_expr, map_value, name_cmp, named, namespace_key, namespace_text, no_entry, no_tree, number_value, optional_member, pairs_document, pairs_flaws, parent_array, parent_document, parents_held, parts_flaws, record_expr, reference_array, reference_members, reference_text, requests, requests_document, requests_flaws, set_expr, set_value, shape_held, standard, text_array, text_cmp, text_expr, text_value, tree, truth_expr, truth_value, type_document, type_flaws, type_members, uid_value, value_document, value_flaws, value_items, value_members, values_flaws}
+use Rattle.cedar_names.specs.Expr.{Members as AttributeList, no_member as no_attribute, member as attribute}
 use Rattle.cedar_json_writer.proofs.FragmentReadBack.{namespace_back}
 use Rattle.cedar_json_writer.proofs.WrittenOrder.{both_none}
-use Rattle.cedar_json_writer.specs.Flaws.{Flaw, action_flaws, body_flaws, declared_flaws, definition_flaws, entries_flaws, flaws_in, key_flaws, pairs_flaws, parts_flaws, requests_flaws, type_flaws, value_flaws, values_flaws}
-use Rattle.cedar_json_writer.specs.FragmentDocument.{action_document, body_members, common_types_held, declared_members, definition_document, entity_type_document, fragment_document, namespace_text, pairs_document, parent_array, parent_document, parents_held, reference_array, requests_document}
-use Rattle.cedar_json_writer.specs.Sound.{Each, IfThere, IsPlain, SoundAction, SoundAttributes, SoundBody, SoundDeclarations, SoundDefinition, SoundEntries, SoundFragment, SoundPairs, SoundRequests, SoundType, SoundValue, SoundValues, attribute_names}
-use Rattle.cedar_json_writer.specs.TypeDocument.{attribute_members, is_empty_record, reference_members, reference_text, shape_held, type_document, type_members}
-use Rattle.cedar_json_writer.specs.ValueDocument.{value_document, value_items, value_members}
-use Rattle.cedar_json_writer.specs.WrittenFields.{flag_held, keyed_members, optional_member, text_array}
 
 -- whether no text comes twice
 abbrev are_apart : List Text → Bool

@@ -4,19 +4,8 @@ use Rattle.json.specs.Json.{Json, array, item, string}
 use Rattle.json.specs.Token.{Token}
 use Rattle.json.specs.Tree.{items_tokens}
 use Rattle.json.specs.Value.{items_of}
-use Rattle.cedar_below.specs.Eid.{eid_text}
-use Rattle.cedar_below.specs.PlainName.{name_text}
-use Rattle.cedar_below.specs.declared.eid.Eid.{Eid}
-use Rattle.cedar_names.specs.RawExpr.{raw_reference}
-use Rattle.cedar_names.specs.RawName.{raw_name}
-use Rattle.cedar_json.specs.ActionFormat.{written_parent}
-use Rattle.cedar_names.specs.declared.json_schema.action_type.ActionEntityUID.{ActionEntityUID}
-use Rattle.cedar_names.specs.declared.json_schema.raw_name.RawName.{RawName}
-use Rattle.cedar_names.specs.declared.json_schema.reference_type.ReferenceType.TheVariants.{Entity}
+use Rattle.cedar_json_writer.specs.Words.{ActionEntityUID, AddsValue, Eid, Entity, RawName, eid_text, name_text, parent_array, parent_document, raw_name, raw_reference, reference_array, reference_text, written_parent}
 use Rattle.cedar_json_writer.proofs.WritingLemmas.{items_from}
-use Rattle.cedar_json_writer.specs.FragmentDocument.{parent_array, parent_document, reference_array}
-use Rattle.cedar_json_writer.specs.Writing.{AddsValue}
-use Rattle.cedar_json_writer.specs.TypeDocument.{reference_text}
 
 -- a name as an item
 abbrev pub name_item : RawName → Json

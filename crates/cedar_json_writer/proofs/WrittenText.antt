@@ -8,17 +8,10 @@ use Rattle.json.specs.Json.{Json, document, if_last, max_depth, value}
 use Rattle.json.specs.Lex.{tokens}
 use Rattle.json.specs.Token.{Token}
 use Rattle.json.specs.Tree.{depth, json_tokens}
-use Rattle.cedar_below.specs.Text.{Text}
-use Rattle.cedar_json.specs.DefinitionFormat.{WrittenFragment}
-use Rattle.cedar_json.specs.TextFormat.{Describes, too_long}
+use Rattle.cedar_json_writer.specs.Words.{Describes, Flaw, IsFlawOf, IsFree, IsWritable, SoundFragment, Text, TooDeep, WrittenFragment, fragment_document, fragment_flaws, nesting, nesting_flaws, parts_flaws, too_long}
 use Rattle.cedar_json_writer.proofs.FragmentReadBack.{fragment_back}
 use Rattle.cedar_json_writer.proofs.WritingLemmas.{flaw_right, none_both}
 use Rattle.cedar_json_writer.proofs.WrittenKeys.{fragment_unique}
-use Rattle.cedar_json_writer.specs.Flaws.{Flaw, IsWritable, fragment_flaws, nesting, nesting_flaws, parts_flaws}
-use Rattle.cedar_json_writer.specs.FragmentDocument.{fragment_document}
-use Rattle.cedar_json_writer.specs.Sound.{SoundFragment}
-use Rattle.cedar_json_writer.specs.Writing.{IsFlawOf, IsFree}
-use Rattle.cedar_json_writer.specs.declared.fault.Unwritable.TheVariants.{TooDeep}
 use Rattle.cedar_json_writer.specs.declared.fault.WriteFault.TheVariants as fault
 
 -- a text that has the tokens of a value which nests no deeper than is read is that value

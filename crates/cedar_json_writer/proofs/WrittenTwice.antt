@@ -1,12 +1,6 @@
 -- A text describes one fragment.
 use Rattle.std.proofs.Common.{◌≡◌, ◌≢◌, ◌<◌, Ok, Err, Some, IfErr, IfOk, MatchResult, Result, length, refl, ap, sym, ◌∙◌}
-use Rattle.cedar_below.specs.Text.{Text}
-use Rattle.cedar_names.specs.declared.json_schema.fragment.Fragment.{Fragment}
-use Rattle.cedar_names.specs.declared.json_schema.raw_name.RawName.{RawName}
-use Rattle.cedar_json.specs.DefinitionFormat.{WrittenFragment, fragment_of, written_fragment}
-use Rattle.cedar_json.specs.TextFormat.{Describes, too_long}
-use Rattle.cedar_json.specs.declared.text_reading.JsonSchemaFault.{JsonSchemaFault}
-use Rattle.cedar_json.specs.declared.text_reading.JsonSchemaFault.TheVariants.{TooLong, NotUtf8, NotJson, TwiceInObject, OutOfShape, Memory}
+use Rattle.cedar_json_writer.specs.Words.{Describes, Fragment, JsonSchemaFault, Memory, NotJson, NotUtf8, OutOfShape, RawName, Text, TooLong, TwiceInObject, WrittenFragment, fragment_of, too_long, written_fragment}
 
 -- two fragments that a text describes are the same
 pub described_once : (text : Text) (a b : WrittenFragment) → Describes text a → Describes text b → a ≡ b

@@ -10,30 +10,10 @@ use Rattle.json.specs.Json.{object, string, Members, no_members, member}
 use Rattle.json.specs.Token.{Token, begin_object, end_object, key}
 use Rattle.cedar_below.proofs.NameReading.{ids_are_identifiers}
 use Rattle.cedar_below.proofs.Ordered.{IsStrictlySortedBy-map}
-use Rattle.cedar_below.specs.Identifier.{is_identifier_text, reserved_word}
-use Rattle.cedar_below.specs.NameText.{IsOfIdentifiers}
-use Rattle.cedar_below.specs.PlainName.{PlainName, name_text}
-use Rattle.cedar_below.specs.Text.{Text, text_cmp}
-use Rattle.cedar_below.specs.UnreservedId.{unreserved_id_text}
-use Rattle.cedar_below.specs.declared.unreserved_id.UnreservedId.{UnreservedId}
-use Rattle.cedar_names.specs.Expr.{Expr, text_expr, long_expr, truth_expr, set_expr, record_expr, named, extension_expr, members_from, Members as AttributeList}
-use Rattle.cedar_names.specs.PlainMembers.{plain_members}
-use Rattle.cedar_names.specs.RawExpr.{raw_attribute, raw_reference}
-use Rattle.cedar_names.specs.RawName.{raw_name}
-use Rattle.cedar_names.specs.declared.json_schema.raw_name.RawName.{RawName}
-use Rattle.cedar_names.specs.declared.json_schema.reference_type.ReferenceType.TheVariants.{Common, Entity, CommonOrEntity}
-use Rattle.cedar_names.specs.declared.json_schema.type_of.TypeOfAttribute.{TypeOfAttribute}
+use Rattle.cedar_json_writer.specs.Words.{AddsField, AddsFields, AddsValue, Common, CommonOrEntity, Each, Entity, Expr, IsFlawOf, IsFree, IsOfIdentifiers, PlainName, RawName, SoundAttributes, SoundType, Text, TypeOfAttribute, UnreservedId, WriteFault, attribute_document, attribute_members, attribute_names, attributes_flaws, extension_expr, flag_held, id_key, is_among, is_identifier_text, is_unreserved, long_expr, members_from, name_text, named, optional_member, plain_members, raw_attribute, raw_name, raw_reference, record_expr, reserved_word, set_expr, spelled_name, text_cmp, text_expr, truth_expr, type_document, type_flaws, type_members, type_word, type_words, unreserved_id_text}
+use Rattle.cedar_names.specs.Expr.{Members as AttributeList}
 use Rattle.cedar_json.proofs.NameLemmas.{spelled_name-text}
-use Rattle.cedar_json.specs.DefinitionFormat.{id_key}
-use Rattle.cedar_json.specs.Fields.{is_among}
-use Rattle.cedar_json.specs.WrittenName.{is_unreserved, spelled_name}
 use Rattle.cedar_json_writer.proofs.WritingLemmas.{MembersShape, field_added, fields_after, object_added}
-use Rattle.cedar_json_writer.specs.Flaws.{attributes_flaws, type_flaws, type_word, type_words}
-use Rattle.cedar_json_writer.specs.Sound.{Each, SoundAttributes, SoundType, attribute_names}
-use Rattle.cedar_json_writer.specs.TypeDocument.{attribute_document, attribute_members, type_document, type_members}
-use Rattle.cedar_json_writer.specs.WrittenFields.{flag_held, optional_member}
-use Rattle.cedar_json_writer.specs.Writing.{AddsField, AddsFields, AddsValue, IsFlawOf, IsFree}
-use Rattle.cedar_json_writer.specs.declared.fault.WriteFault.{WriteFault}
 
 -- a written name is of identifiers
 pub raw_ids : (name : RawName) → IsOfIdentifiers (raw_name name)

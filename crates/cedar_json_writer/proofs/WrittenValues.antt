@@ -12,29 +12,10 @@ use Rattle.json.specs.Token.{Token, begin_array, begin_object, end_array, end_ob
 use Rattle.json.specs.Tree.{items_tokens, json_tokens}
 use Rattle.cedar_below.proofs.NameReading.{ids_are_identifiers}
 use Rattle.cedar_below.proofs.Ordered.{IsStrictlySortedBy-map}
-use Rattle.cedar_below.specs.EntityUID.{uid_of}
-use Rattle.cedar_below.specs.Name.{plain_name}
-use Rattle.cedar_below.specs.PlainName.{name_text}
-use Rattle.cedar_below.specs.PlainUid.{PlainUid}
-use Rattle.cedar_below.specs.RestrictedExpr.{entries_of, tree_of, tree_step, trees_of}
-use Rattle.cedar_below.specs.Text.{Text, text_cmp}
-use Rattle.cedar_below.specs.Tree.{Tree, truth_value, number_value, text_value, uid_value, set_value, map_value, call_value, Entries, entry_names, entries_from}
-use Rattle.cedar_below.specs.declared.entity_uid.EntityUID.{EntityUID}
-use Rattle.cedar_below.specs.declared.name.Name.{Name}
-use Rattle.cedar_below.specs.declared.value.RestrictedExpr.{RestrictedExpr, fold-roll-RestrictedExpr, roll-RestrictedExpr}
+use Rattle.cedar_json_writer.specs.Words.{AddsField, AddsValue, Arguments, EntityUID, Entries, Flaw, IsFlawOf, IsFree, IsPlain, Name, PlainUid, RestrictedExpr, SoundEntries, SoundValue, SoundValues, Text, Tree, Unwritable, WriteFault, arguments, arity_flaws, call_value, count, entries_flaws, entries_from, entries_of, entry_names, flaw_of, fold-roll-RestrictedExpr, is_among, is_long, key_flaws, lone_key, map_value, name_text, number_value, optional_member, plain_name, roll-RestrictedExpr, set_value, text_cmp, text_value, tree_of, tree_step, trees_of, truth_value, uid_document, uid_of, uid_value, value_document, value_flaws, value_items, value_keys, value_members, values_flaws}
 use Rattle.cedar_below.specs.declared.value.RestrictedExpr.TheOpen as layer
 use Rattle.cedar_below.specs.declared.value.RestrictedExpr.TheVariants as expr
-use Rattle.cedar_json.specs.Fields.{is_among}
-use Rattle.cedar_json.specs.WholeNumber.{is_long}
 use Rattle.cedar_json_writer.proofs.WritingLemmas.{MembersShape, field_added, fields_after, flaw_left, flaw_right, none_both, object_added}
-use Rattle.cedar_json_writer.specs.Flaws.{Flaw, arguments, arity_flaws, count, entries_flaws, key_flaws, lone_key, value_flaws, value_keys, values_flaws}
-use Rattle.cedar_json_writer.specs.Sound.{IsPlain, SoundEntries, SoundValue, SoundValues}
-use Rattle.cedar_json_writer.specs.ValueDocument.{uid_document, value_document, value_items, value_members}
-use Rattle.cedar_json_writer.specs.WrittenFields.{optional_member}
-use Rattle.cedar_json_writer.specs.Writing.{AddsField, AddsValue, IsFlawOf, IsFree, flaw_of}
-use Rattle.cedar_json_writer.specs.declared.fault.Unwritable.{Unwritable}
-use Rattle.cedar_json_writer.specs.declared.fault.Unwritable.TheVariants.{Arguments}
-use Rattle.cedar_json_writer.specs.declared.fault.WriteFault.{WriteFault}
 use Rattle.cedar_json_writer.specs.declared.fault.WriteFault.TheVariants as fault
 
 -- a name that isn't reserved is plain

@@ -2,8 +2,7 @@
 use Rattle.std.specs.Prelude.{List, [], ◌∷◌, ◌++◌, Option, Some, None, codes, map}
 use Rattle.json.specs.Json.{Json, string, array, object, no_members, member}
 use Rattle.json.specs.Value.{items_of}
-use Rattle.cedar_below.specs.PlainUid.{PlainUid}
-use Rattle.cedar_below.specs.UidText.{uid_text}
+use Rattle.cedar_below.specs.Words.{PlainUid, uid_text}
 use Rattle.cedar_json.specs.ValueFormat.{Pairs}
 use Rattle.cedar_json_writer.specs.Flaws.{Flaw, pairs_flaws}
 use Rattle.cedar_json_writer.specs.FragmentDocument.{pairs_document}

@@ -3,17 +3,12 @@ use Rattle.std.specs.Prelude.{◌≡◌, ℕ, ◌+◌, List, [], ◌∷◌, ◌+
 use Rattle.std.specs.List.{flat_map}
 use Rattle.json.specs.Json.{max_depth}
 use Rattle.json.specs.Tree.{depth}
-use Rattle.cedar_below.specs.Text.{Text}
-use Rattle.cedar_below.specs.Tree.{Tree, truth_value, number_value, text_value, uid_value, set_value, map_value, call_value, Trees, no_tree, tree, Entries, no_entry, entry, entries_from}
-use Rattle.cedar_names.specs.ActionBody.{Requests, requests, elsewhere}
-use Rattle.cedar_names.specs.EntityBody.{EntityBody, standard, enumerated, external}
-use Rattle.cedar_names.specs.Expr.{Expr, text_expr, long_expr, truth_expr, set_expr, record_expr, named, extension_expr, Members as AttributeList, no_member as no_attribute, member as attribute}
+use Rattle.cedar_below.specs.Words.{Entries, Text, Tree, Trees, call_value, entries_from, entry, map_value, no_entry, no_tree, number_value, set_value, text_value, tree, truth_value, uid_value}
+use Rattle.cedar_names.specs.Words.{EntityBody, Expr, Requests, elsewhere, enumerated, extension_expr, external, long_expr, named, record_expr, requests, set_expr, standard, text_expr, truth_expr}
+use Rattle.cedar_names.specs.Expr.{Members as AttributeList, no_member as no_attribute, member as attribute}
 use Rattle.cedar_names.specs.declared.json_schema.reference_type.ReferenceType.{ReferenceType}
 use Rattle.cedar_names.specs.declared.json_schema.reference_type.ReferenceType.TheVariants.{Common, Entity, CommonOrEntity}
-use Rattle.cedar_json.specs.ActionFormat.{WrittenAction}
-use Rattle.cedar_json.specs.DefinitionFormat.{WrittenDefinition, WrittenFragment}
-use Rattle.cedar_json.specs.Fields.{is_among}
-use Rattle.cedar_json.specs.ValueFormat.{Pairs}
+use Rattle.cedar_json.specs.Words.{Pairs, WrittenAction, WrittenDefinition, WrittenFragment, is_among}
 use Rattle.cedar_json_writer.specs.FragmentDocument.{fragment_document}
 use Rattle.cedar_json_writer.specs.TypeDocument.{reference_text}
 

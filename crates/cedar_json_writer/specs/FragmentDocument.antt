@@ -2,17 +2,9 @@
 use Rattle.std.specs.Prelude.{List, [], ◌∷◌, false, Option, Some, None, option_map, codes, map}
 use Rattle.json.specs.Json.{Json, string, array, object, Members, no_members, member}
 use Rattle.json.specs.Value.{items_of}
-use Rattle.cedar_below.specs.PlainName.{PlainName, name_text}
-use Rattle.cedar_below.specs.Text.{Text}
-use Rattle.cedar_below.specs.Tree.{entries_from}
-use Rattle.cedar_names.specs.ActionBody.{Requests, requests, elsewhere}
-use Rattle.cedar_names.specs.EntityBody.{EntityBody, standard, enumerated, external}
-use Rattle.cedar_names.specs.Expr.{Expr}
-use Rattle.cedar_names.specs.Reference.{Reference}
-use Rattle.cedar_json.specs.ActionFormat.{WrittenAction, WrittenParent}
-use Rattle.cedar_json.specs.DefinitionFormat.{WrittenDefinition, WrittenFragment}
-use Rattle.cedar_json.specs.EntityFormat.{WrittenEntity}
-use Rattle.cedar_json.specs.ValueFormat.{Pairs}
+use Rattle.cedar_below.specs.Words.{PlainName, Text, entries_from, name_text}
+use Rattle.cedar_names.specs.Words.{EntityBody, Expr, Reference, Requests, elsewhere, enumerated, external, requests, standard}
+use Rattle.cedar_json.specs.Words.{Pairs, WrittenAction, WrittenDefinition, WrittenEntity, WrittenFragment, WrittenParent}
 use Rattle.cedar_json_writer.specs.TypeDocument.{reference_text, shape_held, type_document}
 use Rattle.cedar_json_writer.specs.ValueDocument.{value_members}
 use Rattle.cedar_json_writer.specs.WrittenFields.{flag_held, keyed_members, optional_member, text_array}

@@ -4,5 +4,6 @@ pub mod FragmentDocument
 pub mod Sound
 pub mod TypeDocument
 pub mod ValueDocument
+pub mod Words
 pub mod Writing
 pub mod WrittenFields

@@ -2,20 +2,11 @@
 use Rattle.std.specs.Prelude.{◌≡◌, ◌≢◌, true, List, [], ◌∷◌, Option, Some, None, ⊤, map}
 use Rattle.std.specs.List.Sorted.{IsStrictlySortedBy}
 use Rattle.std.specs.Option.{option_cmp}
-use Rattle.cedar_below.specs.NameText.{IsOfIdentifiers}
-use Rattle.cedar_below.specs.PlainName.{PlainName, IsReserved, name_cmp}
-use Rattle.cedar_below.specs.Text.{Text, text_cmp}
-use Rattle.cedar_below.specs.Tree.{Tree, truth_value, number_value, text_value, uid_value, set_value, map_value, call_value, Trees, no_tree, tree, Entries, no_entry, entry, entry_names, entries_from}
-use Rattle.cedar_names.specs.ActionBody.{Requests, requests, elsewhere}
-use Rattle.cedar_names.specs.EntityBody.{EntityBody, standard, enumerated, external}
-use Rattle.cedar_names.specs.Expr.{Expr, text_expr, long_expr, truth_expr, set_expr, record_expr, named, extension_expr, Members as AttributeList, no_member as no_attribute, member as attribute}
-use Rattle.cedar_names.specs.Reference.{Reference, reference_to}
+use Rattle.cedar_below.specs.Words.{Entries, IsOfIdentifiers, IsReserved, PlainName, Text, Tree, Trees, call_value, entries_from, entry, entry_names, map_value, name_cmp, no_entry, no_tree, number_value, set_value, text_cmp, text_value, tree, truth_value, uid_value}
+use Rattle.cedar_names.specs.Words.{EntityBody, Expr, Reference, Requests, elsewhere, enumerated, extension_expr, external, long_expr, named, record_expr, reference_to, requests, set_expr, standard, text_expr, truth_expr}
+use Rattle.cedar_names.specs.Expr.{Members as AttributeList, no_member as no_attribute, member as attribute}
 use Rattle.cedar_names.specs.declared.json_schema.reference_type.ReferenceType.TheVariants.{Entity}
-use Rattle.cedar_json.specs.ActionFormat.{WrittenAction, WrittenParent}
-use Rattle.cedar_json.specs.DefinitionFormat.{WrittenDefinition, WrittenFragment, common_key, id_key}
-use Rattle.cedar_json.specs.ValueFormat.{Pairs}
-use Rattle.cedar_json.specs.WholeNumber.{is_long}
-use Rattle.cedar_json.specs.WrittenName.{is_unreserved}
+use Rattle.cedar_json.specs.Words.{Pairs, WrittenAction, WrittenDefinition, WrittenFragment, WrittenParent, common_key, id_key, is_long, is_unreserved}
 
 -- the reference is a name as it was written
 abbrev pub IsWrittenReference : Reference → Type 0

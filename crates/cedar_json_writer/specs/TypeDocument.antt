@@ -1,10 +1,9 @@
 -- The JSON values that types are written as.
 use Rattle.std.specs.Prelude.{List, [], ◌∷◌, Bool, true, false, Option, Some, None, cond, codes}
 use Rattle.json.specs.Json.{Json, string, object, Members, no_members, member}
-use Rattle.cedar_below.specs.PlainName.{PlainName, name_text}
-use Rattle.cedar_below.specs.Text.{Text}
-use Rattle.cedar_names.specs.Expr.{Expr, text_expr, long_expr, truth_expr, set_expr, record_expr, named, extension_expr, Members as AttributeList, no_member as no_attribute, member as attribute}
-use Rattle.cedar_names.specs.Reference.{Reference}
+use Rattle.cedar_below.specs.Words.{PlainName, Text, name_text}
+use Rattle.cedar_names.specs.Words.{Expr, Reference, extension_expr, long_expr, named, record_expr, set_expr, text_expr, truth_expr}
+use Rattle.cedar_names.specs.Expr.{Members as AttributeList, no_member as no_attribute, member as attribute}
 use Rattle.cedar_names.specs.declared.json_schema.reference_type.ReferenceType.{ReferenceType}
 use Rattle.cedar_names.specs.declared.json_schema.reference_type.ReferenceType.TheVariants.{Common, Entity, CommonOrEntity}
 use Rattle.cedar_json_writer.specs.WrittenFields.{flag_held, optional_member}

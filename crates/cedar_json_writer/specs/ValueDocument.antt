@@ -2,9 +2,7 @@
 use Rattle.std.specs.Prelude.{codes}
 use Rattle.std.specs.Fmt.{signed_decimal}
 use Rattle.json.specs.Json.{Json, boolean, number, string, array, object, Items, no_items, item, Members, no_members, member}
-use Rattle.cedar_below.specs.PlainName.{name_text}
-use Rattle.cedar_below.specs.PlainUid.{PlainUid}
-use Rattle.cedar_below.specs.Tree.{Tree, truth_value, number_value, text_value, uid_value, set_value, map_value, call_value, Trees, no_tree, tree, Entries, no_entry, entry}
+use Rattle.cedar_below.specs.Words.{Entries, PlainUid, Tree, Trees, call_value, entry, map_value, name_text, no_entry, no_tree, number_value, set_value, text_value, tree, truth_value, uid_value}
 
 -- the object of a uid
 abbrev pub uid_document : PlainUid → Json

@@ -2,13 +2,7 @@
 
 ghost use Rattle.std.specs.Prelude.{OnOk, codes, map, option_map};
 ghost use Rattle.json.specs.Json.{string};
-ghost use Rattle.cedar_below.specs.PlainName.{name_text};
-ghost use Rattle.cedar_names.specs.RawName.{raw_name};
-ghost use Rattle.cedar_json.specs.ActionFormat.{written_action, written_pairs, written_parent, written_requests};
-ghost use Rattle.cedar_json_writer.specs.Flaws.{action_flaws, flaws_in, pairs_flaws, requests_flaws};
-ghost use Rattle.cedar_json_writer.specs.FragmentDocument.{action_document, pairs_document, parent_array, parent_document, requests_document};
-ghost use Rattle.cedar_json_writer.specs.Sound.{IfThere, SoundAction, SoundPairs, SoundRequests};
-ghost use Rattle.cedar_json_writer.specs.Writing.{AddsField, AddsValue, IsChecked};
+ghost use Rattle.cedar_json_writer.specs.Words.{AddsField, AddsValue, IfThere, IsChecked, SoundAction, SoundPairs, SoundRequests, action_document, action_flaws, flaws_in, name_text, pairs_document, pairs_flaws, parent_array, parent_document, raw_name, requests_document, requests_flaws, written_action, written_pairs, written_parent, written_requests};
 
 use crate::entity_types::write_shape_field;
 use crate::fault::WriteFault;

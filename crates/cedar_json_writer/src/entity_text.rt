@@ -3,11 +3,7 @@
 ghost use Rattle.std.specs.Prelude.{◌≡◌, [], OnOk, IfOk, IfErr, codes, string_bytes};
 ghost use Rattle.json.specs.Layout.{pretty};
 ghost use Rattle.json.specs.Tree.{json_tokens};
-ghost use Rattle.cedar_below.specs.Entity.{entity_ancestors, entity_attrs, entity_tags, entity_uid};
-ghost use Rattle.cedar_json.specs.ActionFormat.{written_pairs};
-ghost use Rattle.cedar_json_writer.specs.EntityDocument.{entity_document, entity_flaws, tags_held, uid_array};
-ghost use Rattle.cedar_json_writer.specs.Flaws.{pairs_flaws};
-ghost use Rattle.cedar_json_writer.specs.Writing.{AddsField, AddsValue, IsFlawOf};
+ghost use Rattle.cedar_json_writer.specs.Words.{AddsField, AddsValue, IsFlawOf, entity_ancestors, entity_attrs, entity_document, entity_flaws, entity_tags, entity_uid, pairs_flaws, tags_held, uid_array, written_pairs};
 
 use crate::fault::WriteFault;
 use crate::values::{write_attribute_values, write_uid};

@@ -1,15 +1,8 @@
 //! Declarations of entity types that are written.
 
 ghost use Rattle.std.specs.Prelude.{◌≡◌, None, OnOk, codes, map, option_map};
-ghost use Rattle.cedar_names.specs.RawExpr.{raw_expr, raw_reference, raw_variant};
+ghost use Rattle.cedar_json_writer.specs.Words.{AddsField, AddsFields, AddsValue, Entity, IfThere, IsChecked, SoundBody, SoundType, body_flaws, body_members, entity_type_document, flaws_in, is_empty_record, parents_held, raw_expr, raw_reference, raw_variant, shape_held, type_document, type_flaws, written_entity, written_kind};
 ghost use Rattle.cedar_names.specs.declared.json_schema.entity_type.EntityTypeKind.TheVariants as kind;
-ghost use Rattle.cedar_names.specs.declared.json_schema.reference_type.ReferenceType.TheVariants.{Entity};
-ghost use Rattle.cedar_json.specs.EntityFormat.{written_entity, written_kind};
-ghost use Rattle.cedar_json_writer.specs.Flaws.{body_flaws, flaws_in, type_flaws};
-ghost use Rattle.cedar_json_writer.specs.FragmentDocument.{body_members, entity_type_document, parents_held};
-ghost use Rattle.cedar_json_writer.specs.Sound.{IfThere, SoundBody, SoundType};
-ghost use Rattle.cedar_json_writer.specs.TypeDocument.{is_empty_record, shape_held, type_document};
-ghost use Rattle.cedar_json_writer.specs.Writing.{AddsField, AddsFields, AddsValue, IsChecked};
 
 use crate::fault::WriteFault;
 use crate::fields::{write_flag, write_ids, write_names};

@@ -4,15 +4,7 @@ ghost use Rattle.std.specs.Prelude.{◌≡◌, ◌++◌, ◌∷◌, [], Some, No
 ghost use Rattle.json.specs.Json.{string};
 ghost use Rattle.json.specs.Tree.{items_tokens};
 ghost use Rattle.json.specs.Value.{items_of as spec_items};
-ghost use Rattle.cedar_below.specs.Eid.{eid_text};
-ghost use Rattle.cedar_below.specs.InternalName.{name_of};
-ghost use Rattle.cedar_below.specs.NonEmpty.{items_of};
-ghost use Rattle.cedar_below.specs.PlainName.{name_text};
-ghost use Rattle.cedar_names.specs.RawExpr.{raw_reference};
-ghost use Rattle.cedar_names.specs.declared.json_schema.reference_type.ReferenceType.TheVariants.{Entity};
-ghost use Rattle.cedar_json_writer.specs.FragmentDocument.{reference_array};
-ghost use Rattle.cedar_json_writer.specs.Writing.{AddsField, AddsValue};
-ghost use Rattle.cedar_json_writer.specs.WrittenFields.{flag_held, text_array};
+ghost use Rattle.cedar_json_writer.specs.Words.{AddsField, AddsValue, Entity, eid_text, flag_held, items_of, name_of, name_text, raw_reference, reference_array, text_array};
 
 use cedar_below::{Eid, InternalName, M, NonEmpty};
 use cedar_names::json_schema::RawName;

@@ -4,12 +4,7 @@ ghost use Rattle.std.specs.Prelude.{◌≡◌, [], Some, OnOk, IfOk, IfErr, stri
 ghost use Rattle.json.specs.Json.{string};
 ghost use Rattle.json.specs.Layout.{pretty};
 ghost use Rattle.json.specs.Tree.{json_tokens};
-ghost use Rattle.cedar_below.specs.EntityUID.{uid_of};
-ghost use Rattle.cedar_below.specs.UidText.{uid_text};
-ghost use Rattle.cedar_json.specs.ActionFormat.{written_pairs};
-ghost use Rattle.cedar_json_writer.specs.EntityDocument.{request_document};
-ghost use Rattle.cedar_json_writer.specs.Flaws.{pairs_flaws};
-ghost use Rattle.cedar_json_writer.specs.Writing.{AddsField, AddsValue, IsFlawOf};
+ghost use Rattle.cedar_json_writer.specs.Words.{AddsField, AddsValue, IsFlawOf, pairs_flaws, request_document, uid_of, uid_text, written_pairs};
 
 use crate::fault::WriteFault;
 use crate::values::write_attribute_values;

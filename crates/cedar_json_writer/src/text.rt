@@ -3,11 +3,7 @@
 ghost use Rattle.std.specs.Prelude.{◌≡◌, ◌<◌, [], IfOk, IfErr, length, string_bytes};
 ghost use Rattle.json.specs.Layout.{pretty};
 ghost use Rattle.json.specs.Tree.{json_tokens};
-ghost use Rattle.cedar_json.specs.DefinitionFormat.{written_fragment};
-ghost use Rattle.cedar_json.specs.TextFormat.{Describes, too_long};
-ghost use Rattle.cedar_json_writer.specs.Flaws.{IsWritable, fragment_flaws};
-ghost use Rattle.cedar_json_writer.specs.FragmentDocument.{fragment_document};
-ghost use Rattle.cedar_json_writer.specs.Writing.{IsFlawOf};
+ghost use Rattle.cedar_json_writer.specs.Words.{Describes, IsFlawOf, IsWritable, fragment_document, fragment_flaws, too_long, written_fragment};
 
 use crate::definitions::write_fragment;
 use crate::fault::{Unwritable, WriteFault};

@@ -2,13 +2,8 @@
 
 ghost use Rattle.std.specs.Prelude.{◌≡◌, ◌≢◌, ◌<◌, ℕ, List, Some, length, IfErr, IfOk, MatchResult, Result};
 ghost use Rattle.cedar_names.specs.declared.json_schema.fragment.Fragment.{Fragment as Written};
-ghost use Rattle.cedar_names.specs.declared.json_schema.raw_name.RawName.{RawName};
-ghost use Rattle.cedar_json.specs.DefinitionFormat.{WrittenFragment, fragment_of, written_fragment};
-ghost use Rattle.cedar_json.specs.TextFormat.{Describes, too_long};
+ghost use Rattle.cedar_json_writer.specs.Words.{Describes, IsWritable, RawName, SoundFragment, WrittenFragment, fragment_document, fragment_of, too_long, written_fragment};
 ghost use Rattle.cedar_json.specs.declared.text_reading.JsonSchemaFault.{JsonSchemaFault as ReadFault};
-ghost use Rattle.cedar_json_writer.specs.Flaws.{IsWritable};
-ghost use Rattle.cedar_json_writer.specs.FragmentDocument.{fragment_document};
-ghost use Rattle.cedar_json_writer.specs.Sound.{SoundFragment};
 
 use cedar_json::JsonSchemaFault;
 

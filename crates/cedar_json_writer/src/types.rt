@@ -2,17 +2,7 @@
 
 ghost use Rattle.std.specs.Prelude.{◌≡◌, Some, None, true, false, MatchOption, OnOk, codes};
 ghost use Rattle.json.specs.Json.{member, object, string};
-ghost use Rattle.cedar_below.specs.PlainName.{name_text};
-ghost use Rattle.cedar_below.specs.UnreservedId.{unreserved_id_text};
-ghost use Rattle.cedar_names.specs.Expr.{extension_expr, named, set_expr};
-ghost use Rattle.cedar_names.specs.RawExpr.{raw_attribute, raw_expr, raw_record, raw_reference, raw_variant};
-ghost use Rattle.cedar_names.specs.RawName.{raw_name};
-ghost use Rattle.cedar_names.specs.declared.json_schema.reference_type.ReferenceType.TheVariants.{Common};
-ghost use Rattle.cedar_json.specs.Fields.{is_among};
-ghost use Rattle.cedar_json_writer.specs.Flaws.{type_flaws, type_words};
-ghost use Rattle.cedar_json_writer.specs.Sound.{SoundType};
-ghost use Rattle.cedar_json_writer.specs.TypeDocument.{attribute_document, attribute_members, attributes_of, type_document, type_members};
-ghost use Rattle.cedar_json_writer.specs.Writing.{AddsFields, AddsValue, IsChecked};
+ghost use Rattle.cedar_json_writer.specs.Words.{AddsFields, AddsValue, Common, IsChecked, SoundType, attribute_document, attribute_members, attributes_of, extension_expr, is_among, name_text, named, raw_attribute, raw_expr, raw_name, raw_record, raw_reference, raw_variant, set_expr, type_document, type_flaws, type_members, type_words, unreserved_id_text};
 
 use crate::fault::{Unwritable, WriteFault};
 use crate::fields::{write_flag, write_name_field, write_text_field};

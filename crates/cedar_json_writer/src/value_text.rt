@@ -3,11 +3,7 @@
 ghost use Rattle.std.specs.Prelude.{◌≡◌, [], IfOk, IfErr, string_bytes};
 ghost use Rattle.json.specs.Layout.{pretty};
 ghost use Rattle.json.specs.Tree.{json_tokens};
-ghost use Rattle.cedar_below.specs.RestrictedExpr.{tree_of};
-ghost use Rattle.cedar_below.specs.Value.{value_expr};
-ghost use Rattle.cedar_json_writer.specs.Flaws.{value_flaws};
-ghost use Rattle.cedar_json_writer.specs.ValueDocument.{value_document};
-ghost use Rattle.cedar_json_writer.specs.Writing.{IsFlawOf};
+ghost use Rattle.cedar_json_writer.specs.Words.{IsFlawOf, tree_of, value_document, value_expr, value_flaws};
 
 use crate::fault::WriteFault;
 use crate::values::write_value;

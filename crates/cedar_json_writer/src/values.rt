@@ -3,19 +3,7 @@
 ghost use Rattle.std.specs.Prelude.{◌≡◌, [], true, false, MatchOption, MatchResult, OnOk, Contains, map, string_bytes};
 ghost use Rattle.std.specs.Fmt.{signed_decimal};
 ghost use Rattle.json.specs.Json.{array, number, object};
-ghost use Rattle.cedar_below.specs.EntityUID.{uid_of};
-ghost use Rattle.cedar_below.specs.Name.{plain_name};
-ghost use Rattle.cedar_below.specs.RestrictedExpr.{entries_of, tree_of, trees_of};
-ghost use Rattle.cedar_below.specs.Tree.{call_value, entries_from, map_value, set_value, uid_value};
-ghost use Rattle.cedar_below.specs.Value.{value_expr};
-ghost use Rattle.cedar_json.specs.ActionFormat.{written_pairs};
-ghost use Rattle.cedar_json.specs.Fields.{is_among};
-ghost use Rattle.cedar_json.specs.WholeNumber.{is_long};
-ghost use Rattle.cedar_json_writer.specs.Flaws.{entries_flaws, key_flaws, pairs_flaws, value_flaws, value_keys};
-ghost use Rattle.cedar_json_writer.specs.FragmentDocument.{pairs_document};
-ghost use Rattle.cedar_json_writer.specs.Sound.{SoundPairs, SoundValue};
-ghost use Rattle.cedar_json_writer.specs.ValueDocument.{uid_document, value_document, value_members};
-ghost use Rattle.cedar_json_writer.specs.Writing.{AddsValue, IsChecked, flaw_of};
+ghost use Rattle.cedar_json_writer.specs.Words.{AddsValue, IsChecked, SoundPairs, SoundValue, call_value, entries_flaws, entries_from, entries_of, flaw_of, is_among, is_long, key_flaws, map_value, pairs_document, pairs_flaws, plain_name, set_value, tree_of, trees_of, uid_document, uid_of, uid_value, value_document, value_expr, value_flaws, value_keys, value_members, written_pairs};
 
 use crate::fault::{Unwritable, WriteFault};
 use crate::fields::{write_name_field, write_text_field};

@@ -1,18 +1,8 @@
 -- Open records that are folded by joins, in permissive mode: there always is a join, an open record.
 use Rattle.std.proofs.Common.{◌≡◌, ◌≢◌, List, [], ◌∷◌, Some, Ok, Err, map, ap, inl, inr, refl}
-use Rattle.cedar_below.specs.PlainName.{PlainName}
-use Rattle.cedar_below.specs.declared.validation_mode.ValidationMode.TheVariants.{Permissive}
-use Rattle.cedar_declarations.specs.PlainSchema.{SchemaEntityType}
-use Rattle.cedar_queries.specs.KnownAttributes.{AreKnownOfAll, declared_fields, open_record}
+use Rattle.cedar_queries.specs.Words.{AreKnownOfAll, Below, ClosedAttributes, Fields, HaveOwnBound, IsReduceAnswer, IsWellFormed, JoinAnswer, OpenAttributes, Permissive, PlainName, SchemaEntityType, Ty, declared_fields, end, never, only_name, open_record, record_of}
 use Rattle.cedar_type_rules.proofs.JoinLemmas.{upper_is_join}
 use Rattle.cedar_type_rules.proofs.ReduceLemmas.{reduced_formed, reduced_once}
-use Rattle.cedar_type_rules.specs.Below.{Below}
-use Rattle.cedar_type_rules.specs.EntityUnion.{only_name}
-use Rattle.cedar_type_rules.specs.JoinAnswer.{IsReduceAnswer, JoinAnswer}
-use Rattle.cedar_type_rules.specs.OwnBound.{HaveOwnBound}
-use Rattle.cedar_type_rules.specs.Ty.{Ty, never, record_of, Fields, end}
-use Rattle.cedar_type_rules.specs.declared.open_tag.OpenTag.TheVariants.{OpenAttributes, ClosedAttributes}
-use Rattle.cedar_type_rules.specs.WellFormed.{IsWellFormed}
 
 -- a type above an open record is an open record
 above_open : (fields : Fields) (bound : Ty) → Below Permissive (record_of fields OpenAttributes) bound

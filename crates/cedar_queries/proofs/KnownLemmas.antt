@@ -3,24 +3,12 @@ use Rattle.std.proofs.Common.{◌≡◌, Bool, true, false, IsTrue, List, [], �
 use Rattle.std.proofs.lemmas.Bool.{false≢true}
 use Rattle.std.specs.List.{AllByRecursion}
 use Rattle.cedar_below.proofs.Lists.{Contains-cons, Contains-cons_cases}
-use Rattle.cedar_below.specs.PlainName.{PlainName}
-use Rattle.cedar_below.specs.Text.{Text}
-use Rattle.cedar_below.specs.declared.validation_mode.ValidationMode.TheVariants.{Permissive}
-use Rattle.cedar_declarations.specs.PlainSchema.{SchemaEntityType}
+use Rattle.cedar_queries.specs.Words.{AreCleanTypes, AreExactlyKnown, AreKnownOfAll, AttributesAreUnique, Below, Fields, FieldsBelow, HasField, IsBound, IsClean, IsCleanBound, IsCommonBound, IsLeast, IsSortedByName, KnownAttributesAreCommon, LargerUnionsKnowLess, OpenAttributes, Permissive, PlainName, SchemaEntityType, Text, Ty, declared_fields, end, field, open_record, record_of, union_of}
 use Rattle.cedar_queries.proofs.JoinedLemmas.{known_formed, known_once}
-use Rattle.cedar_queries.specs.KnownAttributes.{AreKnownOfAll, declared_fields, open_record}
-use Rattle.cedar_queries.specs.KnownLaws.{AreCleanTypes, AreExactlyKnown, IsCommonBound}
-use Rattle.cedar_queries.specs.KnownLaws.{AttributesAreUnique, KnownAttributesAreCommon, LargerUnionsKnowLess}
 use Rattle.cedar_type_rules.proofs.OwnBoundLemmas.{AreClean-of}
 use Rattle.cedar_type_rules.proofs.ReduceLemmas.{reduce_least_clean}
 use Rattle.cedar_type_rules.proofs.SubtypeLaws.{HasBelow-of, HasField-name, HasField-named}
 use Rattle.cedar_type_rules.proofs.SubtypeLemmas.{found-HasField}
-use Rattle.cedar_type_rules.specs.Below.{Below, FieldsBelow, HasField}
-use Rattle.cedar_type_rules.specs.Bound.{IsBound, IsCleanBound, IsLeast}
-use Rattle.cedar_type_rules.specs.Clean.{IsClean}
-use Rattle.cedar_type_rules.specs.Fields.{IsSortedByName}
-use Rattle.cedar_type_rules.specs.Ty.{Ty, union_of, record_of, Fields, end, field}
-use Rattle.cedar_type_rules.specs.declared.open_tag.OpenTag.TheVariants.{OpenAttributes}
 
 -- what holds of all images of some items holds of each
 each_of : {A B : Type 0} (f : A → B) (P : B → Type 0) (xs : List A) → AllByRecursion P (map f xs) → (x : A) → Contains xs x → P (f x)

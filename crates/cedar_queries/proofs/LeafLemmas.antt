@@ -4,15 +4,7 @@ use Rattle.std.proofs.lemmas.List.{append-nil, append_assoc, map-append}
 use Rattle.std.specs.Borrow.{Bor}
 use Rattle.std.specs.List.{flat_map}
 use Rattle.std.specs.Option.{option_to_list}
-use Rattle.cedar_schema_elements.specs.ActionKind.{kind_context}
-use Rattle.cedar_schema_elements.specs.ValidatorActionId.{action_of}
-use Rattle.cedar_schema_elements.specs.declared.action_id.ValidatorActionId.{ValidatorActionId}
-use Rattle.cedar_declarations.specs.EntityTypeKind.{kind_fields, kind_tags}
-use Rattle.cedar_schema_elements.specs.ValidatorEntityType.{entity_type_of}
-use Rattle.cedar_schema_elements.specs.declared.entity_type.ValidatorEntityType.{ValidatorEntityType}
-use Rattle.cedar_queries.specs.Leaves.{IsLeaf, field_types, inner_types, leaves, leaves_of, leaves_of_fields, part_count, parts, parts_of_fields, shown_types}
-use Rattle.cedar_type_rules.specs.Ty.{Ty, set_of, record_of, Fields, end, field}
-use Rattle.cedar_types.specs.Meaning.{ty_of}
+use Rattle.cedar_queries.specs.Words.{Fields, IsLeaf, Ty, ValidatorActionId, ValidatorEntityType, action_of, end, entity_type_of, field, field_types, inner_types, kind_context, kind_fields, kind_tags, leaves, leaves_of, leaves_of_fields, part_count, parts, parts_of_fields, record_of, set_of, shown_types, ty_of}
 use Rattle.cedar_types.specs.declared.types.Type.{«Type»}
 
 -- the types of the attributes and tags of an entity type

@@ -2,9 +2,8 @@
 use Rattle.std.proofs.Common.{◌≡◌, ◌↔◌, Bool, IsTrue, List, refl, Contains}
 use Rattle.std.specs.Bool.{Decides, one_answer}
 use Rattle.std.specs.Ordering.{is_eq}
-use Rattle.cedar_below.specs.PlainName.{PlainName, name_cmp}
+use Rattle.cedar_queries.specs.Words.{PlainName, has_name, name_cmp}
 use Rattle.cedar_declarations.proofs.OccurrenceLemmas.{any_of, name_test, some_of}
-use Rattle.cedar_queries.specs.Hierarchy.{has_name}
 
 -- a name is one of some exactly where they contain it
 pub has_name-Decides : (names : List PlainName) (name : PlainName) → Decides (has_name names name) (Contains names name)

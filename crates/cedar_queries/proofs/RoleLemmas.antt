@@ -2,11 +2,7 @@
 use Rattle.std.proofs.Common.{◌≡◌, List, map, ap, sym, ◌∙◌}
 use Rattle.std.proofs.lemmas.List.Folds.{flat_map-map}
 use Rattle.std.specs.List.{flat_map}
-use Rattle.cedar_schema_elements.specs.ValidatorActionId.{action_of, plain_action_entry}
-use Rattle.cedar_schema_elements.specs.declared.action_id.ValidatorActionId.{ValidatorActionId}
-use Rattle.cedar_below.specs.declared.entity_uid.EntityUID.{EntityUID}
-use Rattle.cedar_queries.specs.Role.{types_in_role}
-use Rattle.cedar_queries.specs.declared.requests.Role.{Role}
+use Rattle.cedar_queries.specs.Words.{EntityUID, Role, ValidatorActionId, action_of, plain_action_entry, types_in_role}
 
 -- those of the actions alone are those of the actions under their uids
 pub types_pairwise : (role : Role) (entries : List (EntityUID × ValidatorActionId)) (actions : List ValidatorActionId)

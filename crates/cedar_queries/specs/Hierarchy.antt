@@ -4,8 +4,7 @@ use Rattle.std.specs.List.{list_any}
 use Rattle.std.specs.Map.{lookup}
 use Rattle.std.specs.Option.{option_map, unwrap_or}
 use Rattle.std.specs.Ordering.{is_eq}
-use Rattle.cedar_below.specs.PlainName.{IsActionType, PlainName, name_cmp}
-use Rattle.cedar_below.specs.PlainUid.{PlainUid, uid_cmp}
+use Rattle.cedar_below.specs.Words.{IsActionType, PlainName, PlainUid, name_cmp, uid_cmp}
 use Rattle.cedar_declarations.specs.PlainSchema.{SchemaAction, SchemaEntityType}
 use Rattle.cedar_queries.specs.Selected.{keys_where}
 

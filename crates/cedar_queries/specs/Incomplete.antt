@@ -1,14 +1,10 @@
 -- Why a schema isn't found complete.
 use Rattle.std.specs.Prelude.{◌≡◌, ◌≢◌, List, [], map}
 use Rattle.std.specs.List.Sorted.{IsPermutation, IsSorted}
-use Rattle.cedar_below.specs.EntityType.{type_name}
-use Rattle.cedar_below.specs.EntityUID.{uid_of}
-use Rattle.cedar_below.specs.PlainName.{name_cmp}
-use Rattle.cedar_below.specs.PlainUid.{uid_cmp}
+use Rattle.cedar_below.specs.Words.{name_cmp, type_name, uid_cmp, uid_of}
 use Rattle.cedar_below.specs.declared.entity_type.EntityType.{EntityType}
 use Rattle.cedar_below.specs.declared.entity_uid.EntityUID.{EntityUID}
-use Rattle.cedar_schema_elements.specs.ValidatorActionId.{action_of}
-use Rattle.cedar_schema_elements.specs.ValidatorEntityType.{entity_type_of}
+use Rattle.cedar_schema_elements.specs.Words.{action_of, entity_type_of}
 use Rattle.cedar_schema_elements.specs.declared.action_id.ValidatorActionId.{ValidatorActionId}
 use Rattle.cedar_schema_elements.specs.declared.entity_type.ValidatorEntityType.{ValidatorEntityType}
 use Rattle.cedar_queries.specs.Unresolved.{external_actions, external_types, loc_of_first, unresolved}

@@ -1,11 +1,6 @@
 use Rattle.std.specs.List.{flat_map}
 use Rattle.std.specs.Prelude.{List, ◌++◌, codes, map}
-use Rattle.cedar_below.specs.EntityType.{type_name}
-use Rattle.cedar_below.specs.EntityUID.{uid_of}
-use Rattle.cedar_below.specs.PlainName.{PlainName, name_text}
-use Rattle.cedar_below.specs.PlainUid.{PlainUid}
-use Rattle.cedar_below.specs.Text.{Text}
-use Rattle.cedar_below.specs.UidText.{uid_text}
+use Rattle.cedar_below.specs.Words.{PlainName, PlainUid, Text, name_text, type_name, uid_of, uid_text}
 use Rattle.cedar_queries.specs.declared.completeness.CompleteError.{CompleteError}
 use Rattle.cedar_queries.specs.declared.completeness.CompleteError.TheVariants as error
 

@@ -5,10 +5,8 @@ use Rattle.std.specs.Option.{option_map_or}
 use Rattle.std.specs.Ordering.{is_eq}
 use Rattle.cedar_below.specs.PlainName.{PlainName, name_cmp}
 use Rattle.cedar_below.specs.declared.validation_mode.ValidationMode.TheVariants.{Permissive}
-use Rattle.cedar_declarations.specs.EntityTypeKind.{kind_fields}
-use Rattle.cedar_declarations.specs.PlainSchema.{SchemaEntityType}
-use Rattle.cedar_type_rules.specs.JoinAnswer.{IsReduceAnswer}
-use Rattle.cedar_type_rules.specs.Ty.{Ty, never, union_of, record_of, Fields, end}
+use Rattle.cedar_declarations.specs.Words.{SchemaEntityType, kind_fields}
+use Rattle.cedar_type_rules.specs.Words.{Fields, IsReduceAnswer, Ty, end, never, record_of, union_of}
 use Rattle.cedar_type_rules.specs.declared.open_tag.OpenTag.TheVariants.{OpenAttributes}
 
 -- the entity type of a name

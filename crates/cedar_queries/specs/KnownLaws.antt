@@ -1,17 +1,11 @@
 -- What is known of the attributes of a union, where the types of what its members declare are
 -- clean.
 use Rattle.std.specs.Prelude.{◌≡◌, ◌↔◌, Bool, Contains, IsTrue, List}
-use Rattle.cedar_below.specs.Lists.{Included}
-use Rattle.cedar_below.specs.PlainName.{PlainName}
-use Rattle.cedar_below.specs.Text.{Text}
+use Rattle.cedar_below.specs.Words.{Included, PlainName, Text}
 use Rattle.cedar_below.specs.declared.validation_mode.ValidationMode.TheVariants.{Permissive}
 use Rattle.cedar_declarations.specs.PlainSchema.{SchemaEntityType}
 use Rattle.cedar_queries.specs.KnownAttributes.{AreAttributesOf, AreKnownOfAll, declared_fields}
-use Rattle.cedar_type_rules.specs.Below.{Below, FieldsBelow, HasField}
-use Rattle.cedar_type_rules.specs.Bound.{IsLeast}
-use Rattle.cedar_type_rules.specs.Clean.{AreClean, IsClean}
-use Rattle.cedar_type_rules.specs.Fields.{IsSortedByName, field_names}
-use Rattle.cedar_type_rules.specs.Ty.{Ty, Fields}
+use Rattle.cedar_type_rules.specs.Words.{AreClean, Below, Fields, FieldsBelow, HasField, IsClean, IsLeast, IsSortedByName, Ty, field_names}
 
 -- each of the entity types declares the attribute, with a type that is below the bound in
 -- permissive mode

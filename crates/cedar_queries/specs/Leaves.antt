@@ -3,10 +3,8 @@ use Rattle.std.specs.Borrow.{Bor}
 use Rattle.std.specs.List.{flat_map}
 use Rattle.std.specs.Option.{option_to_list}
 use Rattle.cedar_schema_elements.specs.ActionKind.{kind_context}
-use Rattle.cedar_below.specs.PlainName.{PlainName}
-use Rattle.cedar_below.specs.PlainUid.{PlainUid}
-use Rattle.cedar_declarations.specs.EntityTypeKind.{kind_fields, kind_tags}
-use Rattle.cedar_declarations.specs.PlainSchema.{SchemaAction, SchemaEntityType}
+use Rattle.cedar_below.specs.Words.{PlainName, PlainUid}
+use Rattle.cedar_declarations.specs.Words.{SchemaAction, SchemaEntityType, kind_fields, kind_tags}
 use Rattle.cedar_type_rules.specs.Ty.{Ty, set_of, record_of, Fields, end, field}
 use Rattle.cedar_types.specs.Meaning.{ty_of}
 use Rattle.cedar_types.specs.declared.types.Type.{«Type»}

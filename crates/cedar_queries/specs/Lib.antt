@@ -11,3 +11,4 @@ pub mod RequestTypes
 pub mod Role
 pub mod Selected
 pub mod Unresolved
+pub mod Words

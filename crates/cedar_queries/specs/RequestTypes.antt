@@ -5,8 +5,7 @@ use Rattle.std.specs.Map.{lookup}
 use Rattle.std.specs.Option.{option_and_then}
 use Rattle.std.specs.Ordering.{is_eq}
 use Rattle.cedar_schema_elements.specs.ActionKind.{kind_context, kind_principals, kind_resources}
-use Rattle.cedar_below.specs.PlainName.{PlainName}
-use Rattle.cedar_below.specs.PlainUid.{PlainUid, uid_cmp}
+use Rattle.cedar_below.specs.Words.{PlainName, PlainUid, uid_cmp}
 use Rattle.cedar_declarations.specs.PlainSchema.{SchemaAction}
 use Rattle.cedar_type_rules.specs.Ty.{Ty}
 use Rattle.cedar_queries.specs.Hierarchy.{has_name}

@@ -3,10 +3,8 @@ use Rattle.std.specs.Prelude.{Bool, true, false, List, [], ◌++◌, ◌∷◌, 
 use Rattle.cedar_below.specs.declared.entity_type.EntityType.{EntityType}
 use Rattle.cedar_below.specs.declared.entity_uid.EntityUID.{EntityUID}
 use Rattle.cedar_below.specs.declared.loc.Loc.{Loc}
-use Rattle.cedar_declarations.specs.EntityTypeKind.{EntityTypeKind, standard_kind, enumerated_kind, external_kind}
-use Rattle.cedar_declarations.specs.PlainSchema.{ActionKind, defined_action, external_action}
-use Rattle.cedar_schema_elements.specs.ValidatorActionId.{action_loc, action_of}
-use Rattle.cedar_schema_elements.specs.ValidatorEntityType.{entity_type_of}
+use Rattle.cedar_declarations.specs.Words.{ActionKind, EntityTypeKind, defined_action, enumerated_kind, external_action, external_kind, standard_kind}
+use Rattle.cedar_schema_elements.specs.Words.{action_loc, action_of, entity_type_of}
 use Rattle.cedar_schema_elements.specs.declared.action_id.ValidatorActionId.{ValidatorActionId}
 use Rattle.cedar_schema_elements.specs.declared.entity_type.ValidatorEntityType.{ValidatorEntityType}
 use Rattle.cedar_queries.specs.Selected.{values_where}

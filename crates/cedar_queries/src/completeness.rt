@@ -4,12 +4,7 @@ ghost use Rattle.std.specs.Fmt.{WritesOnOk};
 ghost use Rattle.std.specs.Prelude.{◌≡◌, ◌≢◌, [], IfErr, IfOk, OnOk, Some, map};
 ghost use Rattle.std.specs.List.{flat_map};
 ghost use Rattle.std.specs.List.Sorted.{IsPermutation, IsSorted};
-ghost use Rattle.cedar_below.specs.EntityType.{type_name};
-ghost use Rattle.cedar_below.specs.EntityUID.{uid_of};
-ghost use Rattle.cedar_queries.specs.Incomplete.{IsIncomplete};
-ghost use Rattle.cedar_queries.specs.IncompleteText.{complete_error_text, external_action_text, external_type_text, incomplete_text};
-ghost use Rattle.cedar_queries.specs.Selected.{values_where};
-ghost use Rattle.cedar_queries.specs.Unresolved.{loc_of_first, unresolved};
+ghost use Rattle.cedar_queries.specs.Words.{IsIncomplete, complete_error_text, external_action_text, external_type_text, incomplete_text, loc_of_first, type_name, uid_of, unresolved, values_where};
 
 use crate::descent::{Actions, EntityTypes};
 use crate::selected::Test;

@@ -2,11 +2,7 @@
 
 ghost use Rattle.std.specs.Prelude.{◌≡◌, ◌≢◌, ◌↔◌, ◌++◌, ◌∷◌, [], Contains, IfOk, IfSome, IsSome, IsTrue, All, AllPairs, Any, OnOk, map};
 ghost use Rattle.std.specs.List.{flat_map};
-ghost use Rattle.cedar_schema_elements.specs.ValidatorActionId.{action_of, plain_action_entry};
-ghost use Rattle.cedar_below.specs.EntityType.{type_name};
-ghost use Rattle.cedar_below.specs.EntityUID.{uid_of};
-ghost use Rattle.cedar_schema_elements.specs.ValidatorEntityType.{descendant_names, plain_entry};
-ghost use Rattle.cedar_queries.specs.Hierarchy.{action_descendants, descendants_of, groups, HasActionBelow, IsKnownType, MayBeIn, types_above};
+ghost use Rattle.cedar_queries.specs.Words.{HasActionBelow, IsKnownType, MayBeIn, action_descendants, action_of, descendant_names, descendants_of, groups, plain_action_entry, plain_entry, type_name, types_above, uid_of};
 
 use crate::selected::Selected;
 use crate::tests_of_values::{HasDescendant, IsGroup};

@@ -2,8 +2,7 @@
 
 ghost use Rattle.std.specs.Prelude.{◌≡◌, map};
 ghost use Rattle.std.specs.Iterator.{YieldsFirstBy, item_count};
-ghost use Rattle.cedar_schema_elements.specs.RequestEnv.{environment_of, owned_environment};
-ghost use Rattle.cedar_queries.specs.RequestEnvs.{environments_left};
+ghost use Rattle.cedar_queries.specs.Words.{environment_of, environments_left, owned_environment};
 
 use cedar_schema_elements::{RequestEnv, UnlinkedRequestEnv};
 use std::iter::FusedIterator;

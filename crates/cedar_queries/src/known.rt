@@ -1,15 +1,8 @@
 //! The attributes that are known of entities.
 
 ghost use Rattle.std.specs.Prelude.{◌≡◌, IfOk, map};
-ghost use Rattle.cedar_below.specs.EntityType.{type_name};
-ghost use Rattle.cedar_declarations.specs.ElaboratesTo.{IsRecordType};
-ghost use Rattle.cedar_schema_elements.specs.ValidatorEntityType.{plain_entry};
-ghost use Rattle.cedar_queries.specs.KnownAttributes.{AreAttributesOf, AreKnownOfAll, declared_fields, open_record};
-ghost use Rattle.cedar_type_rules.specs.Ty.{record_of};
+ghost use Rattle.cedar_queries.specs.Words.{AreAttributesOf, AreKnownOfAll, IsRecordType, declared_fields, fields_of, kind_ty, lub_names, open_record, plain_entry, record_of, ty_of, type_name};
 ghost use Rattle.cedar_type_rules.specs.declared.open_tag.OpenTag.{OpenTag as Openness};
-ghost use Rattle.cedar_types.specs.EntityKind.{kind_ty};
-ghost use Rattle.cedar_types.specs.EntityLUB.{lub_names};
-ghost use Rattle.cedar_types.specs.Meaning.{fields_of, ty_of};
 
 use cedar_below::{EntityType, M, Memory, ValidationMode};
 use cedar_schema_elements::ValidatorEntityType;

@@ -5,11 +5,7 @@ ghost use Rattle.std.specs.Prelude.{◌≡◌, ◌++◌, IfOk, map};
 ghost use Rattle.std.specs.Bool.{MatchBool};
 ghost use Rattle.std.specs.Iterator.{at_most};
 ghost use Rattle.std.specs.List.Sorted.{IsPermutation};
-ghost use Rattle.cedar_schema_elements.specs.ValidatorActionId.{plain_action_entry};
-ghost use Rattle.cedar_schema_elements.specs.ValidatorEntityType.{plain_entry};
-ghost use Rattle.cedar_queries.specs.GivesLeaf.{GivesLeaf, pending_types};
-ghost use Rattle.cedar_queries.specs.Leaves.{IsLeaf, context_types, entity_type_types, field_types, inner_types, leaves_of, part_count, schema_leaves, shown_types};
-ghost use Rattle.cedar_types.specs.Meaning.{fields_of, ty_of};
+ghost use Rattle.cedar_queries.specs.Words.{GivesLeaf, IsLeaf, context_types, entity_type_types, field_types, fields_of, inner_types, leaves_of, part_count, pending_types, plain_action_entry, plain_entry, schema_leaves, shown_types, ty_of};
 
 use cedar_below::{EntityType, EntityUID, M};
 use cedar_schema_elements::{ValidatorActionId, ValidatorEntityType};

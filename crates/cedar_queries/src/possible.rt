@@ -2,18 +2,7 @@
 
 ghost use Rattle.std.specs.Prelude.{◌≡◌, ◌↔◌, Any, All, IfOk, IsTrue, map};
 ghost use Rattle.std.specs.Option.{option_map};
-ghost use Rattle.cedar_schema_elements.specs.ValidatorActionId.{plain_action_entry};
-ghost use Rattle.cedar_below.specs.EntityType.{type_name};
-ghost use Rattle.cedar_below.specs.EntityUID.{uid_of};
-ghost use Rattle.cedar_below.specs.PlainName.{IsActionType};
-ghost use Rattle.cedar_schema_elements.specs.ValidatorEntityType.{plain_entry};
-ghost use Rattle.cedar_queries.specs.KnownAttributes.{AreAttributesOf};
-ghost use Rattle.cedar_queries.specs.Possible.{AreDeclaredTypes, HasTags, IsDeclared, IsKnownUid, MayHaveAttribute, MayHaveTags, MemberMayHave};
-ghost use Rattle.cedar_type_rules.specs.Ty.{Fields, field_at};
-ghost use Rattle.cedar_type_rules.specs.declared.open_tag.OpenTag.TheVariants.{OpenAttributes};
-ghost use Rattle.cedar_types.specs.EntityKind.{kind_ty};
-ghost use Rattle.cedar_types.specs.EntityLUB.{lub_names};
-ghost use Rattle.cedar_types.specs.Meaning.{attribute_of, ty_of};
+ghost use Rattle.cedar_queries.specs.Words.{AreAttributesOf, AreDeclaredTypes, Fields, HasTags, IsActionType, IsDeclared, IsKnownUid, MayHaveAttribute, MayHaveTags, MemberMayHave, OpenAttributes, attribute_of, field_at, kind_ty, lub_names, plain_action_entry, plain_entry, ty_of, type_name, uid_of};
 
 use crate::known::all_attributes;
 use cedar_below::{EntityType, EntityUID, M};

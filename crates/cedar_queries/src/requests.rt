@@ -4,13 +4,7 @@ ghost use Rattle.std.specs.Prelude.{◌≡◌, ◌≢◌, ◌↔◌, AllPairs, C
 ghost use Rattle.std.specs.Iterator.{at_most};
 ghost use Rattle.std.specs.Map.Iter.{TakesFirst};
 ghost use Rattle.std.specs.Option.{option_copied, option_map};
-ghost use Rattle.cedar_schema_elements.specs.ActionKind.{kind_principals, kind_resources};
-ghost use Rattle.cedar_schema_elements.specs.ValidatorActionId.{action_of, plain_action_entry};
-ghost use Rattle.cedar_below.specs.EntityType.{type_name};
-ghost use Rattle.cedar_below.specs.EntityUID.{uid_of};
-ghost use Rattle.cedar_queries.specs.RequestTypes.{action_at, actions_for, all_principals, all_resources, context_at};
-ghost use Rattle.cedar_queries.specs.Role.{types_in_role};
-ghost use Rattle.cedar_types.specs.Meaning.{ty_of};
+ghost use Rattle.cedar_queries.specs.Words.{action_at, action_of, actions_for, all_principals, all_resources, context_at, kind_principals, kind_resources, plain_action_entry, ty_of, type_name, types_in_role, uid_of};
 
 use crate::descent::Actions;
 use crate::selected::Selected;
@@ -44,12 +38,9 @@ pub struct ApplicableTypes<'a> {
 
 impl<'a> Model for ApplicableTypes<'a> {
     ghost use Rattle.std.specs.Prelude.{List, [], ◌++◌, map};
-    ghost use Rattle.cedar_below.specs.EntityType.{type_name};
+    ghost use Rattle.cedar_queries.specs.Words.{PlainName, action_of, type_name, types_in_role};
     ghost use Rattle.std.specs.List.{flat_map};
     ghost use Rattle.std.specs.Option.{unwrap_or};
-    ghost use Rattle.cedar_schema_elements.specs.ValidatorActionId.{action_of};
-    ghost use Rattle.cedar_below.specs.PlainName.{PlainName};
-    ghost use Rattle.cedar_queries.specs.Role.{types_in_role};
 
     ghost Value = { List PlainName };
 

@@ -1,11 +1,7 @@
 //! The tests by which entity types and actions are selected.
 
 ghost use Rattle.std.specs.Prelude.{◌&&◌};
-ghost use Rattle.cedar_schema_elements.specs.ActionKind.{kind_principals, kind_resources};
-ghost use Rattle.cedar_schema_elements.specs.ValidatorActionId.{action_of};
-ghost use Rattle.cedar_below.specs.EntityType.{type_name};
-ghost use Rattle.cedar_schema_elements.specs.ValidatorEntityType.{descendant_names};
-ghost use Rattle.cedar_queries.specs.Hierarchy.{has_name, is_nonempty};
+ghost use Rattle.cedar_queries.specs.Words.{action_of, descendant_names, has_name, is_nonempty, kind_principals, kind_resources, type_name};
 
 use crate::selected::Test;
 use cedar_below::EntityType;
@@ -60,8 +56,7 @@ impl<'a> Test<ValidatorActionId> for ForRequest<'a> {
 pub struct IsExternal;
 
 impl Test<ValidatorEntityType> for IsExternal {
-    ghost use Rattle.cedar_schema_elements.specs.ValidatorEntityType.{entity_type_of};
-    ghost use Rattle.cedar_queries.specs.Unresolved.{is_external_type};
+    ghost use Rattle.cedar_queries.specs.Words.{entity_type_of, is_external_type};
 
     ghost holds = { λ test it. is_external_type (entity_type_of it).kind };
 

@@ -1,11 +1,7 @@
 //! Laws of what a schema answers, and of known attributes.
 
 ghost use Rattle.std.specs.Prelude.{◌↔◌, Contains};
-ghost use Rattle.cedar_below.specs.PlainName.{PlainName};
-ghost use Rattle.cedar_declarations.specs.PlainSchema.{PlainSchema};
-ghost use Rattle.cedar_declarations.specs.ValidSchema.{ListsDescendant};
-ghost use Rattle.cedar_queries.specs.Hierarchy.{types_above};
-ghost use Rattle.cedar_queries.specs.KnownLaws.{AttributesAreUnique, KnownAttributesAreCommon, LargerUnionsKnowLess};
+ghost use Rattle.cedar_queries.specs.Words.{AttributesAreUnique, KnownAttributesAreCommon, LargerUnionsKnowLess, ListsDescendant, PlainName, PlainSchema, types_above};
 
 /// A type has just one list of attributes: so all that is said of them is said of the same ones.
 pub fn attributes_are_unique()

@@ -1,11 +1,6 @@
 -- What closes the same schema is the same schema.
 use Rattle.std.proofs.Common.{List, refl, sym, subst, ◌∙◌}
-use Rattle.cedar_below.specs.Lists.{HoldsPairwise}
-use Rattle.cedar_below.specs.PlainName.{PlainName}
-use Rattle.cedar_below.specs.PlainUid.{PlainUid}
-use Rattle.cedar_declarations.specs.ClosedSchema.{ClosesAction, ClosesSchema, ClosesType}
-use Rattle.cedar_declarations.specs.PlainSchema.{ActionKind, PlainSchema, SchemaAction, SchemaEntityType, defined_action, external_action}
-use Rattle.cedar_declarations.specs.SameSchema.{SameAction, SameActionKind, SameEntityType, SameSchema}
+use Rattle.cedar_schema.specs.Words.{ActionKind, ClosesAction, ClosesSchema, ClosesType, HoldsPairwise, PlainName, PlainSchema, PlainUid, SameAction, SameActionKind, SameEntityType, SameSchema, SchemaAction, SchemaEntityType, defined_action, external_action}
 use Rattle.cedar_declaration_laws.proofs.SameEntities.{same_entities}
 use Rattle.cedar_declarations.proofs.TurnLemmas.{turn_back}
 use Rattle.cedar_validation.proofs.Pairwise.{pairwise_joined}

@@ -4,20 +4,7 @@ use Rattle.std.proofs.lemmas.List.Elements.{Contains-append_cases}
 use Rattle.std.proofs.lemmas.Simd.{map-map}
 use Rattle.cedar_below.proofs.Lists.{Contains-preimage}
 use Rattle.cedar_below.proofs.ValueLemmas.{IsName-type_name}
-use Rattle.cedar_below.specs.EntityType.{type_name}
-use Rattle.cedar_below.specs.EntityUID.{uid_of}
-use Rattle.cedar_below.specs.PlainName.{PlainName, IsReserved}
-use Rattle.cedar_below.specs.PlainUid.{PlainUid}
-use Rattle.cedar_below.specs.declared.entity_type.EntityType.{EntityType}
-use Rattle.cedar_below.specs.declared.entity_uid.EntityUID.{EntityUID}
-use Rattle.cedar_below.specs.declared.extension.Extensions.{Extensions}
-use Rattle.cedar_below.specs.declared.internal_name.InternalName.{InternalName}
-use Rattle.cedar_declarations.specs.Bag.{Bag, action_uids, declared_actions, declared_entities, definitions}
-use Rattle.cedar_fragments.specs.declared.namespace.actions.ActionFragment.{ActionFragment}
-use Rattle.cedar_fragments.specs.declared.namespace.entity_types.EntityTypeFragment.{EntityTypeFragment}
-use Rattle.cedar_resolution.specs.Collected.{collected_actions, collected_entities}
-use Rattle.cedar_names.specs.ActionBody.{ActionBody}
-use Rattle.cedar_names.specs.EntityBody.{EntityBody}
+use Rattle.cedar_schema.specs.Words.{ActionBody, ActionFragment, Bag, EntityBody, EntityType, EntityTypeFragment, EntityUID, Extensions, InternalName, IsReserved, PlainName, PlainUid, action_uids, collected_actions, collected_entities, declared_actions, declared_entities, definitions, type_name, uid_of}
 
 -- the name of an entity type isn't reserved
 type_unreserved : (ty : EntityType) (name : PlainName) → type_name ty ≡ name → ¬ IsReserved name

@@ -5,20 +5,14 @@ use Rattle.std.specs.Bool.{Decides}
 use Rattle.std.specs.Option.{option_eq}
 use Rattle.cedar_below.proofs.Names.{internal_name_eq-same}
 use Rattle.cedar_below.proofs.Texts.{text_eq-Decides}
-use Rattle.cedar_below.specs.InternalName.{name_of}
+use Rattle.cedar_schema.specs.Words.{Loc, LocatedCommonType, LocatedNamespace, LocatedType, loc_at, name_of, ty_of, type_at}
 use Rattle.cedar_below.specs.contracts.loc.LocPartialEq.TheImpl as loc_eq
-use Rattle.cedar_below.specs.declared.loc.Loc.{Loc}
-use Rattle.cedar_schema.specs.LocatedType.{loc_at, type_at}
 use Rattle.cedar_schema.specs.contracts.located_common_type.LocatedCommonTypeHash.TheImpl as common_type_hash
 use Rattle.cedar_schema.specs.contracts.located_common_type.LocatedCommonTypePartialEq.TheImpl as common_type_eq
 use Rattle.cedar_schema.specs.contracts.located_namespace.LocatedNamespaceHash.TheImpl as namespace_hash
 use Rattle.cedar_schema.specs.contracts.located_namespace.LocatedNamespacePartialEq.TheImpl as namespace_eq
 use Rattle.cedar_schema.specs.contracts.located_type.LocatedTypePartialEq.TheImpl as located_type_eq
-use Rattle.cedar_schema.specs.declared.located_common_type.LocatedCommonType.{LocatedCommonType}
-use Rattle.cedar_schema.specs.declared.located_namespace.LocatedNamespace.{LocatedNamespace}
-use Rattle.cedar_schema.specs.declared.located_type.LocatedType.{LocatedType}
 use Rattle.cedar_types.proofs.EqualityLaws.{none, types-Decides}
-use Rattle.cedar_types.specs.Meaning.{ty_of}
 
 -- places are equal exactly where they are the same
 loc-Decides : (a b : Loc) → Decides ((loc_eq.ghosts).eq a b) (a ≡ b)

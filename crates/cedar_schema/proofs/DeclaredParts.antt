@@ -3,26 +3,8 @@ use Rattle.std.proofs.Common.{List, map, sym, subst, ◌∙◌, Contains}
 use Rattle.std.proofs.lemmas.Simd.{map-map}
 use Rattle.std.specs.List.Sorted.{IsStrictlySortedBy}
 use Rattle.std.specs.Map.{keys_of}
-use Rattle.cedar_schema_elements.specs.ValidatorActionId.{plain_action_entry}
-use Rattle.cedar_schema_elements.specs.declared.action_id.ValidatorActionId.{ValidatorActionId}
+use Rattle.cedar_schema.specs.Words.{AreActionEntities, AreDeclaredActions, AreDeclaredEntityTypes, Bag, Entity, EntityType, EntityUID, Extensions, IsDeclaredAction, IsDeclaredEntityType, IsDeclaredSchema, PlainName, PlainUid, SchemaAction, SchemaEntityType, ValidatorActionId, ValidatorEntityType, name_cmp, plain_action_entry, plain_entry, schema_with, type_name, uid_cmp, uid_of}
 use Rattle.cedar_below.proofs.Lists.{Contains-preimage}
-use Rattle.cedar_below.specs.EntityType.{type_name}
-use Rattle.cedar_below.specs.EntityUID.{uid_of}
-use Rattle.cedar_below.specs.PlainName.{PlainName, name_cmp}
-use Rattle.cedar_below.specs.PlainUid.{PlainUid, uid_cmp}
-use Rattle.cedar_below.specs.declared.entity.Entity.{Entity}
-use Rattle.cedar_below.specs.declared.entity_type.EntityType.{EntityType}
-use Rattle.cedar_below.specs.declared.entity_uid.EntityUID.{EntityUID}
-use Rattle.cedar_below.specs.declared.extension.Extensions.{Extensions}
-use Rattle.cedar_builder.specs.DeclaredEntityTypes.{AreDeclaredEntityTypes}
-use Rattle.cedar_builder.specs.DeclaredActions.{AreDeclaredActions}
-use Rattle.cedar_declarations.specs.ActionEntities.{AreActionEntities}
-use Rattle.cedar_declarations.specs.Bag.{Bag}
-use Rattle.cedar_declarations.specs.DeclaredSchema.{IsDeclaredAction, IsDeclaredEntityType, IsDeclaredSchema}
-use Rattle.cedar_declarations.specs.PlainSchema.{SchemaAction, SchemaEntityType}
-use Rattle.cedar_schema_elements.specs.ActionEntities.{schema_with}
-use Rattle.cedar_schema_elements.specs.ValidatorEntityType.{plain_entry}
-use Rattle.cedar_schema_elements.specs.declared.entity_type.ValidatorEntityType.{ValidatorEntityType}
 
 -- the declared schema
 pub declared_parts : (bag : Bag) (extensions : Extensions) (types : List (EntityType × ValidatorEntityType))

@@ -1,11 +1,5 @@
 -- Where the common types of a bag are elaborated, enough is known to write out whatever counts in it.
-use Rattle.cedar_below.specs.Lists.{SameItems}
-use Rattle.cedar_below.specs.declared.extension.Extensions.{Extensions}
-use Rattle.cedar_elaboration.specs.DeclaredTypes.{AreElaborated}
-use Rattle.cedar_declarations.specs.Bag.{Bag, definitions}
-use Rattle.cedar_names.specs.Expr.{Expr}
-use Rattle.cedar_elaboration.specs.Scope.{Covers, set_names, elaborated_types}
-use Rattle.cedar_elaboration.specs.declared.type_scope.TypeScope.{TypeScope}
+use Rattle.cedar_schema.specs.Words.{AreElaborated, Bag, Covers, Expr, Extensions, SameItems, TypeScope, definitions, elaborated_types, set_names}
 
 -- enough is known of what the bag defines
 pub knows_all : (bag : Bag) (extensions : Extensions) (known : TypeScope)

@@ -4,28 +4,10 @@ use Rattle.std.specs.List.Sorted.{IsStrictlySortedBy}
 use Rattle.std.specs.Option.{option_map_or}
 use Rattle.std.specs.Ordering.{is_eq}
 use Rattle.cedar_below.proofs.Lists.{Contains-cons, Contains-preimage}
-use Rattle.cedar_below.specs.PlainName.{PlainName, name_cmp}
-use Rattle.cedar_below.specs.declared.entity_type.EntityType.{EntityType}
-use Rattle.cedar_below.specs.declared.extension.Extensions.{Extensions}
-use Rattle.cedar_declarations.specs.Bag.{Bag}
-use Rattle.cedar_declarations.specs.DeclaredSchema.{IsDeclaredSchema}
-use Rattle.cedar_declarations.specs.EntityTypeKind.{EntityTypeKind, kind_fields, standard_kind}
-use Rattle.cedar_declarations.specs.PlainSchema.{SchemaEntityType}
-use Rattle.cedar_declarations.specs.ValidSchema.{IsTypeOfKind}
-use Rattle.cedar_schema_elements.specs.EntityTypeKind.{plain_kind}
-use Rattle.cedar_schema_elements.specs.ValidatorEntityType.{plain_entry}
-use Rattle.cedar_schema_elements.specs.declared.entity_type.ValidatorEntityType.{ValidatorEntityType}
-use Rattle.cedar_schema_elements.specs.declared.entity_type_kind.ValidatorEntityTypeKind.{ValidatorEntityTypeKind}
+use Rattle.cedar_schema.specs.Words.{AreClean, AreCleanTypes, Bag, EntityType, EntityTypeKind, Extensions, Fields, IsClean, IsDeclaredSchema, IsSortedByName, IsSortedByName-fields, IsTypeOfKind, PlainName, SchemaEntityType, Ty, ValidatorEntityType, ValidatorEntityTypeKind, ValidatorSchema, declared_fields, end, kind_fields, name_cmp, plain_entry, plain_kind, record_of, schema_of, standard_kind}
 use Rattle.cedar_schema_elements.specs.declared.entity_type_kind.ValidatorEntityTypeKind.TheVariants as variant
 use Rattle.cedar_declaration_laws.proofs.CleanSchemas.{declared_clean}
-use Rattle.cedar_queries.specs.KnownAttributes.{declared_fields, type_at}
-use Rattle.cedar_queries.specs.KnownLaws.{AreCleanTypes}
-use Rattle.cedar_type_rules.specs.Clean.{AreClean, IsClean}
-use Rattle.cedar_type_rules.specs.Fields.{IsSortedByName}
-use Rattle.cedar_type_rules.specs.Ty.{Ty, Fields, end, record_of}
-use Rattle.cedar_schema.specs.ValidatorSchema.{schema_of}
-use Rattle.cedar_schema.specs.declared.schema.ValidatorSchema.{ValidatorSchema}
-use Rattle.cedar_types.specs.Layers.{IsSortedByName-fields}
+use Rattle.cedar_queries.specs.KnownAttributes.{type_at}
 
 -- no attributes are in order
 none_ascend : IsSortedByName end

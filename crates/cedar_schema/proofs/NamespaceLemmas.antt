@@ -5,14 +5,9 @@ use Rattle.std.specs.Bool.{one_answer}
 use Rattle.std.specs.Option.{option_map, option_or}
 use Rattle.std.specs.Ordering.{is_eq}
 use Rattle.cedar_below.proofs.Names.{internal_name_ord-name_cmp}
-use Rattle.cedar_below.specs.InternalName.{name_of}
-use Rattle.cedar_below.specs.PlainName.{PlainName, name_cmp}
+use Rattle.cedar_schema.specs.Words.{DefinedNamespace, HoldsNamespaces, InternalName, LocatedNamespace, PlainName, last_defined, name_cmp, name_of, printed_namespace, shown_namespace}
 use Rattle.cedar_below.specs.contracts.internal_name.InternalNameOrd.TheImpl as order
-use Rattle.cedar_below.specs.declared.internal_name.InternalName.{InternalName}
 use Rattle.cedar_declarations.proofs.OccurrenceLemmas.{name_test}
-use Rattle.cedar_fragments.specs.Located.{DefinedNamespace}
-use Rattle.cedar_schema.specs.ShownNamespaces.{HoldsNamespaces, last_defined, printed_namespace, shown_namespace}
-use Rattle.cedar_schema.specs.declared.located_namespace.LocatedNamespace.{LocatedNamespace}
 
 -- a definition behind the others is the last, if it has the name
 last_defined-more : (name : PlainName) (defined : List DefinedNamespace) (at : DefinedNamespace)

@@ -1,35 +1,12 @@
 -- What each step is handed is what it asks for.
 use Rattle.std.proofs.Common.{◌≡◌, List, map, ap, sym, subst, inr, Contains}
-use Rattle.cedar_table.specs.Entries.{Entries}
+use Rattle.cedar_schema.specs.Words.{ActionFragment, AreActionsOf, AreDeclaredEntityTypes, AreElaborated, AreTypesOf, Bag, CommonTypesAreSound, EntityType, EntityTypeFragment, EntityUID, Entries, Extensions, InternalName, IsReady, IsResolvedOver, Names, PlainName, SameItems, «Type», TypeScope, ValidatorEntityType, collected_actions, collected_common, collected_entities, declared_actions, declared_common, declared_entities, definitions, elaborated_types, extension_types, set_names, type_name}
 use Rattle.std.specs.BTreeSet.{BTreeSet}
 use Rattle.cedar_below.proofs.Lists.{Contains-preimage}
-use Rattle.cedar_below.specs.EntityType.{type_name}
-use Rattle.cedar_below.specs.Extensions.{extension_types}
-use Rattle.cedar_below.specs.Lists.{SameItems}
-use Rattle.cedar_below.specs.PlainName.{PlainName}
-use Rattle.cedar_below.specs.declared.entity_type.EntityType.{EntityType}
-use Rattle.cedar_below.specs.declared.entity_uid.EntityUID.{EntityUID}
-use Rattle.cedar_below.specs.declared.extension.Extensions.{Extensions}
-use Rattle.cedar_below.specs.declared.internal_name.InternalName.{InternalName}
-use Rattle.cedar_builder.specs.DeclaredEntityTypes.{AreDeclaredEntityTypes}
-use Rattle.cedar_builder.specs.EntityTypesReady.{IsReady}
-use Rattle.cedar_builder.specs.ActionsReady.{AreActionsOf}
-use Rattle.cedar_elaboration.specs.DeclaredTypes.{AreTypesOf, AreElaborated}
-use Rattle.cedar_elaboration.specs.SoundTypes.{CommonTypesAreSound}
 use Rattle.cedar_declarations.proofs.BuiltInLemmas.{one_definition}
 use Rattle.cedar_declarations.proofs.TogetherLemmas.{said_is_declared}
-use Rattle.cedar_declarations.specs.Bag.{Bag, declared_actions, declared_common, declared_entities, definitions}
-use Rattle.cedar_declarations.specs.Names.{Names}
-use Rattle.cedar_schema_elements.specs.declared.entity_type.ValidatorEntityType.{ValidatorEntityType}
-use Rattle.cedar_fragments.specs.declared.namespace.actions.ActionFragment.{ActionFragment}
-use Rattle.cedar_fragments.specs.declared.namespace.entity_types.EntityTypeFragment.{EntityTypeFragment}
-use Rattle.cedar_resolution.specs.Collected.{collected_actions, collected_common, collected_entities}
-use Rattle.cedar_names.specs.declared.json_schema.type_of.Type.{«Type»}
 use Rattle.cedar_schema.proofs.CollectedBags.{collected_unreserved}
 use Rattle.cedar_schema.proofs.KnownBags.{knows_all}
-use Rattle.cedar_schema.specs.ResolvedBag.{IsResolvedOver}
-use Rattle.cedar_elaboration.specs.Scope.{set_names, elaborated_types}
-use Rattle.cedar_elaboration.specs.declared.type_scope.TypeScope.{TypeScope}
 
 module _ (bag : Bag) (given : Extensions) (held : Names) (built_in : List (InternalName × «Type» InternalName))
     (over : IsResolvedOver bag given held (collected_common built_in)) (names : BTreeSet InternalName)

@@ -1,20 +1,7 @@
 -- What resolution makes sure of.
 use Rattle.std.proofs.Common.{◌≡◌, ◌++◌, ◌∙◌, List, ap, subst}
-use Rattle.cedar_below.specs.Extensions.{extension_types}
-use Rattle.cedar_below.specs.Lists.{SameItems}
-use Rattle.cedar_below.specs.PlainName.{PlainName}
-use Rattle.cedar_below.specs.PlainUid.{PlainUid}
-use Rattle.cedar_below.specs.TypeNames.{TypeNamesFit}
-use Rattle.cedar_below.specs.declared.extension.Extensions.{Extensions}
-use Rattle.cedar_declarations.specs.Bag.{Bag, aliases, built_ins, defined_names}
-use Rattle.cedar_declarations.specs.Fault.{type_shadowing, action_shadowing}
-use Rattle.cedar_declarations.specs.IllFormed.{IsFault}
-use Rattle.cedar_declarations.specs.Names.{Names}
-use Rattle.cedar_declarations.specs.Resolved.{ResolvesBag}
-use Rattle.cedar_fragments.specs.HeldNames.{HoldsJust}
-use Rattle.cedar_names.specs.Expr.{Expr}
+use Rattle.cedar_schema.specs.Words.{Bag, Expr, Extensions, HoldsJust, IsFault, IsResolvedOver, Names, PlainName, PlainUid, ResolvesBag, SameItems, TypeNamesFit, action_shadowing, aliases, built_ins, defined_names, extension_types, type_shadowing}
 use Rattle.cedar_declaration_laws.proofs.ResolutionLaws.{resolved_aliases, resolved_defines, resolved_parent_names, resolved_still_resolves, resolution}
-use Rattle.cedar_schema.specs.ResolvedBag.{IsResolvedOver}
 
 -- the resolved bag of one in which nothing shadows another
 pub resolved_over : (bag resolved : Bag) (extensions : Extensions) (names : Names) (built_in : List (PlainName × Expr)) → TypeNamesFit (extension_types extensions)

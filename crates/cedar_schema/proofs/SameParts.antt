@@ -1,20 +1,8 @@
 -- Schemas of the same entity types and actions, and the entities of actions that are made of copies.
 use Rattle.std.proofs.Common.{◌≡◌, ◌∷◌, [], Contains, List, map, refl, subst, sym, ◌∙◌}
 use Rattle.std.specs.List.Sorted.{IsStrictlySortedBy}
-use Rattle.cedar_below.specs.Lists.{HoldsPairwise}
-use Rattle.cedar_below.specs.PlainUid.{PlainUid, uid_cmp}
-use Rattle.cedar_below.specs.declared.entity.Entity.{Entity}
-use Rattle.cedar_below.specs.declared.entity_type.EntityType.{EntityType}
-use Rattle.cedar_below.specs.declared.entity_uid.EntityUID.{EntityUID}
+use Rattle.cedar_schema.specs.Words.{ActionEntity, AreActionEntities, DefinesAction, Entity, EntityType, EntityUID, HoldsPairwise, ListsDescendantAction, PlainSchema, PlainUid, SameActionEntity, ValidatorActionId, ValidatorEntityType, plain_entry, schema_with, uid_cmp}
 use Rattle.cedar_declarations.proofs.TurnLemmas.{turn_forth}
-use Rattle.cedar_declarations.specs.ActionEntities.{AreActionEntities, DefinesAction}
-use Rattle.cedar_declarations.specs.PlainSchema.{ActionEntity, PlainSchema}
-use Rattle.cedar_declarations.specs.SameSchema.{SameActionEntity}
-use Rattle.cedar_declarations.specs.ValidSchema.{ListsDescendantAction}
-use Rattle.cedar_schema_elements.specs.ActionEntities.{schema_with}
-use Rattle.cedar_schema_elements.specs.ValidatorEntityType.{plain_entry}
-use Rattle.cedar_schema_elements.specs.declared.action_id.ValidatorActionId.{ValidatorActionId}
-use Rattle.cedar_schema_elements.specs.declared.entity_type.ValidatorEntityType.{ValidatorEntityType}
 
 -- what holds of a schema holds of one of the same entity types and actions
 pub same_parts : (P : PlainSchema → Type 0) (types others : List (EntityType × ValidatorEntityType))

@@ -4,26 +4,17 @@ use Rattle.std.proofs.lemmas.Bool.Decides.{Decides-and, Decides-like}
 use Rattle.std.specs.Bool.{Decides}
 use Rattle.std.specs.Cmp.Lexicographic.{pointwise}
 use Rattle.cedar_schema_elements.proofs.ActionEquality.{actions-Same}
-use Rattle.cedar_schema_elements.specs.ValidatorActionId.{plain_action_entry}
+use Rattle.cedar_schema.specs.Words.{EntityType, EntityUID, HoldsPairwise, PlainEntityType, SameAction, SameEntityType, SameSchema, ValidatorActionId, ValidatorEntityType, ValidatorSchema, plain_action_entry, plain_entry, schema_of}
 use Rattle.cedar_schema_elements.specs.contracts.action_id.ValidatorActionIdPartialEq.TheImpl as action_eq
-use Rattle.cedar_schema_elements.specs.declared.action_id.ValidatorActionId.{ValidatorActionId}
 use Rattle.cedar_below.proofs.Names.{entity_type_eq-same}
 use Rattle.cedar_below.proofs.Uids.{entity_uid_eq-same}
-use Rattle.cedar_below.specs.Lists.{HoldsPairwise}
 use Rattle.cedar_below.specs.contracts.entity_type.EntityTypePartialEq.TheImpl as name_eq
 use Rattle.cedar_below.specs.contracts.entity_uid.EntityUIDPartialEq.TheImpl as uid_eq
-use Rattle.cedar_below.specs.declared.entity_type.EntityType.{EntityType}
-use Rattle.cedar_below.specs.declared.entity_uid.EntityUID.{EntityUID}
-use Rattle.cedar_declarations.specs.SameSchema.{SameAction, SameEntityType, SameSchema}
 use Rattle.cedar_schema_elements.proofs.EntityTypeEquality.{entity_types-Same}
-use Rattle.cedar_schema_elements.specs.ValidatorEntityType.{PlainEntityType, plain_entry}
 use Rattle.cedar_schema_elements.specs.contracts.entity_type.ValidatorEntityTypePartialEq.TheImpl as entity_type_eq
-use Rattle.cedar_schema_elements.specs.declared.entity_type.ValidatorEntityType.{ValidatorEntityType}
 use Rattle.cedar_declaration_laws.proofs.MereLemmas.{known_entities}
 use Rattle.cedar_declaration_laws.proofs.SameEntities.{same_entities}
-use Rattle.cedar_schema.specs.ValidatorSchema.{schema_of}
 use Rattle.cedar_schema.specs.contracts.schema.ValidatorSchemaPartialEq.TheImpl as schema_eq
-use Rattle.cedar_schema.specs.declared.schema.ValidatorSchema.{ValidatorSchema}
 use Rattle.cedar_types.proofs.EqualityLaws.{none}
 
 -- the test of two entries of the map of entity types

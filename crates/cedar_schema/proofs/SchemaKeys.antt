@@ -3,9 +3,7 @@ use Rattle.std.proofs.Common.{◌≡◌, ◌∙◌, ◌∷◌, [], Contains, IfO
 use Rattle.std.proofs.lemmas.List.Elements.{Contains-append_right}
 use Rattle.std.proofs.lemmas.Result.{IfOk-weaker}
 use Rattle.std.proofs.lemmas.Simd.{map-map}
-use Rattle.cedar_schema.specs.SchemaKeys.{AreKeysLocated}
-use Rattle.cedar_schema.specs.ValidatorSchema.{action_entries, schema_entries}
-use Rattle.cedar_schema.specs.declared.schema.ValidatorSchema.{ValidatorSchema}
+use Rattle.cedar_schema.specs.Words.{AreKeysLocated, ValidatorSchema, action_entries, schema_entries}
 
 -- they were written where the names and uids of their values were
 pub keys_located : (schema : ValidatorSchema) → AreKeysLocated (schema_entries schema) (action_entries schema)

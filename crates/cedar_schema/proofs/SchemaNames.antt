@@ -5,37 +5,18 @@ use Rattle.std.proofs.Math.Logic.{∥∥₁_elim}
 use Rattle.std.proofs.Props.{props}
 use Rattle.std.specs.List.Sorted.{IsStrictlySortedBy}
 use Rattle.std.specs.Map.{keys_of}
-use Rattle.cedar_schema_elements.specs.ValidatorActionId.{action_of, plain_action_entry}
-use Rattle.cedar_schema_elements.specs.declared.action_id.ValidatorActionId.{ValidatorActionId}
+use Rattle.cedar_schema.specs.Words.{ActionEntity, ClosesAction, ClosesSchema, ClosesType, Entity, EntityType, EntityUID, HasNoReservedName, HoldsPairwise, IsInOrder, PlainName, PlainSchema, PlainUid, SameAction, SameEntityType, SchemaAction, SchemaEntityType, StandsUnderItsNames, ValidatorActionId, ValidatorEntityType, ValidatorSchema, action_of, entity_type_of, name_cmp, plain_action_entry, plain_entry, reserved_word, schema_of, schema_with, type_name, uid_cmp, uid_of}
 use Rattle.cedar_below.proofs.Lists.{Contains-cons, Contains-preimage}
 use Rattle.cedar_below.proofs.Names.{entity_type_ord-name_cmp}
 use Rattle.cedar_below.proofs.Ordered.{IsStrictlySortedBy-map}
 use Rattle.cedar_below.proofs.PlainNames.{name_cmp-Equal, uid_cmp-Equal}
 use Rattle.cedar_below.proofs.Uids.{entity_uid_ord-uid_cmp}
-use Rattle.cedar_below.specs.EntityType.{type_name}
-use Rattle.cedar_below.specs.EntityUID.{uid_of}
-use Rattle.cedar_below.specs.Identifier.{reserved_word}
-use Rattle.cedar_below.specs.Lists.{HoldsPairwise}
-use Rattle.cedar_below.specs.PlainName.{PlainName, name_cmp}
-use Rattle.cedar_below.specs.PlainUid.{PlainUid, uid_cmp}
 use Rattle.cedar_below.specs.contracts.entity_type.EntityTypeOrd.TheImpl as entity_type_ord
 use Rattle.cedar_below.specs.contracts.entity_uid.EntityUIDOrd.TheImpl as entity_uid_ord
-use Rattle.cedar_below.specs.declared.entity.Entity.{Entity}
-use Rattle.cedar_below.specs.declared.entity_type.EntityType.{EntityType}
-use Rattle.cedar_below.specs.declared.entity_uid.EntityUID.{EntityUID}
 use Rattle.cedar_declarations.proofs.OccurrenceLemmas.{Contains-image}
 use Rattle.cedar_declarations.proofs.TurnLemmas.{turn_forth}
-use Rattle.cedar_declarations.specs.ClosedSchema.{ClosesAction, ClosesSchema, ClosesType}
-use Rattle.cedar_declarations.specs.PlainSchema.{ActionEntity, PlainSchema, SchemaAction, SchemaEntityType}
-use Rattle.cedar_declarations.specs.SameSchema.{SameAction, SameEntityType}
-use Rattle.cedar_schema_elements.specs.ActionEntities.{schema_with}
-use Rattle.cedar_schema_elements.specs.ValidatorEntityType.{entity_type_of, plain_entry}
-use Rattle.cedar_schema_elements.specs.declared.entity_type.ValidatorEntityType.{ValidatorEntityType}
-use Rattle.cedar_declaration_laws.specs.EndToEnd.{HasNoReservedName, IsInOrder, StandsUnderItsNames}
 use Rattle.cedar_validation.proofs.Pairwise.{pairwise_back}
 use Rattle.cedar_validation.proofs.Keyed.{key_of_uid, named_key, names_of_keys}
-use Rattle.cedar_schema.specs.ValidatorSchema.{schema_of}
-use Rattle.cedar_schema.specs.declared.schema.ValidatorSchema.{ValidatorSchema}
 
 abbrev Types : Type 0
 Types = List (EntityType × ValidatorEntityType)

@@ -4,13 +4,8 @@ use Rattle.std.proofs.lemmas.List.{map-append}
 use Rattle.std.proofs.lemmas.List.Elements.{filter-append}
 use Rattle.std.proofs.lemmas.Simd.{map-map}
 use Rattle.std.specs.List.{filter, flat_map}
-use Rattle.cedar_below.specs.Text.{Text}
-use Rattle.cedar_fragments.specs.Located.{LocatedName, definition_common_types, fragment_common_names, fragment_definitions, located_name}
-use Rattle.cedar_fragments.specs.declared.namespace.common_types.CommonTypeDef.{CommonTypeDef}
-use Rattle.cedar_fragments.specs.declared.namespace.fragment.ValidatorSchemaFragment.{ValidatorSchemaFragment}
+use Rattle.cedar_schema.specs.Words.{CommonTypeDef, LocatedCommonType, LocatedName, ShownCommonType, Text, ValidatorSchemaFragment, common_types_to_show, declared_common_type, definition_common_types, fragment_common_names, fragment_common_types, fragment_definitions, is_shown, located_name, shown_common_type, shown_name, with_base}
 use Rattle.cedar_schema.proofs.InOrder.{map-flat_map}
-use Rattle.cedar_schema.specs.ShownCommonTypes.{ShownCommonType, common_types_to_show, declared_common_type, fragment_common_types, is_shown, shown_common_type, shown_name, with_base}
-use Rattle.cedar_schema.specs.declared.located_common_type.LocatedCommonType.{LocatedCommonType}
 
 -- a test of what a function shows keeps just what it keeps of what is shown
 map-filter : {A B : Type 0} (f : A → B) (test : B → Bool) (xs : List A) → map f (filter (λ x. test (f x)) xs) ≡ filter test (map f xs)

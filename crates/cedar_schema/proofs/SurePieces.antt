@@ -1,23 +1,9 @@
 -- What the steps make sure of, together, is that the bag isn't ill-formed.
 use Rattle.std.proofs.Common.{List, subst, map, Contains}
 use Rattle.cedar_below.proofs.Lists.{Contains-preimage}
-use Rattle.cedar_below.specs.PlainName.{PlainName}
-use Rattle.cedar_below.specs.declared.extension.Extensions.{Extensions}
-use Rattle.cedar_builder.specs.SoundEntityTypes.{EntityTypesAreSound}
-use Rattle.cedar_builder.specs.SoundActions.{ActionsAreSound}
-use Rattle.cedar_elaboration.specs.SoundTypes.{CommonTypesAreSound}
-use Rattle.cedar_declarations.specs.Bag.{Bag, declared_entities, defined_names}
-use Rattle.cedar_declarations.specs.Fault.{action_attributes, action_entity_type, reserved_name}
-use Rattle.cedar_declarations.specs.IllFormed.{IsIllFormed}
-use Rattle.cedar_declarations.specs.Mentions.{HasOpenRecord}
-use Rattle.cedar_declarations.specs.Names.{Names, ResolvesTo}
-use Rattle.cedar_fragments.specs.DefinitionFault.{HasNoDefinitionFault}
+use Rattle.cedar_schema.specs.Words.{ActionsAreSound, Bag, CommonTypesAreSound, EntityBody, EntityTypesAreSound, Expr, Extensions, HasNoDefinitionFault, HasOpenRecord, IsActionType, IsIllFormed, IsResolvedOver, Names, PlainName, ResolvesTo, action_attributes, action_entity_type, declared_entities, defined_names, reserved_name}
 use Rattle.cedar_declaration_laws.proofs.MentionLemmas.{HasKnownExtensions}
 use Rattle.cedar_declaration_laws.proofs.SureBags.{of_counted, of_placed, sure_is_well}
-use Rattle.cedar_names.specs.EntityBody.{EntityBody}
-use Rattle.cedar_names.specs.Expr.{Expr}
-use Rattle.cedar_below.specs.PlainName.{IsActionType}
-use Rattle.cedar_schema.specs.ResolvedBag.{IsResolvedOver}
 
 module _ (bag : Bag) (extensions : Extensions) (names : Names) (built_in : List (PlainName × Expr))
     (resolved : IsResolvedOver bag extensions names built_in) (definitions_sound : HasNoDefinitionFault bag) (common : CommonTypesAreSound bag extensions)

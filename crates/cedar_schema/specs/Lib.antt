@@ -7,3 +7,4 @@ pub mod ShownCommonTypes
 pub mod ShownNamespaces
 pub mod TypeLocations
 pub mod ValidatorSchema
+pub mod Words

@@ -1,18 +1,8 @@
 use Rattle.std.specs.Prelude.{◌≡◌, ◌++◌, List}
-use Rattle.cedar_below.specs.Extensions.{extension_types}
-use Rattle.cedar_below.specs.Lists.{SameItems}
-use Rattle.cedar_below.specs.PlainName.{PlainName}
-use Rattle.cedar_below.specs.PlainUid.{PlainUid}
-use Rattle.cedar_below.specs.TypeNames.{TypeNamesFit}
+use Rattle.cedar_below.specs.Words.{PlainName, PlainUid, SameItems, TypeNamesFit, extension_types}
 use Rattle.cedar_below.specs.declared.extension.Extensions.{Extensions}
-use Rattle.cedar_declarations.specs.Bag.{Bag, action_uids, aliases, built_ins, defined_names, definitions}
-use Rattle.cedar_declarations.specs.Counted.{HasToResolve}
-use Rattle.cedar_declarations.specs.Fault.{type_shadowing, action_shadowing}
-use Rattle.cedar_declarations.specs.IllFormed.{IsFault}
-use Rattle.cedar_declarations.specs.Names.{Names, NamesAction, ResolvesTo}
-use Rattle.cedar_declarations.specs.Together.{IsActionParent}
-use Rattle.cedar_names.specs.Expr.{Expr}
-use Rattle.cedar_names.specs.Reference.{Reference, ActionReference}
+use Rattle.cedar_declarations.specs.Words.{Bag, HasToResolve, IsActionParent, IsFault, Names, NamesAction, ResolvesTo, action_shadowing, action_uids, aliases, built_ins, defined_names, definitions, type_shadowing}
+use Rattle.cedar_names.specs.Words.{ActionReference, Expr, Reference}
 
 -- what has to name something in the bag does, nothing in it shadows another, its entity types have
 -- these names, these are the built-in types and its aliases, and names of extension types fit

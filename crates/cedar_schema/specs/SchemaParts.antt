@@ -1,8 +1,7 @@
 use Rattle.std.specs.Prelude.{map}
 use Rattle.cedar_below.specs.Entities.{entities_of}
 use Rattle.cedar_declarations.specs.PlainSchema.{PlainSchema}
-use Rattle.cedar_schema_elements.specs.ActionEntities.{schema_with}
-use Rattle.cedar_schema_elements.specs.ValidatorEntityType.{plain_entry}
+use Rattle.cedar_schema_elements.specs.Words.{plain_entry, schema_with}
 use Rattle.cedar_schema.specs.declared.building.SchemaParts.{SchemaParts}
 
 -- what a schema holds, as plain data

@@ -2,10 +2,7 @@ use Rattle.std.specs.Prelude.{◌≡◌, List, [], ◌∷◌, cond, Option, None
 use Rattle.std.specs.BTreeMap.{BTreeMap, get_by}
 use Rattle.std.specs.Option.{option_map, option_or}
 use Rattle.std.specs.Ordering.{is_eq}
-use Rattle.cedar_below.specs.Identifier.{reserved_word}
-use Rattle.cedar_below.specs.InternalName.{name_of}
-use Rattle.cedar_below.specs.PlainName.{PlainName, name_cmp, name_text}
-use Rattle.cedar_below.specs.Text.{Text}
+use Rattle.cedar_below.specs.Words.{PlainName, Text, name_cmp, name_of, name_text, reserved_word}
 use Rattle.cedar_below.specs.declared.internal_name.InternalName.{InternalName}
 use Rattle.cedar_below.specs.declared.loc.Loc.{Loc}
 use Rattle.cedar_fragments.specs.Located.{DefinedNamespace}

@@ -4,24 +4,7 @@ ghost use Rattle.std.specs.Prelude.{◌≡◌, ◌⊎◌, IfErr, IfOk, OnOk, map
 ghost use Rattle.std.specs.List.Sorted.{IsStrictlySortedBy};
 ghost use Rattle.std.specs.Map.{keys_of};
 ghost use Rattle.std.specs.Result.{result_map_both};
-ghost use Rattle.cedar_below.specs.EntityType.{type_name};
-ghost use Rattle.cedar_below.specs.EntityUID.{uid_of};
-ghost use Rattle.cedar_below.specs.PlainName.{name_cmp};
-ghost use Rattle.cedar_below.specs.PlainUid.{uid_cmp};
-ghost use Rattle.cedar_below.specs.Extensions.{extension_types};
-ghost use Rattle.cedar_below.specs.TypeNames.{TypeNamesFit};
-ghost use Rattle.cedar_declarations.specs.DeclaredSchema.{IsDeclaredSchema};
-ghost use Rattle.cedar_declarations.specs.Fault.{out_of_memory};
-ghost use Rattle.cedar_declarations.specs.IllFormed.{IsFault, IsIllFormed};
-ghost use Rattle.cedar_declarations.specs.SchemaError.{fault_of};
-ghost use Rattle.cedar_fragments.specs.FragmentDeclarations.{conditional_bag};
-ghost use Rattle.cedar_fragments.specs.HeldNames.{held_names};
-ghost use Rattle.cedar_resolution.specs.Collected.{collected_common, resolved_bag};
-ghost use Rattle.cedar_declaration_laws.specs.EndToEnd.{IsBuiltFrom};
-ghost use Rattle.cedar_schema.specs.Located.{ShowsFragments};
-ghost use Rattle.cedar_schema.specs.SchemaKeys.{AreKeysLocated};
-ghost use Rattle.cedar_schema.specs.SchemaParts.{parts_schema};
-ghost use Rattle.cedar_schema.specs.ResolvedBag.{IsResolvedOver};
+ghost use Rattle.cedar_schema.specs.Words.{AreKeysLocated, IsBuiltFrom, IsDeclaredSchema, IsFault, IsIllFormed, IsResolvedOver, ShowsFragments, TypeNamesFit, collected_common, conditional_bag, extension_types, fault_of, held_names, name_cmp, out_of_memory, parts_schema, resolved_bag, type_name, uid_cmp, uid_of};
 
 use crate::collecting::{Located, located_in};
 use cedar_below::{Entities, EntityType, EntityUID, Extensions, InternalName};

@@ -2,9 +2,7 @@
 
 ghost use Rattle.std.specs.Prelude.{◌≡◌, ◌∷◌, [], IfOk, map};
 ghost use Rattle.std.specs.Slice.Iter.{iter_rest};
-ghost use Rattle.cedar_schema.specs.Located.{ShowsFragments, common_entries, namespace_entries};
-ghost use Rattle.cedar_schema.specs.ShownCommonTypes.{shown_common_type};
-ghost use Rattle.cedar_schema.specs.ShownNamespaces.{shown_entry};
+ghost use Rattle.cedar_schema.specs.Words.{ShowsFragments, common_entries, namespace_entries, shown_common_type, shown_entry};
 
 use crate::common_types::located_common_types;
 use crate::iterators::Namespaces;

@@ -3,9 +3,7 @@
 ghost use Rattle.std.specs.Prelude.{◌≡◌, ◌++◌, IfOk, map};
 ghost use Rattle.std.specs.List.{flat_map, list_any};
 ghost use Rattle.std.specs.Str.{bytes_eq};
-ghost use Rattle.cedar_below.specs.TypeNames.{primitive_words};
-ghost use Rattle.cedar_fragments.specs.Located.{definition_common_types, located_name};
-ghost use Rattle.cedar_schema.specs.ShownCommonTypes.{common_types_to_show, fragment_common_types, is_shown, shown_common_type};
+ghost use Rattle.cedar_schema.specs.Words.{common_types_to_show, definition_common_types, fragment_common_types, is_shown, located_name, primitive_words, shown_common_type};
 ghost use Rattle.cedar_names.specs.declared.json_schema.conditional_name.ConditionalName.{ConditionalName as Conditional};
 
 use crate::located_common_type::LocatedCommonType;

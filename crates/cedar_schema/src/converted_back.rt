@@ -7,11 +7,7 @@ use std::alloc::Global;
 
 impl ValidatorSchema {
     ghost use Rattle.std.specs.Prelude.{IfErr, IfOk, OnOk};
-    ghost use Rattle.cedar_declarations.specs.ConvertedBack.{IsWritable, IsConvertedBack};
-    ghost use Rattle.cedar_names.specs.Declaration.{raw_fragment};
-    ghost use Rattle.cedar_schema.specs.ValidatorSchema.{schema_of};
-    ghost use Rattle.cedar_schema_writer.specs.Definitions.{AreProper};
-    ghost use Rattle.cedar_schema_writer.specs.Refusal.{Refuses};
+    ghost use Rattle.cedar_schema.specs.Words.{AreProper, IsConvertedBack, IsWritable, Refuses, raw_fragment, schema_of};
 
     /// The fragment that declares the schema again: one declaration for each entity type and each
     /// action, with a definition for each namespace that has one. Common types are unfolded, names

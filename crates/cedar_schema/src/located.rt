@@ -8,8 +8,7 @@ use std::slice;
 impl ValidatorSchema {
     ghost use Rattle.std.specs.Prelude.{◌≡◌, map};
     ghost use Rattle.std.specs.Slice.Iter.{iter_rest};
-    ghost use Rattle.cedar_schema.specs.Located.{common_entries, namespace_entries};
-    ghost use Rattle.cedar_schema.specs.ValidatorSchema.{located_of};
+    ghost use Rattle.cedar_schema.specs.Words.{common_entries, located_of, namespace_entries};
 
     /// The common types of the fragments, with where they were declared, in the order of the
     /// fragments: those whose declaration has a location and whose base name is none of `Bool`,

@@ -1,8 +1,7 @@
 //! Common types with where they were declared.
 
 ghost use Rattle.std.specs.Prelude.{◌≡◌, IfOk, string_bytes};
-ghost use Rattle.cedar_below.specs.InternalName.{name_of, name_loc};
-ghost use Rattle.cedar_schema.specs.LocatedType.{loc_at};
+ghost use Rattle.cedar_schema.specs.Words.{loc_at, name_loc, name_of};
 
 use crate::located_type::LocatedType;
 use cedar_below::{InternalName, Loc, M};

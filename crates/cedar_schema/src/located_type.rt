@@ -1,8 +1,7 @@
 //! Types with a location.
 
 ghost use Rattle.std.specs.Prelude.{◌≡◌, IfOk, None};
-ghost use Rattle.cedar_schema.specs.LocatedType.{type_at, loc_at};
-ghost use Rattle.cedar_types.specs.Meaning.{ty_of};
+ghost use Rattle.cedar_schema.specs.Words.{loc_at, ty_of, type_at};
 
 use cedar_below::{Loc, M};
 use cedar_types::Type;

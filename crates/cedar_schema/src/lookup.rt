@@ -2,13 +2,7 @@
 
 ghost use Rattle.std.specs.Prelude.{◌≡◌, ◌↔◌, ◌∷◌, [], IfOk, IfSome, IsSome, IsTrue};
 ghost use Rattle.std.specs.Option.{option_map};
-ghost use Rattle.cedar_below.specs.EntityUID.{uid_of};
-ghost use Rattle.cedar_queries.specs.KnownAttributes.{AreAttributesOf};
-ghost use Rattle.cedar_queries.specs.Possible.{AreDeclaredTypes, IsKnownUid, MayHaveAttribute, MayHaveTags};
-ghost use Rattle.cedar_type_rules.specs.Ty.{Fields, Ty, field_at, union_of};
-ghost use Rattle.cedar_schema.specs.ValidatorSchema.{schema_of};
-ghost use Rattle.cedar_types.specs.EntityKind.{kind_ty};
-ghost use Rattle.cedar_types.specs.Meaning.{attribute_of, fields_of, ty_of};
+ghost use Rattle.cedar_schema.specs.Words.{AreAttributesOf, AreDeclaredTypes, Fields, IsKnownUid, MayHaveAttribute, MayHaveTags, Ty, attribute_of, field_at, fields_of, kind_ty, schema_of, ty_of, uid_of, union_of};
 
 use crate::schema::ValidatorSchema;
 use cedar_below::{EntityUID, M};

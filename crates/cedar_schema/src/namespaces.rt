@@ -3,11 +3,7 @@
 ghost use Rattle.std.specs.Prelude.{◌≡◌, ◌∷◌, ◌++◌, [], IfOk, List, None};
 ghost use Rattle.std.specs.List.{flat_map};
 ghost use Rattle.std.specs.Option.{option_map};
-ghost use Rattle.cedar_below.specs.Identifier.{reserved_word};
-ghost use Rattle.cedar_below.specs.InternalName.{name_of, name_loc};
-ghost use Rattle.cedar_below.specs.PlainName.{name_text};
-ghost use Rattle.cedar_fragments.specs.Located.{DefinedNamespace, definition_namespaces, named_namespaces};
-ghost use Rattle.cedar_schema.specs.ShownNamespaces.{HoldsNamespaces, built_in_namespace, shown_namespace};
+ghost use Rattle.cedar_schema.specs.Words.{DefinedNamespace, HoldsNamespaces, built_in_namespace, definition_namespaces, name_loc, name_of, name_text, named_namespaces, reserved_word, shown_namespace};
 ghost use Rattle.cedar_names.specs.declared.json_schema.conditional_name.ConditionalName.{ConditionalName as Conditional};
 
 use crate::located_namespace::LocatedNamespace;

@@ -19,29 +19,9 @@ impl ValidatorSchema {
     ghost use Rattle.std.specs.List.{flat_map};
     ghost use Rattle.std.specs.List.Sorted.{IsPermutation, IsStrictlySortedBy};
     ghost use Rattle.std.specs.Option.{option_copied, option_map};
-    ghost use Rattle.cedar_schema_elements.specs.ActionKind.{kind_principals, kind_resources};
+    ghost use Rattle.cedar_schema.specs.Words.{AreActionEntities, AreEnvironmentsOf, IsIncomplete, IsKnownType, MayBeIn, action_at, action_descendants, action_entries, action_of, action_of_uid, actions_for, all_principals, all_resources, context_at, descendants_of, entities_of, entity_type_named, entity_type_of, environments_left, groups, kind_principals, kind_resources, leaves_of, name_cmp, owned_environment, pending_types, schema_entries, schema_leaves, schema_of, schema_with, ty_of, type_loc, type_name, types_above, uid_cmp, uid_loc, uid_of, uid_type_loc, unresolved, unresolved_left};
     ghost use Rattle.cedar_schema_elements.specs.ValidatorActionId as action;
-    ghost use Rattle.cedar_schema_elements.specs.ValidatorActionId.{action_of};
-    ghost use Rattle.cedar_below.specs.Entities.{entities_of};
-    ghost use Rattle.cedar_below.specs.EntityType.{type_loc, type_name};
-    ghost use Rattle.cedar_below.specs.EntityUID.{uid_loc, uid_of, uid_type_loc};
-    ghost use Rattle.cedar_below.specs.PlainName.{name_cmp};
-    ghost use Rattle.cedar_below.specs.PlainUid.{uid_cmp};
-    ghost use Rattle.cedar_declarations.specs.ActionEntities.{AreActionEntities};
-    ghost use Rattle.cedar_declarations.specs.Environments.{AreEnvironmentsOf};
-    ghost use Rattle.cedar_schema_elements.specs.ActionEntities.{schema_with};
-    ghost use Rattle.cedar_schema_elements.specs.RequestEnv.{owned_environment};
     ghost use Rattle.cedar_schema_elements.specs.ValidatorEntityType as types;
-    ghost use Rattle.cedar_schema_elements.specs.ValidatorEntityType.{entity_type_of};
-    ghost use Rattle.cedar_queries.specs.GivesLeaf.{pending_types};
-    ghost use Rattle.cedar_queries.specs.Leaves.{leaves_of, schema_leaves};
-    ghost use Rattle.cedar_queries.specs.Hierarchy.{IsKnownType, MayBeIn, action_descendants, descendants_of, groups, types_above};
-    ghost use Rattle.cedar_queries.specs.Incomplete.{IsIncomplete};
-    ghost use Rattle.cedar_queries.specs.RequestEnvs.{environments_left};
-    ghost use Rattle.cedar_queries.specs.RequestTypes.{action_at, actions_for, all_principals, all_resources, context_at};
-    ghost use Rattle.cedar_queries.specs.Unresolved.{unresolved, unresolved_left};
-    ghost use Rattle.cedar_types.specs.Meaning.{ty_of};
-    ghost use Rattle.cedar_schema.specs.ValidatorSchema.{schema_entries, action_entries, entity_type_named, action_of_uid, schema_of};
 
     /// The entity type of this name, if the schema declares one.
     pub fn get_entity_type(&self, name: &EntityType) -> Option<&ValidatorEntityType>

@@ -3,20 +3,8 @@
 ghost use Rattle.std.specs.Prelude.{◌≡◌, ◌⊎◌, IfErr, IfOk};
 ghost use Rattle.std.specs.List.{flat_map};
 ghost use Rattle.std.specs.Result.{result_map_both};
-ghost use Rattle.cedar_below.specs.Extensions.{extension_types};
-ghost use Rattle.cedar_below.specs.TypeNames.{TypeNamesFit};
-ghost use Rattle.cedar_declarations.specs.Fault.{out_of_memory};
-ghost use Rattle.cedar_declarations.specs.SchemaError.{fault_of};
-ghost use Rattle.cedar_fragments.specs.DefinitionFault.{IsDefinitionFault};
-ghost use Rattle.cedar_fragments.specs.FragmentDeclarations.{conditional_bag};
-ghost use Rattle.cedar_fragments.specs.FragmentFault.{NamesAllOfADefinition};
-ghost use Rattle.cedar_fragments.specs.Located.{fragment_common_names, named_namespaces, raw_common_names, raw_namespaces};
-ghost use Rattle.cedar_declaration_laws.specs.EndToEnd.{IsBuiltFrom};
-ghost use Rattle.cedar_schema.specs.Located.{ShowsWritten};
-ghost use Rattle.cedar_names.specs.Declaration.{raw_bag};
+ghost use Rattle.cedar_schema.specs.Words.{AreKeysLocated, IsBuiltFrom, IsDefinitionFault, NamesAllOfADefinition, ShowsWritten, TypeNamesFit, conditional_bag, extension_types, fault_of, fragment_common_names, named_namespaces, out_of_memory, parts_schema, raw_bag, raw_common_names, raw_namespaces};
 ghost use Rattle.cedar_names.specs.declared.json_schema.conditional_name.ConditionalName.{ConditionalName as Conditional};
-ghost use Rattle.cedar_schema.specs.SchemaKeys.{AreKeysLocated};
-ghost use Rattle.cedar_schema.specs.SchemaParts.{parts_schema};
 
 use crate::building::{SchemaParts, build};
 use cedar_below::Extensions;

@@ -3,12 +3,9 @@
 ghost use Rattle.std.specs.Prelude.{map};
 ghost use Rattle.cedar_schema_elements.specs.ValidatorActionId as action;
 ghost use Rattle.cedar_below.specs.Entities.{entities_of};
-ghost use Rattle.cedar_declarations.specs.ActionEntities.{AreActionEntities};
-ghost use Rattle.cedar_declarations.specs.Environments.{AreEnvironmentsOf};
-ghost use Rattle.cedar_schema_elements.specs.ActionEntities.{schema_with};
-ghost use Rattle.cedar_schema_elements.specs.RequestEnv.{owned_environment};
+ghost use Rattle.cedar_declarations.specs.Words.{AreActionEntities, AreEnvironmentsOf};
+ghost use Rattle.cedar_schema_elements.specs.Words.{owned_environment, plain_entry, schema_with};
 ghost use Rattle.cedar_schema_elements.specs.ValidatorEntityType as types;
-ghost use Rattle.cedar_schema_elements.specs.ValidatorEntityType.{plain_entry};
 ghost use Rattle.cedar_declaration_laws.specs.EndToEnd.{IsInOrder, StandsUnderItsNames};
 
 use crate::building::{SchemaParts, build};
@@ -89,33 +86,10 @@ impl ValidatorSchema {
     ghost use Rattle.std.specs.Iterator.{Drains, IsFinite};
     ghost use Rattle.std.specs.Result.{result_map_both};
     ghost use Rattle.cedar_schema_elements.specs.declared.action_id.ValidatorActionId.{ValidatorActionId as ActionOfSchema};
-    ghost use Rattle.cedar_below.specs.EntityType.{type_name};
-    ghost use Rattle.cedar_below.specs.EntityUID.{uid_of};
-    ghost use Rattle.cedar_below.specs.Extensions.{extension_types};
-    ghost use Rattle.cedar_below.specs.Lists.{HoldsPairwise};
-    ghost use Rattle.cedar_below.specs.TypeNames.{TypeNamesFit};
+    ghost use Rattle.cedar_schema.specs.Words.{AreKeysLocated, ClosesSchema, HoldsPairwise, IsActionCopied, IsBuiltFrom, IsSchemaFault, IsTypeCopied, IsValidSchema, NamesAllOfADefinition, NamesAllWithAttributes, SameSchema, Shows, ShowsFragments, ShowsWritten, TypeNamesFit, action_entries, action_of_uid, common_entries, conditional_bag, entity_type_named, extension_types, fault_of, last_named, last_of_uid, located_of, namespace_entries, out_of_memory, parts_schema, raw_bag, raw_declarations, raw_fragment, schema_entries, schema_of, shown_common_type, shown_entry, type_name, uid_of, written_common_names};
     ghost use Rattle.cedar_below.specs.declared.entity_type.EntityType.{EntityType as Name};
     ghost use Rattle.cedar_below.specs.declared.entity_uid.EntityUID.{EntityUID as Uid};
-    ghost use Rattle.cedar_declarations.specs.ClosedSchema.{ClosesSchema};
-    ghost use Rattle.cedar_declarations.specs.Fault.{out_of_memory};
-    ghost use Rattle.cedar_declarations.specs.SameSchema.{SameSchema};
-    ghost use Rattle.cedar_declarations.specs.SchemaError.{fault_of};
-    ghost use Rattle.cedar_declarations.specs.ValidSchema.{IsSchemaFault, IsValidSchema};
     ghost use Rattle.cedar_schema_elements.specs.declared.entity_type.ValidatorEntityType.{ValidatorEntityType as EntityTypeOfSchema};
-    ghost use Rattle.cedar_fragments.specs.DefinitionFault.{NamesAllWithAttributes};
-    ghost use Rattle.cedar_fragments.specs.FragmentDeclarations.{conditional_bag};
-    ghost use Rattle.cedar_fragments.specs.FragmentFault.{NamesAllOfADefinition};
-    ghost use Rattle.cedar_fragments.specs.Located.{written_common_names};
-    ghost use Rattle.cedar_declaration_laws.specs.EndToEnd.{IsBuiltFrom};
-    ghost use Rattle.cedar_schema.specs.Located.{Shows, ShowsFragments, ShowsWritten, common_entries, namespace_entries};
-    ghost use Rattle.cedar_schema.specs.ShownCommonTypes.{shown_common_type};
-    ghost use Rattle.cedar_schema.specs.ShownNamespaces.{shown_entry};
-    ghost use Rattle.cedar_names.specs.Declaration.{raw_bag, raw_declarations, raw_fragment};
-    ghost use Rattle.cedar_schema.specs.ValidatorSchema.{action_entries, action_of_uid, entity_type_named, located_of, schema_entries, schema_of};
-    ghost use Rattle.cedar_validation.specs.Copies.{IsActionCopied, IsTypeCopied};
-    ghost use Rattle.cedar_validation.specs.LastNamed.{last_named, last_of_uid};
-    ghost use Rattle.cedar_schema.specs.SchemaKeys.{AreKeysLocated};
-    ghost use Rattle.cedar_schema.specs.SchemaParts.{parts_schema};
 
     /// The schema that declares nothing.
     pub fn empty(alloc: Global) -> Self

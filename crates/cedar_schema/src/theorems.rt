@@ -2,33 +2,7 @@
 //! hash say of types, common types and namespaces with locations.
 
 ghost use Rattle.std.specs.Prelude.{◌≡◌, ◌↔◌, IsTrue, string_bytes, List, Ok, Err};
-ghost use Rattle.cedar_below.specs.Extensions.{extension_types};
-ghost use Rattle.cedar_below.specs.InternalName.{name_of};
-ghost use Rattle.cedar_below.specs.Lists.{Included};
-ghost use Rattle.cedar_below.specs.PlainName.{PlainName};
-ghost use Rattle.cedar_below.specs.TypeNames.{TypeNamesFit};
-ghost use Rattle.cedar_below.specs.declared.extension.Extensions.{Extensions};
-ghost use Rattle.cedar_below.specs.declared.validation_mode.ValidationMode.TheVariants.{Permissive};
-ghost use Rattle.cedar_declaration_laws.specs.EndToEnd.{HasRecordContexts, IsBuiltFrom};
-ghost use Rattle.cedar_declarations.specs.Bag.{Bag};
-ghost use Rattle.cedar_declarations.specs.ClosedSchema.{ClosesSchema};
-ghost use Rattle.cedar_declarations.specs.Counted.{PositionsFit};
-ghost use Rattle.cedar_declarations.specs.DeclaredSchema.{IsDeclaredSchema};
-ghost use Rattle.cedar_declarations.specs.Fault.{Fault, out_of_memory};
-ghost use Rattle.cedar_declarations.specs.IllFormed.{IsIllFormed};
-ghost use Rattle.cedar_declarations.specs.PlainSchema.{PlainSchema};
-ghost use Rattle.cedar_declarations.specs.SameBag.{SameBag};
-ghost use Rattle.cedar_declarations.specs.SameSchema.{SameSchema};
-ghost use Rattle.cedar_declarations.specs.ValidSchema.{IsValidSchema};
-ghost use Rattle.cedar_declarations.specs.ConvertedBack.{IsWritable, IsConvertedBack};
-ghost use Rattle.cedar_queries.specs.KnownAttributes.{AreKnownOfAll};
-ghost use Rattle.cedar_queries.specs.KnownLaws.{AreExactlyKnown};
-ghost use Rattle.cedar_schema.specs.LocatedType.{loc_at, type_at};
-ghost use Rattle.cedar_schema.specs.ValidatorSchema.{schema_of};
-ghost use Rattle.cedar_schema.specs.declared.schema.ValidatorSchema.{ValidatorSchema};
-ghost use Rattle.cedar_type_rules.specs.Below.{FieldsBelow};
-ghost use Rattle.cedar_type_rules.specs.Ty.{Fields};
-ghost use Rattle.cedar_types.specs.Meaning.{ty_of};
+ghost use Rattle.cedar_schema.specs.Words.{AreExactlyKnown, AreKnownOfAll, Bag, ClosesSchema, Extensions, Fault, Fields, FieldsBelow, HasRecordContexts, Included, IsBuiltFrom, IsConvertedBack, IsDeclaredSchema, IsIllFormed, IsValidSchema, IsWritable, Permissive, PlainName, PlainSchema, PositionsFit, SameBag, SameSchema, TypeNamesFit, ValidatorSchema, extension_types, loc_at, name_of, out_of_memory, schema_of, ty_of, type_at};
 
 use crate::located_common_type::LocatedCommonType;
 use crate::located_namespace::LocatedNamespace;

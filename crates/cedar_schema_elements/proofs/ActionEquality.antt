@@ -5,30 +5,19 @@ use Rattle.std.specs.Bool.{Decides}
 use Rattle.std.specs.HashSet.{hash_set_eq}
 use Rattle.cedar_below.proofs.Names.{entity_type_eq-same}
 use Rattle.cedar_below.proofs.Uids.{entity_uid_eq-same}
-use Rattle.cedar_below.specs.EntityType.{type_name}
-use Rattle.cedar_below.specs.EntityUID.{uid_of}
-use Rattle.cedar_below.specs.Lists.{SameItems}
+use Rattle.cedar_schema_elements.specs.Words.{ConditionalName, EntityType, SameActionKind, SameItems, ValidatorActionId, ValidatorActionKind, ValidatorApplySpec, action_of, conditional_reference, principal_names, principal_references, resource_names, resource_references, type_name, uid_of}
 use Rattle.cedar_below.specs.contracts.entity_type.EntityTypeEq.TheImpl as entity_type_equal
 use Rattle.cedar_below.specs.contracts.entity_type.EntityTypePartialEq.TheImpl as entity_type_eq
 use Rattle.cedar_below.specs.contracts.entity_uid.EntityUIDEq.TheImpl as uid_equal
 use Rattle.cedar_below.specs.contracts.entity_uid.EntityUIDPartialEq.TheImpl as uid_eq
-use Rattle.cedar_below.specs.declared.entity_type.EntityType.{EntityType}
-use Rattle.cedar_declarations.specs.SameSchema.{SameActionKind}
-use Rattle.cedar_names.specs.ConditionalName.{conditional_reference}
 use Rattle.cedar_names.specs.contracts.json_schema.conditional_name.ConditionalNameEq.TheImpl as reference_equal
 use Rattle.cedar_names.specs.contracts.json_schema.conditional_name.ConditionalNamePartialEq.TheImpl as reference_eq
-use Rattle.cedar_names.specs.declared.json_schema.conditional_name.ConditionalName.{ConditionalName}
 use Rattle.cedar_types.proofs.EqualityLaws.{none, types-Decides}
 use Rattle.cedar_schema_elements.proofs.SetLemmas.{reference-Decides, sets-Decides}
 use Rattle.cedar_schema_elements.specs.ActionKind.{plain_kind}
-use Rattle.cedar_schema_elements.specs.ValidatorActionId.{action_of}
-use Rattle.cedar_schema_elements.specs.ValidatorApplySpec.{principal_names, principal_references, resource_names, resource_references}
 use Rattle.cedar_schema_elements.specs.contracts.action_id.ValidatorActionIdPartialEq.TheImpl as action_eq
 use Rattle.cedar_schema_elements.specs.contracts.action_kind.ValidatorActionKindPartialEq.TheImpl as kind_eq
-use Rattle.cedar_schema_elements.specs.declared.action_id.ValidatorActionId.{ValidatorActionId}
-use Rattle.cedar_schema_elements.specs.declared.action_kind.ValidatorActionKind.{ValidatorActionKind}
 use Rattle.cedar_schema_elements.specs.declared.action_kind.ValidatorActionKind.TheVariants as variant
-use Rattle.cedar_schema_elements.specs.declared.apply_spec.ValidatorApplySpec.{ValidatorApplySpec}
 
 -- apply specs are equal exactly where they have the same principals and resources
 pub apply_specs-Decides : (a b : ValidatorApplySpec EntityType)

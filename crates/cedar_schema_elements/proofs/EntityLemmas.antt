@@ -10,29 +10,11 @@ use Rattle.std.specs.List.Sorted.{IsStrictlySortedBy}
 use Rattle.std.specs.Ordering.{is_eq}
 use Rattle.std.specs.declared.alloc.Global.{Global}
 use Rattle.std.specs.declared.string.String.{String}
-use Rattle.cedar_schema_elements.specs.ValidatorActionId.{action_of, plain_action_entry}
-use Rattle.cedar_schema_elements.specs.declared.action_id.ValidatorActionId.{ValidatorActionId}
+use Rattle.cedar_schema_elements.specs.Words.{ActionEntity, ActionKind, AreActionEntities, Entities, Entity, EntityUID, HasNode, IsDefinedKind, IsEntityOf, IsEntityOfAction, IsUpper, Lists, ListsBelow, PlainName, PlainUid, SchemaAction, SchemaEntityType, Twice, ValidatorActionId, Value, action_of, defined_action, entities_of, entity_at, entity_uid, entries_from, external_action, named_values, no_entry, plain_action_entity, plain_action_entry, schema_with, tree_of, uid_cmp, uid_of, upper_set, value_expr}
 use Rattle.cedar_below.proofs.Lists.{Contains-cons, Contains-cons_cases, Contains-preimage}
 use Rattle.cedar_below.proofs.PlainNames.{uid_cmp-total}
-use Rattle.cedar_below.specs.Entities.{entities_of, entity_at}
-use Rattle.cedar_below.specs.Entity.{entity_uid}
-use Rattle.cedar_below.specs.EntityUID.{uid_of}
-use Rattle.cedar_below.specs.PlainName.{PlainName}
-use Rattle.cedar_below.specs.PlainUid.{PlainUid, uid_cmp}
-use Rattle.cedar_below.specs.RestrictedExpr.{tree_of}
-use Rattle.cedar_below.specs.Tree.{entries_from, no_entry}
-use Rattle.cedar_below.specs.Value.{value_expr}
-use Rattle.cedar_below.specs.declared.entities.Entities.{Entities}
-use Rattle.cedar_below.specs.declared.entity.Entity.{Entity}
-use Rattle.cedar_below.specs.declared.entity_uid.EntityUID.{EntityUID}
-use Rattle.cedar_below.specs.declared.value.Value.{Value}
 use Rattle.cedar_declarations.proofs.OccurrenceLemmas.{Contains-image, Twice-sorted_by_name, uid_test}
-use Rattle.cedar_declarations.specs.ActionEntities.{AreActionEntities, IsDefinedKind, IsEntityOfAction}
-use Rattle.cedar_below.specs.Lists.{Twice}
-use Rattle.cedar_declarations.specs.PlainSchema.{ActionKind, defined_action, external_action, ActionEntity, SchemaAction, SchemaEntityType}
 use Rattle.cedar_schema_elements.proofs.KeyLemmas.{cmp, under}
-use Rattle.cedar_schema_elements.specs.ActionEntities.{IsEntityOf, Lists, named_values, plain_action_entity, schema_with}
-use Rattle.cedar_schema_elements.specs.Uppers.{HasNode, IsUpper, ListsBelow, upper_set}
 use Rattle.cedar_schema_elements.proofs.UpperLemmas.{node_more, node_plain}
 
 abbrev Item : Type 0

@@ -4,26 +4,10 @@ use Rattle.std.proofs.lemmas.List.{append-nil, map-append, map-id, take_more}
 use Rattle.std.proofs.lemmas.List.Concat.{flat_map_single}
 use Rattle.std.specs.declared.alloc.Global.{Global}
 use Rattle.std.specs.declared.rc.Rc.{Rc}
-use Rattle.cedar_below.specs.EntityType.{type_name}
-use Rattle.cedar_below.specs.declared.entity_type.EntityType.{EntityType}
-use Rattle.cedar_schema_elements.specs.ActionKind.{kind_context, kind_principals, kind_resources}
-use Rattle.cedar_schema_elements.specs.ValidatorActionId.{plain_action_entry}
-use Rattle.cedar_schema_elements.specs.declared.action_id.ValidatorActionId.{ValidatorActionId}
+use Rattle.cedar_schema_elements.specs.Words.{ActionKind, AreEnvironmentsOf, Entity, EntityType, EntityUID, Environment, IsRequestOf, PlainName, PlainUid, SchemaAction, SchemaEntityType, Twice, Ty, UnlinkedRequestEnv, ValidatorActionId, action_environments, defined_action, external_action, kind_context, kind_environments, kind_principals, kind_resources, owned_environment, plain_action_entry, schema_with, shared_name, type_name, with_principals, with_resources}
 use Rattle.cedar_below.proofs.Lists.{Contains-preimage}
-use Rattle.cedar_below.specs.PlainName.{PlainName}
-use Rattle.cedar_below.specs.PlainUid.{PlainUid}
-use Rattle.cedar_below.specs.declared.entity.Entity.{Entity}
-use Rattle.cedar_below.specs.declared.entity_uid.EntityUID.{EntityUID}
 use Rattle.cedar_declarations.proofs.OccurrenceLemmas.{Contains-flat_map, Contains-given, Contains-image, Contains-single, Twice-distinct}
-use Rattle.cedar_declarations.specs.Environments.{AreEnvironmentsOf, Environment, IsRequestOf}
-use Rattle.cedar_below.specs.Lists.{Twice}
-use Rattle.cedar_declarations.specs.PlainSchema.{ActionKind, SchemaAction, SchemaEntityType, defined_action, external_action}
 use Rattle.cedar_schema_elements.proofs.GivenLemmas.{all_differ, all_once}
-use Rattle.cedar_schema_elements.specs.ActionEntities.{schema_with}
-use Rattle.cedar_schema_elements.specs.RequestEnvironments.{action_environments, kind_environments, with_principals, with_resources}
-use Rattle.cedar_schema_elements.specs.RequestEnv.{owned_environment, shared_name}
-use Rattle.cedar_schema_elements.specs.declared.request_env.UnlinkedRequestEnv.{UnlinkedRequestEnv}
-use Rattle.cedar_type_rules.specs.Ty.{Ty}
 
 -- an environment of these parts
 abbrev pub environment : PlainUid → Ty → PlainName → PlainName → Environment

@@ -8,21 +8,10 @@ use Rattle.cedar_below.proofs.Names.{entity_type_ord-name_cmp}
 use Rattle.cedar_below.proofs.Ordered.{IsStrictlySortedBy-map}
 use Rattle.cedar_below.proofs.PlainNames.{name_cmp-total, uid_cmp-total}
 use Rattle.cedar_below.proofs.Uids.{entity_uid_ord-uid_cmp}
-use Rattle.cedar_below.specs.EntityType.{type_name}
-use Rattle.cedar_below.specs.EntityUID.{uid_of}
-use Rattle.cedar_below.specs.Lists.{Twice}
-use Rattle.cedar_below.specs.PlainName.{PlainName, name_cmp}
-use Rattle.cedar_below.specs.PlainUid.{PlainUid, uid_cmp}
+use Rattle.cedar_schema_elements.specs.Words.{EntityType, EntityUID, PlainName, PlainUid, SchemaAction, SchemaEntityType, Twice, ValidatorActionId, ValidatorEntityType, name_cmp, plain_action_entry, plain_entry, type_name, uid_cmp, uid_of}
 use Rattle.cedar_below.specs.contracts.entity_type.EntityTypeOrd.TheImpl as type_ord
 use Rattle.cedar_below.specs.contracts.entity_uid.EntityUIDOrd.TheImpl as uid_ord
-use Rattle.cedar_below.specs.declared.entity_type.EntityType.{EntityType}
-use Rattle.cedar_below.specs.declared.entity_uid.EntityUID.{EntityUID}
 use Rattle.cedar_declarations.proofs.OccurrenceLemmas.{Twice-sorted_by_name}
-use Rattle.cedar_declarations.specs.PlainSchema.{SchemaAction, SchemaEntityType}
-use Rattle.cedar_schema_elements.specs.ValidatorActionId.{plain_action_entry}
-use Rattle.cedar_schema_elements.specs.ValidatorEntityType.{plain_entry}
-use Rattle.cedar_schema_elements.specs.declared.action_id.ValidatorActionId.{ValidatorActionId}
-use Rattle.cedar_schema_elements.specs.declared.entity_type.ValidatorEntityType.{ValidatorEntityType}
 
 -- the order of uids in sets and maps
 abbrev pub cmp : EntityUID → EntityUID → Ordering

@@ -5,12 +5,7 @@ use Rattle.std.specs.declared.alloc.Global.{Global}
 use Rattle.std.specs.declared.string.String.{String}
 use Rattle.cedar_schema_elements.specs.ValidatorActionId.{plain_action_entry}
 use Rattle.cedar_schema_elements.specs.declared.action_id.ValidatorActionId.{ValidatorActionId}
-use Rattle.cedar_below.specs.Entity.{entity_uid, entity_attrs, entity_tags, entity_ancestors}
-use Rattle.cedar_below.specs.PlainName.{PlainName}
-use Rattle.cedar_below.specs.PlainUid.{PlainUid}
-use Rattle.cedar_below.specs.RestrictedExpr.{tree_of}
-use Rattle.cedar_below.specs.Tree.{Entries, entries_from, no_entry}
-use Rattle.cedar_below.specs.Value.{value_expr}
+use Rattle.cedar_below.specs.Words.{Entries, PlainName, PlainUid, entity_ancestors, entity_attrs, entity_tags, entity_uid, entries_from, no_entry, tree_of, value_expr}
 use Rattle.cedar_below.specs.declared.entity.Entity.{Entity}
 use Rattle.cedar_below.specs.declared.entity_uid.EntityUID.{EntityUID}
 use Rattle.cedar_below.specs.declared.value.Value.{Value}

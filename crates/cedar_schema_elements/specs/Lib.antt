@@ -7,3 +7,4 @@ pub mod Uppers
 pub mod ValidatorActionId
 pub mod ValidatorApplySpec
 pub mod ValidatorEntityType
+pub mod Words

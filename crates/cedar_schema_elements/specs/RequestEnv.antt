@@ -1,8 +1,6 @@
 use Rattle.std.specs.declared.alloc.Global.{Global}
 use Rattle.std.specs.declared.rc.Rc.{Rc}
-use Rattle.cedar_below.specs.EntityType.{type_name}
-use Rattle.cedar_below.specs.EntityUID.{uid_of}
-use Rattle.cedar_below.specs.PlainName.{PlainName}
+use Rattle.cedar_below.specs.Words.{PlainName, type_name, uid_of}
 use Rattle.cedar_below.specs.declared.entity_type.EntityType.{EntityType}
 use Rattle.cedar_declarations.specs.Environments.{Environment}
 use Rattle.cedar_schema_elements.specs.declared.request_env.RequestEnv.{RequestEnv}

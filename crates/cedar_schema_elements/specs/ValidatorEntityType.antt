@@ -1,10 +1,8 @@
 use Rattle.std.specs.Prelude.{◌≡◌, List, map, Option, None, Contains}
-use Rattle.cedar_below.specs.EntityType.{type_loc, type_name}
-use Rattle.cedar_below.specs.PlainName.{PlainName}
+use Rattle.cedar_below.specs.Words.{PlainName, type_loc, type_name}
 use Rattle.cedar_below.specs.declared.entity_type.EntityType.{EntityType}
 use Rattle.cedar_below.specs.declared.loc.Loc.{Loc}
-use Rattle.cedar_declarations.specs.EntityTypeKind.{EntityTypeKind}
-use Rattle.cedar_declarations.specs.PlainSchema.{SchemaEntityType}
+use Rattle.cedar_declarations.specs.Words.{EntityTypeKind, SchemaEntityType}
 use Rattle.cedar_schema_elements.specs.EntityTypeKind.{plain_kind, standard_attributes, standard_tags}
 use Rattle.cedar_schema_elements.specs.declared.entity_type.ValidatorEntityType.{ValidatorEntityType}
 use Rattle.cedar_schema_elements.specs.declared.entity_type_kind.ValidatorEntityTypeKind.{ValidatorEntityTypeKind}

@@ -43,18 +43,9 @@ impl Drop for ValidatorActionId {
 
 impl ValidatorActionId {
     ghost use Rattle.std.specs.Prelude.{◌≡◌, ◌≢◌, ◌↔◌, List, map, IsTrue, IfOk, Some, Contains, AllPairs};
-    ghost use Rattle.std.specs.Iterator.{IsFinite, Drains};
-    ghost use Rattle.std.specs.Option.{option_copied, option_map};
-    ghost use Rattle.cedar_schema_elements.specs.ActionKind.{plain_kind, kind_principals, kind_resources, kind_context};
-    ghost use Rattle.cedar_schema_elements.specs.ValidatorActionId.{action_loc, action_of, context_of, borrowed_context, name_loc, name_type_loc};
-    ghost use Rattle.cedar_below.specs.EntityType.{type_name};
-    ghost use Rattle.cedar_below.specs.EntityUID.{uid_loc, uid_of, uid_type_loc};
-    ghost use Rattle.cedar_below.specs.Lists.{SameItems};
-    ghost use Rattle.cedar_below.specs.declared.entity_type.EntityType.{EntityType};
-    ghost use Rattle.cedar_below.specs.declared.entity_uid.EntityUID.{EntityUID};
-    ghost use Rattle.cedar_declarations.specs.PlainSchema.{external_action};
-    ghost use Rattle.cedar_declarations.specs.SameSchema.{SameActionKind};
-    ghost use Rattle.cedar_types.specs.Meaning.{ty_of};
+    ghost use Rattle.cedar_schema_elements.specs.Words.{Drains, EntityType, EntityUID, IsFinite, SameActionKind, SameItems, action_loc, action_of, borrowed_context, context_of, external_action, kind_context, kind_principals, kind_resources, name_type_loc, option_copied, option_map, ty_of, type_name, uid_loc, uid_of, uid_type_loc};
+    ghost use Rattle.cedar_schema_elements.specs.ActionKind.{plain_kind};
+    ghost use Rattle.cedar_schema_elements.specs.ValidatorActionId.{name_loc};
 
     /// An action of some kind. The descendants have to come to an end.
     fn with_kind<D: IntoIterator<Item = EntityUID>>(

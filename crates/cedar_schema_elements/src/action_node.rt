@@ -1,17 +1,13 @@
 //! Actions as nodes of the hierarchy: each has an edge to each of its descendants.
 
 ghost use Rattle.std.specs.Prelude.{◌≡◌};
-ghost use Rattle.std.specs.HashSet.{contains};
+ghost use Rattle.cedar_schema_elements.specs.Words.{PlainUid, action_of, contains, duplicate_action, external_action, uid_cmp, uid_loc, uid_of, uid_type_loc};
 ghost use Rattle.std.proofs.Common.{refl, ◌∙◌, ap, sym};
 ghost use Rattle.cedar_below.proofs.Lists.{Contains-preimage, list_any-Contains};
 ghost use Rattle.cedar_below.proofs.PlainNames.{uid_cmp-total};
 ghost use Rattle.cedar_below.proofs.Uids.{entity_uid_eq-same, entity_uid_ord-Equal, entity_uid_ord-uid_cmp, entity_uid_searches-respect_eq};
-ghost use Rattle.cedar_below.specs.EntityUID.{uid_loc, uid_of, uid_type_loc};
-ghost use Rattle.cedar_below.specs.PlainUid.{PlainUid, uid_cmp};
-ghost use Rattle.cedar_declarations.specs.Fault.{duplicate_action};
-ghost use Rattle.cedar_declarations.specs.PlainSchema.{external_action};
 ghost use Rattle.cedar_schema_elements.specs.ActionKind.{plain_kind};
-ghost use Rattle.cedar_schema_elements.specs.ValidatorActionId.{IsLocatedAsKey, action_of};
+ghost use Rattle.cedar_schema_elements.specs.ValidatorActionId.{IsLocatedAsKey};
 
 use crate::action_id::ValidatorActionId;
 use crate::schema_node::SchemaNode;

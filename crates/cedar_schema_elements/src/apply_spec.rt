@@ -18,8 +18,7 @@ pub struct ValidatorApplySpec<N: Eq + Hash> {
 
 impl<N: Eq + Hash> ValidatorApplySpec<N> {
     ghost use Rattle.std.specs.Prelude.{◌≡◌};
-    ghost use Rattle.std.specs.List.{IsDistinct};
-    ghost use Rattle.cedar_schema_elements.specs.ValidatorApplySpec.{principal_types, resource_types};
+    ghost use Rattle.cedar_schema_elements.specs.Words.{IsDistinct, principal_types, resource_types};
 
     /// The requests of these principals and these resources.
     pub fn new(principals: HashSet<N>, resources: HashSet<N>) -> Self
@@ -51,9 +50,7 @@ impl<N: Eq + Hash> ValidatorApplySpec<N> {
 
 impl ValidatorApplySpec<EntityType> {
     ghost use Rattle.std.specs.Prelude.{◌↔◌, IsTrue, IfOk, Contains};
-    ghost use Rattle.cedar_schema_elements.specs.ValidatorApplySpec.{principal_names, resource_names};
-    ghost use Rattle.cedar_below.specs.EntityType.{type_name};
-    ghost use Rattle.cedar_below.specs.Lists.{SameItems};
+    ghost use Rattle.cedar_schema_elements.specs.Words.{SameItems, principal_names, resource_names, type_name};
 
     /// Whether the entity type is one of the principals.
     pub fn is_applicable_principal_type(&self, ty: &EntityType) -> bool
@@ -85,8 +82,7 @@ impl ValidatorApplySpec<EntityType> {
 
 impl ValidatorApplySpec<ConditionalName> {
     ghost use Rattle.std.specs.Prelude.{IfOk};
-    ghost use Rattle.cedar_schema_elements.specs.ValidatorApplySpec.{principal_references, resource_references};
-    ghost use Rattle.cedar_below.specs.Lists.{SameItems};
+    ghost use Rattle.cedar_schema_elements.specs.Words.{SameItems, principal_references, resource_references};
 
     /// Equal sets. Out of memory is the only refusal.
     pub fn clone(&self) -> M<Self>

@@ -1,14 +1,8 @@
 //! The entities of the actions of a schema.
 
 ghost use Rattle.std.specs.Prelude.{◌≡◌, ◌≢◌, IfOk, List, OnOk};
-ghost use Rattle.cedar_below.specs.Entities.{entities_of};
-ghost use Rattle.cedar_below.specs.EntityUID.{uid_of};
-ghost use Rattle.cedar_below.specs.PlainName.{PlainName};
+ghost use Rattle.cedar_schema_elements.specs.Words.{AreActionEntities, IsEntityOf, IsUpper, PlainName, SchemaEntityType, entities_of, plain_action_entity, schema_with, uid_of, upper_set};
 ghost use Rattle.cedar_below.specs.declared.entity_uid.EntityUID.{EntityUID as Key};
-ghost use Rattle.cedar_declarations.specs.ActionEntities.{AreActionEntities};
-ghost use Rattle.cedar_declarations.specs.PlainSchema.{SchemaEntityType};
-ghost use Rattle.cedar_schema_elements.specs.ActionEntities.{IsEntityOf, plain_action_entity, schema_with};
-ghost use Rattle.cedar_schema_elements.specs.Uppers.{IsUpper, upper_set};
 
 use crate::action_id::ValidatorActionId;
 use crate::uppers::{Uppers, upper_sets};
@@ -42,10 +36,7 @@ fn action_entity(alloc: Global, uppers: &mut Uppers<EntityUID>, uid: &EntityUID)
 /// The entities of the actions of a schema: one for each action that is defined, without attributes
 /// and tags, just below the actions that list it among their descendants, external ones too. Out
 /// of memory is the only refusal.
-pub fn action_entities(
-    alloc: Global,
-    actions: &Table<EntityUID, ValidatorActionId>,
-) -> M<Entities>
+pub fn action_entities(alloc: Global, actions: &Table<EntityUID, ValidatorActionId>) -> M<Entities>
     ensures { IfOk result (λ entities. (types : List (PlainName × SchemaEntityType))
         → AreActionEntities (schema_with types actions.now.entries (entities_of entities))) }
 {

@@ -36,20 +36,7 @@ pub struct ValidatorEntityType {
 
 impl ValidatorEntityType {
     ghost use Rattle.std.specs.Prelude.{◌≡◌, ◌↔◌, List, ◌∷◌, map, IsTrue, IfOk, Contains};
-    ghost use Rattle.std.specs.Iterator.{IsFinite, Drains};
-    ghost use Rattle.std.specs.Option.{option_copied, option_map};
-    ghost use Rattle.cedar_below.specs.Eid.{eid_text};
-    ghost use Rattle.cedar_below.specs.EntityType.{type_loc, type_name};
-    ghost use Rattle.cedar_below.specs.Text.{Text};
-    ghost use Rattle.cedar_below.specs.declared.entity_type.EntityType.{EntityType};
-    ghost use Rattle.cedar_schema_elements.specs.EntityTypeKind.{plain_kind};
-    ghost use Rattle.cedar_declarations.specs.EntityTypeKind.{standard_kind, enumerated_kind, external_kind, kind_fields, kind_openness, kind_tags};
-    ghost use Rattle.cedar_declarations.specs.ValidSchema.{IsEnumerated};
-    ghost use Rattle.cedar_types.specs.Located.{located, located_at};
-    ghost use Rattle.cedar_types.specs.Meaning.{ty_of, attribute_of, fields_of};
-    ghost use Rattle.cedar_type_rules.specs.Ty.{field_at};
-    ghost use Rattle.cedar_schema_elements.specs.ValidatorEntityType.{attributes_of, descendant_names, entity_type_of, name_loc, tags_of};
-    ghost use Rattle.cedar_below.specs.Lists.{SameItems};
+    ghost use Rattle.cedar_schema_elements.specs.Words.{Drains, EntityType, IsEnumerated, IsFinite, SameItems, Text, attribute_of, attributes_of, descendant_names, eid_text, entity_type_of, enumerated_kind, external_kind, field_at, fields_of, kind_fields, kind_openness, kind_tags, located, located_at, name_loc, option_copied, option_map, plain_kind, standard_kind, tags_of, ty_of, type_loc, type_name};
 
     /// An entity type of some kind. The descendants have to come to an end.
     fn with_kind<I: IntoIterator<Item = EntityType>>(

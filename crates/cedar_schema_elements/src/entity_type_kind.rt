@@ -1,13 +1,7 @@
 //! How an entity type of a schema is declared.
 
 ghost use Rattle.std.specs.Prelude.{◌≡◌, IfOk};
-ghost use Rattle.std.specs.Option.{option_copied, option_map};
-ghost use Rattle.cedar_schema_elements.specs.EntityTypeKind.{plain_standard, plain_kind, standard_attributes, standard_tags};
-ghost use Rattle.cedar_declarations.specs.EntityTypeKind.{standard_kind, kind_fields, kind_openness, kind_tags};
-ghost use Rattle.cedar_below.specs.Text.{Text};
-ghost use Rattle.cedar_schema_elements.specs.ValidatorEntityType.{kind_attributes};
-ghost use Rattle.cedar_types.specs.Meaning.{ty_of, fields_of};
-ghost use Rattle.cedar_types.specs.Located.{located_at};
+ghost use Rattle.cedar_schema_elements.specs.Words.{Text, fields_of, kind_attributes, kind_fields, kind_openness, kind_tags, located_at, option_copied, option_map, plain_kind, plain_standard, standard_attributes, standard_kind, standard_tags, ty_of};
 ghost use Rattle.cedar_types.specs.declared.attributes.Attributes.{Attributes as AttributesOf};
 
 use cedar_below::{Eid, M, NonEmpty};

@@ -1,16 +1,10 @@
 //! Entity types as nodes of the hierarchy: each has an edge to each of its descendants.
 
 ghost use Rattle.std.specs.Prelude.{◌≡◌};
-ghost use Rattle.std.specs.HashSet.{contains};
+ghost use Rattle.cedar_schema_elements.specs.Words.{IsLocatedAsKey, PlainName, contains, descendant_names, duplicate_entity_type, entity_type_of, external_kind, name_cmp, plain_kind, type_loc, type_name};
 ghost use Rattle.std.proofs.Common.{refl, ◌∙◌, ap, sym};
 ghost use Rattle.cedar_below.proofs.Names.{entity_type_eq-same, entity_type_ord-Equal, entity_type_ord-name_cmp, entity_type_searches-respect_eq};
 ghost use Rattle.cedar_below.proofs.PlainNames.{name_cmp-total};
-ghost use Rattle.cedar_below.specs.EntityType.{type_loc, type_name};
-ghost use Rattle.cedar_below.specs.PlainName.{PlainName, name_cmp};
-ghost use Rattle.cedar_declarations.specs.EntityTypeKind.{external_kind};
-ghost use Rattle.cedar_declarations.specs.Fault.{duplicate_entity_type};
-ghost use Rattle.cedar_schema_elements.specs.EntityTypeKind.{plain_kind};
-ghost use Rattle.cedar_schema_elements.specs.ValidatorEntityType.{IsLocatedAsKey, descendant_names, entity_type_of};
 ghost use Rattle.cedar_types.proofs.MemberLemmas.{Contains-named, list_any-names};
 
 use crate::entity_type::ValidatorEntityType;

@@ -2,15 +2,7 @@
 //! name.
 
 ghost use Rattle.std.specs.Prelude.{◌↔◌, Contains, IfErr, IfOk, OnOk, map};
-ghost use Rattle.cedar_below.specs.EntityType.{type_name};
-ghost use Rattle.cedar_below.specs.PlainName.{PlainName, IsReserved};
-ghost use Rattle.cedar_declarations.specs.DeclaredSchema.{IsNamedBy};
-ghost use Rattle.cedar_declarations.specs.Names.{ResolvesTo};
-ghost use Rattle.cedar_declarations.specs.SchemaError.{fault_of};
-ghost use Rattle.cedar_fragments.specs.HeldNames.{held_names};
-ghost use Rattle.cedar_fragments.specs.QualifyFault.{IsUnresolvable};
-ghost use Rattle.cedar_names.specs.ConditionalName.{conditional_reference};
-ghost use Rattle.cedar_names.specs.Reference.{Reference};
+ghost use Rattle.cedar_schema_elements.specs.Words.{IsNamedBy, IsReserved, IsUnresolvable, PlainName, Reference, ResolvesTo, conditional_reference, fault_of, held_names, type_name};
 
 use crate::apply_spec::ValidatorApplySpec;
 use cedar_below::EntityType;

@@ -1,24 +1,14 @@
 //! The environments of the requests that the actions of a schema are for.
 
 ghost use Rattle.std.specs.Prelude.{◌≡◌, ◌≢◌, ◌++◌, AllPairs, IfOk, List, OnOk, map};
-ghost use Rattle.cedar_schema_elements.specs.ActionKind.{kind_resources};
-ghost use Rattle.cedar_schema_elements.specs.ValidatorActionId.{action_of};
-ghost use Rattle.cedar_below.specs.EntityType.{type_name};
-ghost use Rattle.cedar_below.specs.EntityUID.{uid_of};
-ghost use Rattle.cedar_below.specs.PlainName.{PlainName};
+ghost use Rattle.cedar_schema_elements.specs.Words.{AreEnvironmentsOf, PlainName, SchemaEntityType, action_of, kind_resources, owned_environment, schema_with, shared_name, ty_of, type_name, uid_of, with_principals, with_resources};
 ghost use Rattle.cedar_below.specs.declared.entity.Entity.{Entity as ActionEntity};
-ghost use Rattle.cedar_declarations.specs.Environments.{AreEnvironmentsOf};
-ghost use Rattle.cedar_declarations.specs.PlainSchema.{SchemaEntityType};
-ghost use Rattle.cedar_schema_elements.specs.ActionEntities.{schema_with};
-ghost use Rattle.cedar_schema_elements.specs.RequestEnvironments.{with_principals, with_resources};
-ghost use Rattle.cedar_schema_elements.specs.RequestEnv.{owned_environment, shared_name};
-ghost use Rattle.cedar_types.specs.Meaning.{ty_of};
 
 use crate::action_id::ValidatorActionId;
 use crate::request_env::UnlinkedRequestEnv;
 use cedar_below::{EntityType, EntityUID, M};
-use cedar_types::Type;
 use cedar_table::Table;
+use cedar_types::Type;
 use std::alloc::Global;
 use std::collections::hash_set;
 use std::rc::Rc;

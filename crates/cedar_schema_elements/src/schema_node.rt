@@ -1,11 +1,7 @@
 //! What entity types and actions of a schema have in common.
 
 ghost use Rattle.std.specs.Prelude.{◌≡◌, ◌↔◌, Contains, IfOk, IsTrue, List, map};
-ghost use Rattle.std.specs.Cmp.{IsTotalOrder};
-ghost use Rattle.std.specs.declared.cmp.Ordering.{Ordering};
-ghost use Rattle.std.specs.declared.cmp.Ordering.TheVariants.{Equal};
-ghost use Rattle.cedar_declarations.specs.Fault.{Fault};
-ghost use Rattle.cedar_declarations.specs.SchemaError.{fault_of};
+ghost use Rattle.cedar_schema_elements.specs.Words.{Equal, Fault, IsTotalOrder, Ordering, fault_of};
 
 use cedar_below::M;
 use cedar_declarations::SchemaError;

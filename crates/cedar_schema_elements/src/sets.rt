@@ -1,15 +1,7 @@
 //! Sets of entity types and of uids, collected and copied.
 
 ghost use Rattle.std.specs.Prelude.{◌≡◌, IsTrue, IfOk, Result, List, map};
-ghost use Rattle.std.specs.Fn.{FnReturnsAt};
-ghost use Rattle.std.specs.HashSet.{contains};
-ghost use Rattle.std.specs.Iterator.{IsFinite, Drains};
-ghost use Rattle.cedar_below.specs.EntityType.{type_name};
-ghost use Rattle.cedar_below.specs.EntityUID.{uid_of};
-ghost use Rattle.cedar_below.specs.Lists.{SameItems};
-ghost use Rattle.cedar_below.specs.declared.entity_type.EntityType.{EntityType};
-ghost use Rattle.cedar_below.specs.declared.entity_uid.EntityUID.{EntityUID};
-ghost use Rattle.cedar_below.specs.declared.memory.Memory.{Memory};
+ghost use Rattle.cedar_schema_elements.specs.Words.{Drains, EntityType, EntityUID, FnReturnsAt, IsFinite, Memory, SameItems, contains, type_name, uid_of};
 
 use cedar_below::{EntityType, EntityUID, M};
 use std::alloc::Global;

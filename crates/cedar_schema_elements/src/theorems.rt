@@ -1,21 +1,7 @@
 //! Laws of entity types and of actions: comparisons, and edges.
 
 ghost use Rattle.std.specs.Prelude.{◌≡◌, ◌↔◌, IsTrue, Contains};
-ghost use Rattle.cedar_below.specs.EntityUID.{uid_of};
-ghost use Rattle.cedar_below.specs.Lists.{SameItems};
-ghost use Rattle.cedar_below.specs.declared.entity_type.EntityType.{EntityType};
-ghost use Rattle.cedar_below.specs.declared.entity_uid.EntityUID.{EntityUID};
-ghost use Rattle.cedar_declarations.specs.SameSchema.{SameActionKind};
-ghost use Rattle.cedar_names.specs.declared.json_schema.conditional_name.ConditionalName.{ConditionalName};
-ghost use Rattle.cedar_schema_elements.specs.EntityTypeKind.{plain_kind, plain_standard};
-ghost use Rattle.cedar_schema_elements.specs.ValidatorActionId.{action_of};
-ghost use Rattle.cedar_schema_elements.specs.ValidatorApplySpec.{principal_names, principal_references, resource_names, resource_references};
-ghost use Rattle.cedar_schema_elements.specs.ValidatorEntityType.{entity_type_of, descendant_names};
-ghost use Rattle.cedar_schema_elements.specs.declared.action_id.ValidatorActionId.{ValidatorActionId};
-ghost use Rattle.cedar_schema_elements.specs.declared.apply_spec.ValidatorApplySpec.{ValidatorApplySpec};
-ghost use Rattle.cedar_schema_elements.specs.declared.entity_type.ValidatorEntityType.{ValidatorEntityType};
-ghost use Rattle.cedar_schema_elements.specs.declared.entity_type_kind.StandardValidatorEntityType.{StandardValidatorEntityType};
-ghost use Rattle.cedar_schema_elements.specs.declared.entity_type_kind.ValidatorEntityTypeKind.{ValidatorEntityTypeKind};
+ghost use Rattle.cedar_schema_elements.specs.Words.{ConditionalName, EntityType, EntityUID, SameActionKind, SameItems, StandardValidatorEntityType, ValidatorActionId, ValidatorApplySpec, ValidatorEntityType, ValidatorEntityTypeKind, action_of, descendant_names, entity_type_of, plain_kind, plain_standard, principal_names, principal_references, resource_names, resource_references, uid_of};
 
 use crate::action_id::ValidatorActionId;
 use crate::apply_spec::ValidatorApplySpec;

@@ -14,15 +14,9 @@ use Rattle.std.specs.declared.cmp.Ordering.{Ordering}
 use Rattle.std.specs.declared.cmp.Ordering.TheVariants.{Less, Equal, Greater}
 use Rattle.cedar_below.proofs.Lists.{Contains-cons}
 use Rattle.cedar_below.proofs.Names.{name_ord-name_cmp}
-use Rattle.cedar_below.specs.Name.{plain_name}
+use Rattle.cedar_schema_writer.specs.Words.{Declaration, Definitions, Name, NamespaceDefinition, RawName, definitions_bag, plain_name, plain_namespace, raw_declarations}
 use Rattle.cedar_below.specs.contracts.name.NameOrd.TheImpl as name_ord
-use Rattle.cedar_below.specs.declared.name.Name.{Name}
 use Rattle.cedar_declarations.proofs.OccurrenceLemmas.{name_test}
-use Rattle.cedar_names.specs.Declaration.{Declaration, raw_declarations}
-use Rattle.cedar_names.specs.declared.json_schema.fragment.NamespaceDefinition.{NamespaceDefinition}
-use Rattle.cedar_names.specs.declared.json_schema.raw_name.RawName.{RawName}
-use Rattle.cedar_schema_writer.specs.Definitions.{Definitions, definitions_bag}
-use Rattle.cedar_schema_writer.specs.Parts.{plain_namespace}
 
 -- namespaces tie where they stand for one
 pub namespace_tie : (namespace other : Option Name) → is_at (option_cmp ((name_ord.ghosts).cmp) namespace) other ≡ true

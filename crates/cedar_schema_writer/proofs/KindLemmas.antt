@@ -2,28 +2,8 @@
 use Rattle.std.proofs.Common.{◌≡◌, ◌↔◌, List, [], ◌∷◌, Option, None, Some, map, ap, sym, subst, ◌∙◌, refl, inl, inr, arith, string_bytes, Contains}
 use Rattle.std.proofs.lemmas.Simd.{map-map}
 use Rattle.cedar_below.proofs.Lists.{Contains-cons, Contains-preimage}
-use Rattle.cedar_below.specs.PlainName.{PlainName}
+use Rattle.cedar_schema_writer.specs.Words.{ActionEntityUID, ActionKind, AreFullNames, AreRequestsWritten, Entity, EntityBody, EntityTypeKind, Expr, Fields, IsKindWritten, IsPrincipalOrResourceOf, IsSoundAction, IsSoundKind, IsSoundType, Names, NamesNoOther, OpenTag, PlainName, RawName, Reference, Text, Ty, defined_action, elsewhere, enumerated, enumerated_kind, external, external_action, external_kind, full_name, full_uid, kind_context, kind_fields, kind_openness, kind_principals, kind_resources, kind_tags, parent_action, parent_type, raw_name, raw_reference, record_of, requests, standard, standard_kind, type_written, written_action_type, written_uid}
 use Rattle.cedar_declarations.proofs.OccurrenceLemmas.{Contains-image}
-use Rattle.cedar_declarations.specs.EntityTypeKind.{EntityTypeKind, standard_kind, enumerated_kind, external_kind, kind_fields, kind_openness, kind_tags}
-use Rattle.cedar_declarations.specs.Names.{Names}
-use Rattle.cedar_declarations.specs.PlainSchema.{ActionKind, defined_action, external_action}
-use Rattle.cedar_declarations.specs.ValidSchema.{IsPrincipalOrResourceOf}
-use Rattle.cedar_declarations.specs.ConvertedBack.{AreFullNames, AreRequestsWritten, IsKindWritten, NamesNoOther, full_name, full_uid, type_written}
-use Rattle.cedar_schema_elements.specs.ActionKind.{kind_context, kind_principals, kind_resources}
-use Rattle.cedar_below.specs.Text.{Text}
-use Rattle.cedar_names.specs.ActionBody.{elsewhere, parent_action, parent_type, requests}
-use Rattle.cedar_names.specs.Expr.{Expr}
-use Rattle.cedar_names.specs.RawExpr.{raw_reference}
-use Rattle.cedar_names.specs.RawName.{raw_name}
-use Rattle.cedar_names.specs.declared.json_schema.action_type.ActionEntityUID.{ActionEntityUID}
-use Rattle.cedar_names.specs.declared.json_schema.raw_name.RawName.{RawName}
-use Rattle.cedar_names.specs.declared.json_schema.reference_type.ReferenceType.TheVariants.{Entity}
-use Rattle.cedar_schema_writer.specs.Parts.{written_action_type, written_uid}
-use Rattle.cedar_names.specs.EntityBody.{EntityBody, standard, enumerated, external}
-use Rattle.cedar_names.specs.Reference.{Reference}
-use Rattle.cedar_type_rules.specs.Ty.{Fields, Ty, record_of}
-use Rattle.cedar_type_rules.specs.declared.open_tag.OpenTag.{OpenTag}
-use Rattle.cedar_schema_writer.specs.Sound.{IsSoundAction, IsSoundKind, IsSoundType}
 
 module _ {A B : Type 0} (f : A → B) where
   -- images are just those of the items

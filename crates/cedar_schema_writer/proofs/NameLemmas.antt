@@ -5,19 +5,8 @@ use Rattle.std.proofs.Math.Seq.{take-length}
 use Rattle.std.proofs.lemmas.List.{map_more}
 use Rattle.std.proofs.lemmas.List.Elements.{Contains-append_cases, Contains-append_left, Contains-append_right}
 use Rattle.cedar_below.proofs.Lists.{Contains-cons}
-use Rattle.cedar_below.specs.Id.{id_text}
-use Rattle.cedar_below.specs.Identifier.{reserved_word}
-use Rattle.cedar_below.specs.Name.{plain_name}
-use Rattle.cedar_below.specs.PlainName.{PlainName, IsReserved}
-use Rattle.cedar_below.specs.PlainUid.{PlainUid}
-use Rattle.cedar_below.specs.Text.{Text}
-use Rattle.cedar_below.specs.declared.id.Id.{Id}
-use Rattle.cedar_below.specs.declared.name.Name.{Name}
-use Rattle.cedar_schema_writer.specs.Parts.{plain_namespace}
-use Rattle.cedar_names.specs.Reference.{name_within, path_within}
+use Rattle.cedar_schema_writer.specs.Words.{Id, IsPathOf, IsReserved, Name, Names, NamesNoOther, NamesNoOtherAction, PlainName, PlainUid, Text, id_text, name_within, path_within, plain_name, plain_namespace, reserved_word}
 use Rattle.cedar_declarations.proofs.OccurrenceLemmas.{Contains-single}
-use Rattle.cedar_declarations.specs.Names.{Names}
-use Rattle.cedar_declarations.specs.ConvertedBack.{IsPathOf, NamesNoOther, NamesNoOtherAction}
 
 -- a list with an item at its end isn't empty
 pub ends_in-nil : {A : Type 0} (front : List A) (last : A) → front ++ last ∷ [] ≢ []

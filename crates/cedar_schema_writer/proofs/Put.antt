@@ -5,12 +5,9 @@ use Rattle.std.proofs.lemmas.List.Elements.{Contains-append_cases, Contains-appe
 use Rattle.std.proofs.lemmas.List.Sorted.{Contains-permutation, IsPermutation-append_left, IsPermutation-refl, IsPermutation-sym, IsPermutation-trans}
 use Rattle.std.specs.List.Sorted.{IsPermutation}
 use Rattle.cedar_below.proofs.Lists.{Contains-cons}
-use Rattle.cedar_below.specs.Lists.{HoldsPairwise, Twice}
+use Rattle.cedar_schema_writer.specs.Words.{ArePut, Bag, Declaration, HoldsPairwise, Twice}
 use Rattle.cedar_declarations.proofs.OccurrenceLemmas.{Contains-image, Contains-single, Twice-both}
 use Rattle.cedar_declarations.proofs.TurnLemmas.{turn_back, turn_forth}
-use Rattle.cedar_declarations.specs.Bag.{Bag}
-use Rattle.cedar_names.specs.Declaration.{Declaration}
-use Rattle.cedar_schema_writer.specs.Definitions.{ArePut}
 
 -- two lists in turn after two others
 pairwise_append : {A B : Type 0} (R : A → B → Type 0) (xs xs' : List A) (ys ys' : List B) → HoldsPairwise R xs ys → HoldsPairwise R xs' ys'

@@ -1,7 +1,6 @@
 -- Why nothing is written, carried from a part to the whole.
 use Rattle.std.proofs.Common.{◌≡◌, Result, Ok, Err, IfErr, IsErrAnd}
-use Rattle.cedar_schema_writer.specs.Refusal.{Refuses}
-use Rattle.cedar_schema_writer.specs.declared.write_back_fault.WriteBackFault.{WriteBackFault}
+use Rattle.cedar_schema_writer.specs.Words.{Refuses, WriteBackFault}
 use Rattle.cedar_schema_writer.specs.declared.write_back_fault.WriteBackFault.TheVariants as fault
 
 -- where one fact implies another, what is refused for the one is refused for the other

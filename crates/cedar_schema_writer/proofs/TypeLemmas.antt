@@ -12,21 +12,8 @@ use Rattle.std.specs.declared.string.String.{String}
 use Rattle.cedar_below.proofs.Lists.{Contains-cons}
 use Rattle.cedar_below.proofs.Ordered.{above_front, insert_entry-end}
 use Rattle.cedar_below.proofs.Texts.{text_cmp-total}
-use Rattle.cedar_below.specs.PlainName.{PlainName}
-use Rattle.cedar_below.specs.Text.{Text, text_cmp}
+use Rattle.cedar_schema_writer.specs.Words.{ClosedAttributes, Expr, Fields, IsSortedByName, IsSoundType, Members, Names, NamesNoOther, PlainName, RawName, Text, Ty, TypeOfAttribute, end, extension_of, field, field_names, fields_written, member, members_from, no_member, only_name, plain_members, raw_attribute, record_expr, record_of, set_of, text_cmp, type_written, union_of}
 use Rattle.cedar_declarations.proofs.OccurrenceLemmas.{Contains-single}
-use Rattle.cedar_declarations.specs.Names.{Names}
-use Rattle.cedar_declarations.specs.ConvertedBack.{NamesNoOther, fields_written, type_written}
-use Rattle.cedar_names.specs.Expr.{Expr, Members, member, members_from, no_member, record_expr}
-use Rattle.cedar_names.specs.PlainMembers.{plain_members}
-use Rattle.cedar_names.specs.RawExpr.{raw_attribute}
-use Rattle.cedar_names.specs.declared.json_schema.raw_name.RawName.{RawName}
-use Rattle.cedar_names.specs.declared.json_schema.type_of.TypeOfAttribute.{TypeOfAttribute}
-use Rattle.cedar_type_rules.specs.EntityUnion.{only_name}
-use Rattle.cedar_type_rules.specs.Fields.{IsSortedByName, field_names}
-use Rattle.cedar_type_rules.specs.Ty.{Fields, Ty, end, extension_of, field, record_of, set_of, union_of}
-use Rattle.cedar_type_rules.specs.declared.open_tag.OpenTag.TheVariants.{ClosedAttributes}
-use Rattle.cedar_schema_writer.specs.Sound.{IsSoundType}
 
 abbrev mutual
   -- how many parts a type has

@@ -3,27 +3,12 @@ use Rattle.std.proofs.Common.{◌≡◌, ◌↔◌, ◌++◌, List, [], ◌∷�
 use Rattle.std.proofs.lemmas.List.Elements.{Contains-append_cases, Contains-append_left, Contains-append_right}
 use Rattle.std.proofs.lemmas.List.Sorted.{Contains-permutation, IsPermutation-append_left, IsPermutation-sym, IsPermutation-trans}
 use Rattle.cedar_below.proofs.Lists.{Contains-preimage}
-use Rattle.cedar_below.specs.EntityType.{type_name}
-use Rattle.cedar_below.specs.PlainName.{PlainName, IsActionType}
-use Rattle.cedar_below.specs.PlainUid.{PlainUid}
-use Rattle.cedar_below.specs.Text.{Text}
+use Rattle.cedar_schema_writer.specs.Words.{ActionBody, ActionEntity, ArePut, Bag, Declaration, Entity, IsActionDeclaration, IsActionType, IsConvertedBack, IsDefined, IsPathOf, IsSoundActionEntry, IsSoundEntityType, IsTypeDeclaration, IsWritable, Known, ListsDescendant, ListsDescendantAction, Names, NamesNoOther, NamesNoOtherAction, PlainName, PlainSchema, PlainUid, SchemaAction, SchemaEntityType, Text, action_declared, full_name, known_names, known_schema, parts_schema, schema_names, type_name}
 use Rattle.cedar_declarations.proofs.OccurrenceLemmas.{Contains-image}
 use Rattle.cedar_declarations.proofs.ResolutionLemmas.{IsFirst-like}
 use Rattle.cedar_declarations.proofs.TurnLemmas.{turn_back, turn_forth}
 use Rattle.cedar_below.proofs.TurnLemmas.{turn_weaker}
-use Rattle.cedar_declarations.specs.Bag.{Bag}
-use Rattle.cedar_declarations.specs.Names.{IsDefined, Names}
-use Rattle.cedar_declarations.specs.PlainSchema.{ActionEntity, PlainSchema, SchemaAction, SchemaEntityType}
-use Rattle.cedar_declarations.specs.ConvertedBack.{IsActionDeclaration, IsPathOf, IsTypeDeclaration, IsWritable, IsConvertedBack, NamesNoOther, NamesNoOtherAction, full_name, schema_names}
-use Rattle.cedar_declarations.specs.ValidSchema.{ListsDescendant, ListsDescendantAction}
-use Rattle.cedar_names.specs.ActionBody.{ActionBody}
-use Rattle.cedar_names.specs.Declaration.{Declaration}
-use Rattle.cedar_names.specs.declared.json_schema.reference_type.ReferenceType.TheVariants.{Entity}
 use Rattle.cedar_schema_writer.proofs.Written.{none_there}
-use Rattle.cedar_schema_writer.specs.Definitions.{ArePut, action_declared}
-use Rattle.cedar_schema_writer.specs.Parts.{known_names, known_schema, parts_schema}
-use Rattle.cedar_schema_writer.specs.Sound.{IsSoundActionEntry, IsSoundEntityType}
-use Rattle.cedar_schema_writer.specs.declared.known.Known.{Known}
 
 -- where the same entity types are known, a name names no other both times
 no_other-same : (names other : Names) → ((name : PlainName) → Contains names.entities name ↔ Contains other.entities name)

@@ -4,18 +4,10 @@ use Rattle.std.specs.List.{flat_map}
 use Rattle.std.specs.List.Sorted.{IsPermutation}
 use Rattle.std.specs.Map.{values_of}
 use Rattle.std.specs.Option.{is_some}
-use Rattle.cedar_below.specs.Lists.{HoldsPairwise}
-use Rattle.cedar_below.specs.PlainName.{PlainName}
-use Rattle.cedar_below.specs.Text.{Text}
+use Rattle.cedar_below.specs.Words.{HoldsPairwise, PlainName, PlainUid, Text}
 use Rattle.cedar_below.specs.declared.name.Name.{Name}
-use Rattle.cedar_declarations.specs.Bag.{Bag}
-use Rattle.cedar_declarations.specs.PlainSchema.{ActionKind}
-use Rattle.cedar_declarations.specs.ConvertedBack.{AreRequestsWritten, full_uid}
-use Rattle.cedar_below.specs.PlainUid.{PlainUid}
-use Rattle.cedar_names.specs.ActionBody.{ActionBody, Requests, applies_to, elsewhere}
-use Rattle.cedar_names.specs.Declaration.{Declaration, entity_type, action, raw_declarations}
-use Rattle.cedar_names.specs.EntityBody.{EntityBody}
-use Rattle.cedar_names.specs.RawExpr.{raw_reference}
+use Rattle.cedar_declarations.specs.Words.{ActionKind, AreRequestsWritten, Bag, full_uid}
+use Rattle.cedar_names.specs.Words.{ActionBody, Declaration, EntityBody, Requests, action, applies_to, elsewhere, entity_type, raw_declarations, raw_reference}
 use Rattle.cedar_names.specs.declared.json_schema.action_type.ApplySpec.{ApplySpec}
 use Rattle.cedar_names.specs.declared.json_schema.action_type.ActionType.{ActionType}
 use Rattle.cedar_names.specs.declared.json_schema.fragment.NamespaceDefinition.{NamespaceDefinition}

@@ -2,3 +2,4 @@ pub mod Definitions
 pub mod Parts
 pub mod Refusal
 pub mod Sound
+pub mod Words

@@ -1,13 +1,7 @@
 -- What can be written in a namespace.
 use Rattle.std.specs.Prelude.{Option, IsSome, Contains}
-use Rattle.cedar_below.specs.PlainName.{IsActionType, PlainName}
-use Rattle.cedar_below.specs.PlainUid.{PlainUid}
-use Rattle.cedar_declarations.specs.EntityTypeKind.{EntityTypeKind}
-use Rattle.cedar_declarations.specs.Names.{Names}
-use Rattle.cedar_declarations.specs.PlainSchema.{ActionKind, PlainSchema, SchemaAction, SchemaEntityType}
-use Rattle.cedar_declarations.specs.TypeMentions.{MentionsEntity}
-use Rattle.cedar_declarations.specs.ValidSchema.{HasAction, HasEntityType, IsContextOf, IsEnumerated, IsPrincipalOrResourceOf, IsTypeOfKind, ListsDescendant, ListsDescendantAction}
-use Rattle.cedar_declarations.specs.ConvertedBack.{IsPathOf, NamesNoOther, NamesNoOtherAction, type_written}
+use Rattle.cedar_below.specs.Words.{IsActionType, PlainName, PlainUid}
+use Rattle.cedar_declarations.specs.Words.{ActionKind, EntityTypeKind, HasAction, HasEntityType, IsContextOf, IsEnumerated, IsPathOf, IsPrincipalOrResourceOf, IsTypeOfKind, ListsDescendant, ListsDescendantAction, MentionsEntity, Names, NamesNoOther, NamesNoOtherAction, PlainSchema, SchemaAction, SchemaEntityType, type_written}
 use Rattle.cedar_type_rules.specs.Ty.{Ty}
 use Rattle.cedar_schema_writer.specs.Parts.{known_names, known_schema}
 use Rattle.cedar_schema_writer.specs.declared.known.Known.{Known}

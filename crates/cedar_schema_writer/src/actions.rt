@@ -1,22 +1,8 @@
 //! Actions, converted back as declarations.
 
 ghost use Rattle.std.specs.Prelude.{◌≡◌, ◌↔◌, Contains, IfErr, IfOk, List, OnOk, Option, false, map};
-ghost use Rattle.cedar_schema_elements.specs.ValidatorActionId.{action_of};
-ghost use Rattle.cedar_below.specs.EntityUID.{uid_of};
-ghost use Rattle.cedar_below.specs.PlainUid.{PlainUid};
+ghost use Rattle.cedar_schema_writer.specs.Words.{ActionBody, AppliesIfDefined, AreProper, ArePut, AreRequestsWritten, IsActionDeclaration, IsActionWritten, IsSoundAction, IsSoundActionEntry, IsUpper, ListsDescendantAction, PlainName, PlainUid, Refuses, SchemaAction, Text, action_body, action_declared, action_of, definitions_bag, known_names, known_schema, parent_action, plain_namespace, raw_reference, requests_written, uid_of, written_uid};
 ghost use Rattle.cedar_below.specs.declared.entity_uid.EntityUID.{EntityUID as Key};
-ghost use Rattle.cedar_below.specs.PlainName.{PlainName};
-ghost use Rattle.cedar_below.specs.Text.{Text};
-ghost use Rattle.cedar_declarations.specs.PlainSchema.{SchemaAction};
-ghost use Rattle.cedar_declarations.specs.ValidSchema.{ListsDescendantAction};
-ghost use Rattle.cedar_schema_elements.specs.Uppers.{IsUpper};
-ghost use Rattle.cedar_declarations.specs.ConvertedBack.{AreRequestsWritten, IsActionDeclaration};
-ghost use Rattle.cedar_names.specs.ActionBody.{ActionBody, action_body, parent_action};
-ghost use Rattle.cedar_names.specs.RawExpr.{raw_reference};
-ghost use Rattle.cedar_schema_writer.specs.Definitions.{AppliesIfDefined, AreProper, ArePut, IsActionWritten, action_declared, definitions_bag, requests_written};
-ghost use Rattle.cedar_schema_writer.specs.Parts.{known_names, known_schema, plain_namespace, written_uid};
-ghost use Rattle.cedar_schema_writer.specs.Refusal.{Refuses};
-ghost use Rattle.cedar_schema_writer.specs.Sound.{IsSoundAction, IsSoundActionEntry};
 
 use crate::definitions::{Definitions, put_action};
 use crate::known::Known;

@@ -4,13 +4,7 @@ ghost use Rattle.std.specs.Prelude.{◌≡◌, ◌++◌, All, Contains, IfOk, On
 ghost use Rattle.std.specs.BTreeMap.{get};
 ghost use Rattle.std.specs.List.Sorted.{IsPermutation};
 ghost use Rattle.std.specs.Map.{values_of};
-ghost use Rattle.cedar_below.specs.UnreservedId.{unreserved_id_text};
-ghost use Rattle.cedar_names.specs.ActionBody.{ActionBody, action_body};
-ghost use Rattle.cedar_names.specs.Declaration.{raw_declarations};
-ghost use Rattle.cedar_names.specs.EntityBody.{EntityBody, raw_entity_body};
-ghost use Rattle.cedar_names.specs.RawExpr.{raw_reference};
-ghost use Rattle.cedar_schema_writer.specs.Definitions.{AppliesIfDefined, AreProper, action_declared, definitions_bag, type_declared};
-ghost use Rattle.cedar_schema_writer.specs.Parts.{plain_namespace};
+ghost use Rattle.cedar_schema_writer.specs.Words.{ActionBody, AppliesIfDefined, AreProper, EntityBody, action_body, action_declared, definitions_bag, plain_namespace, raw_declarations, raw_entity_body, raw_reference, type_declared, unreserved_id_text};
 
 use cedar_below::{M, Name, UnreservedId, put};
 use cedar_names::json_schema::{ActionType, EntityType, NamespaceDefinition, RawName};

@@ -1,30 +1,11 @@
 //! Entity types, converted back as declarations.
 
-ghost use Rattle.std.specs.Prelude.{◌≡◌, ◌↔◌, Contains, IfErr, IfOk, OnOk, Option, map};
+ghost use Rattle.std.specs.Prelude.{◌≡◌, ◌↔◌, Contains, IfErr, IfOk, OnOk, Option, map, ◌≢◌, List, [], Some, false};
 ghost use Rattle.std.specs.Option.{option_copied, option_map};
-ghost use Rattle.cedar_below.specs.Eid.{eid_text};
-ghost use Rattle.cedar_below.specs.NonEmpty.{items_of};
-ghost use Rattle.cedar_types.specs.Meaning.{ty_of};
-ghost use Rattle.cedar_below.specs.EntityType.{type_name};
-ghost use Rattle.cedar_below.specs.PlainName.{PlainName};
+ghost use Rattle.cedar_schema_writer.specs.Words.{AreProper, ArePut, AreTagsWritten, IsKindWritten, IsSoundEntityType, IsSoundKind, IsSoundType, IsTypeDeclaration, IsUpper, ListsDescendant, PlainName, Refuses, SchemaEntityType, Ty, definitions_bag, eid_text, entity_type_of, enumerated, external, items_of, kind_body, kind_fields, kind_openness, kind_tags, known_names, known_schema, plain_namespace, raw_entity_body, raw_expr, raw_name, raw_reference, record_of, standard_kind, ty_of, type_name, type_written};
 ghost use Rattle.cedar_below.specs.declared.entity_type.EntityType.{EntityType as TypeKey};
-ghost use Rattle.cedar_declarations.specs.EntityTypeKind.{kind_fields, kind_openness, kind_tags, standard_kind};
-ghost use Rattle.cedar_declarations.specs.PlainSchema.{SchemaEntityType};
-ghost use Rattle.cedar_declarations.specs.ValidSchema.{ListsDescendant};
-ghost use Rattle.cedar_schema_elements.specs.Uppers.{IsUpper};
-ghost use Rattle.cedar_declarations.specs.ConvertedBack.{AreTagsWritten, IsKindWritten, IsTypeDeclaration, type_written};
-ghost use Rattle.cedar_schema_elements.specs.ValidatorEntityType.{entity_type_of};
-ghost use Rattle.cedar_names.specs.EntityBody.{enumerated, external, kind_body, raw_entity_body};
-ghost use Rattle.cedar_names.specs.RawExpr.{raw_expr, raw_reference};
-ghost use Rattle.cedar_names.specs.RawName.{raw_name};
 ghost use Rattle.cedar_names.specs.declared.json_schema.entity_type.EntityTypeKind.TheVariants as written_kind;
 ghost use Rattle.cedar_names.specs.declared.json_schema.reference_type.ReferenceType.TheVariants as reference;
-ghost use Rattle.cedar_type_rules.specs.Ty.{Ty, record_of};
-ghost use Rattle.cedar_schema_writer.specs.Definitions.{AreProper, ArePut, definitions_bag};
-ghost use Rattle.cedar_schema_writer.specs.Parts.{known_names, known_schema, plain_namespace};
-ghost use Rattle.cedar_schema_writer.specs.Refusal.{Refuses};
-ghost use Rattle.cedar_schema_writer.specs.Sound.{IsSoundEntityType, IsSoundKind, IsSoundType};
-ghost use Rattle.std.specs.Prelude.{◌≢◌, List, [], Some, false};
 
 use crate::definitions::{Definitions, put_entity_type};
 use crate::known::Known;

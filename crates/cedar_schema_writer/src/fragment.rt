@@ -1,12 +1,7 @@
 //! A schema, converted back as a fragment.
 
 ghost use Rattle.std.specs.Prelude.{Contains, IfErr, IfOk, List, OnOk};
-ghost use Rattle.cedar_declarations.specs.PlainSchema.{ActionEntity};
-ghost use Rattle.cedar_declarations.specs.ConvertedBack.{IsWritable, IsConvertedBack};
-ghost use Rattle.cedar_names.specs.Declaration.{raw_fragment};
-ghost use Rattle.cedar_schema_writer.specs.Definitions.{AreProper};
-ghost use Rattle.cedar_schema_writer.specs.Parts.{parts_schema};
-ghost use Rattle.cedar_schema_writer.specs.Refusal.{Refuses};
+ghost use Rattle.cedar_schema_writer.specs.Words.{ActionEntity, AreProper, IsConvertedBack, IsWritable, Refuses, parts_schema, raw_fragment};
 
 use crate::actions::write_actions;
 use crate::entity_types::write_entity_types;

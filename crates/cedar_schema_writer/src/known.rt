@@ -1,16 +1,7 @@
 //! Names that are written in full, and what they would name.
 
 ghost use Rattle.std.specs.Prelude.{◌≡◌, ◌↔◌, Contains, IfErr, IfOk, IsTrue, OnOk, List, map};
-ghost use Rattle.cedar_schema_elements.specs.ValidatorActionId.{plain_action_entry};
-ghost use Rattle.cedar_below.specs.EntityType.{type_name};
-ghost use Rattle.cedar_below.specs.EntityUID.{uid_of};
-ghost use Rattle.cedar_below.specs.PlainName.{PlainName};
-ghost use Rattle.cedar_below.specs.PlainUid.{PlainUid};
-ghost use Rattle.cedar_declarations.specs.PlainSchema.{SchemaAction, SchemaEntityType};
-ghost use Rattle.cedar_declarations.specs.ConvertedBack.{NamesNoOther, NamesNoOtherAction};
-ghost use Rattle.cedar_names.specs.RawName.{raw_name};
-ghost use Rattle.cedar_schema_writer.specs.Parts.{known_names, known_schema, plain_namespace, written_uid};
-ghost use Rattle.cedar_schema_writer.specs.Refusal.{Refuses};
+ghost use Rattle.cedar_schema_writer.specs.Words.{NamesNoOther, NamesNoOtherAction, PlainName, PlainUid, Refuses, SchemaAction, SchemaEntityType, known_names, known_schema, plain_action_entry, plain_namespace, raw_name, type_name, uid_of, written_uid};
 
 use crate::names::within;
 use crate::write_back_fault::WriteBackFault;

@@ -1,14 +1,7 @@
 //! The namespaces and the ids of names.
 
-ghost use Rattle.std.specs.Prelude.{◌≡◌, IfOk, map};
-ghost use Rattle.cedar_below.specs.EntityType.{type_name};
-ghost use Rattle.cedar_below.specs.Id.{id_text};
-ghost use Rattle.cedar_below.specs.Name.{plain_name};
-ghost use Rattle.cedar_below.specs.UnreservedId.{unreserved_id_text};
-ghost use Rattle.cedar_names.specs.Reference.{name_within};
-ghost use Rattle.std.specs.Prelude.{Some};
-ghost use Rattle.cedar_declarations.specs.ConvertedBack.{IsPathOf};
-ghost use Rattle.cedar_schema_writer.specs.Parts.{plain_namespace};
+ghost use Rattle.std.specs.Prelude.{◌≡◌, IfOk, map, Some};
+ghost use Rattle.cedar_schema_writer.specs.Words.{IsPathOf, id_text, name_within, plain_name, plain_namespace, type_name, unreserved_id_text};
 
 use cedar_below::{EntityType, Id, InternalName, M, Name, UnreservedId};
 use std::alloc::Global;

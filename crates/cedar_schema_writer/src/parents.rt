@@ -2,16 +2,7 @@
 
 ghost use Rattle.std.specs.Prelude.{◌≡◌, ◌↔◌, Contains, IfErr, IfOk, OnOk, Option, map};
 ghost use Rattle.std.specs.Map.{keys_of};
-ghost use Rattle.cedar_below.specs.EntityType.{type_name};
-ghost use Rattle.cedar_below.specs.EntityUID.{uid_of};
-ghost use Rattle.cedar_below.specs.PlainName.{PlainName};
-ghost use Rattle.cedar_below.specs.PlainUid.{PlainUid};
-ghost use Rattle.cedar_declarations.specs.ConvertedBack.{NamesNoOther, NamesNoOtherAction};
-ghost use Rattle.cedar_declarations.specs.Names.{Names};
-ghost use Rattle.cedar_names.specs.RawName.{raw_name};
-ghost use Rattle.cedar_schema_elements.specs.Uppers.{IsUpper};
-ghost use Rattle.cedar_schema_writer.specs.Parts.{known_names, plain_namespace, written_uid};
-ghost use Rattle.cedar_schema_writer.specs.Refusal.{Refuses};
+ghost use Rattle.cedar_schema_writer.specs.Words.{IsUpper, Names, NamesNoOther, NamesNoOtherAction, PlainName, PlainUid, Refuses, known_names, plain_namespace, raw_name, type_name, uid_of, written_uid};
 
 use crate::known::Known;
 use crate::write_back_fault::WriteBackFault;

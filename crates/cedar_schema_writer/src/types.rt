@@ -1,21 +1,11 @@
 //! Types, converted back as expressions of a fragment.
 
-ghost use Rattle.std.specs.Prelude.{◌≡◌, IfErr, IfOk, OnOk, Option, Some, string_bytes};
+ghost use Rattle.std.specs.Prelude.{◌≡◌, IfErr, IfOk, OnOk, Option, Some, string_bytes, List};
 ghost use Rattle.std.specs.BTreeMap.{insert_entry};
 ghost use Rattle.std.specs.String.{string_cmp};
 ghost use Rattle.std.specs.declared.string.String.{String as Text};
-ghost use Rattle.std.specs.Prelude.{List};
-ghost use Rattle.cedar_below.specs.Name.{plain_name};
-ghost use Rattle.cedar_below.specs.PlainName.{PlainName};
-ghost use Rattle.cedar_declarations.specs.ConvertedBack.{type_written};
-ghost use Rattle.cedar_names.specs.RawExpr.{raw_attribute, raw_expr, raw_variant};
-ghost use Rattle.cedar_type_rules.specs.Ty.{Ty, extension_of, record_of, set_of};
+ghost use Rattle.cedar_schema_writer.specs.Words.{IsSoundType, PlainName, Refuses, Ty, extension_of, fields_of, kind_ty, known_names, plain_name, plain_namespace, raw_attribute, raw_expr, raw_variant, record_of, set_of, ty_of, type_written};
 ghost use Rattle.cedar_type_rules.specs.declared.open_tag.OpenTag.TheVariants as openness;
-ghost use Rattle.cedar_types.specs.EntityKind.{kind_ty};
-ghost use Rattle.cedar_types.specs.Meaning.{fields_of, ty_of};
-ghost use Rattle.cedar_schema_writer.specs.Parts.{known_names, plain_namespace};
-ghost use Rattle.cedar_schema_writer.specs.Refusal.{Refuses};
-ghost use Rattle.cedar_schema_writer.specs.Sound.{IsSoundType};
 
 use crate::known::Known;
 use crate::names::base_id;

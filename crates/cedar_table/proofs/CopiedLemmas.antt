@@ -10,8 +10,7 @@ use Rattle.std.specs.Ordering.{ordering_reverse}
 use Rattle.std.specs.declared.cmp.Ordering.{Ordering}
 use Rattle.std.specs.declared.cmp.Ordering.TheVariants.{Equal, Greater}
 use Rattle.cedar_below.proofs.Ordered.{above_front, insert_entry-end}
-use Rattle.cedar_below.specs.Lists.{HoldsPairwise}
-use Rattle.cedar_below.specs.declared.memory.Memory.{Memory}
+use Rattle.cedar_table.specs.Words.{HoldsPairwise, Memory}
 use Rattle.cedar_below.proofs.TurnLemmas.{turn_more}
 
 -- a copy ties with the key of an entry

@@ -9,10 +9,7 @@ use Rattle.std.specs.Hash.{HashWrites}
 use Rattle.std.specs.Map.{keys_of, lookup}
 use Rattle.std.specs.Ordering.{is_eq}
 use Rattle.std.specs.declared.cmp.Ordering.{Ordering}
-use Rattle.cedar_table.specs.StandsAt.{StandsAt}
-use Rattle.cedar_table.specs.declared.hints.Hints.{Hints}
-use Rattle.cedar_table.specs.Hints.{AreHinted, hash_by, LeadsTo, RowHas, row_of, tag_of}
-use Rattle.cedar_table.specs.declared.hints.Hint.{Hint}
+use Rattle.cedar_table.specs.Words.{AreHinted, Hint, Hints, LeadsTo, RowHas, StandsAt, hash_by, row_of, tag_of}
 
 -- what is never some value is none
 none_from_no_some : {X : Type 0} (option : Option X) → ((x : X) → ¬ (option ≡ Some x)) → option ≡ None

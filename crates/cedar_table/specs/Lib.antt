@@ -1,3 +1,4 @@
 pub mod Entries
 pub mod Hints
 pub mod StandsAt
+pub mod Words

@@ -1,8 +1,7 @@
 //! Equality and `Debug` of tables, which go by the entries alone, as those of maps do.
 
 ghost use Rattle.std.specs.Prelude.{◌&&◌};
-ghost use Rattle.std.specs.Cmp.{and_equiv, and_per, on_equiv, on_per};
-ghost use Rattle.std.specs.Cmp.Lexicographic.{lists_equiv, lists_per, pointwise};
+ghost use Rattle.cedar_table.specs.Words.{and_equiv, and_per, lists_equiv, lists_per, on_equiv, on_per, pointwise};
 
 use crate::table::Table;
 use std::fmt;

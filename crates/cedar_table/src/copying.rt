@@ -1,10 +1,7 @@
 //! Tables copied, by calls that copy keys and values.
 
 ghost use Rattle.std.specs.Prelude.{◌≡◌, IfOk, Ok, Result};
-ghost use Rattle.std.specs.Fn.{FnReturnsAt};
-ghost use Rattle.std.specs.declared.cmp.Ordering.TheVariants.{Equal};
-ghost use Rattle.cedar_below.specs.Lists.{HoldsPairwise};
-ghost use Rattle.cedar_below.specs.declared.memory.Memory.{Memory};
+ghost use Rattle.cedar_table.specs.Words.{Equal, FnReturnsAt, HoldsPairwise, Memory};
 
 use crate::table::Table;
 use cedar_below::M;

@@ -1,8 +1,7 @@
 //! Hints: where in a list of entries a key may stand, by the hash of the key.
 
 ghost use Rattle.std.specs.Prelude.{◌≡◌, ℕ, false, IfNone, IfOk, IfSome, IsTrue, length};
-ghost use Rattle.std.specs.Map.{keys_of};
-ghost use Rattle.cedar_table.specs.Hints.{AreHinted, LeadToAll, LeadsTo, hash_by, row_of, tag_of};
+ghost use Rattle.cedar_table.specs.Words.{AreHinted, LeadToAll, LeadsTo, hash_by, keys_of, row_of, tag_of};
 
 use cedar_below::M;
 use std::alloc::Global;

@@ -1,9 +1,7 @@
 //! The iterators over a table. Each is seen as the list of what it has left.
 
 ghost use Rattle.std.specs.Prelude.{◌≡◌, length};
-ghost use Rattle.std.specs.Iterator.{at_most};
-ghost use Rattle.std.specs.Map.{keys_of, values_of};
-ghost use Rattle.std.specs.Map.Iter.{TakesFirst, TakesLast, deref, deref_pair};
+ghost use Rattle.cedar_table.specs.Words.{TakesFirst, TakesLast, at_most, deref, deref_pair, keys_of, values_of};
 
 use std::iter::FusedIterator;
 use std::marker::Model;
@@ -78,8 +76,7 @@ pub struct Keys<'a, K, V> {
 
 impl<'a, K, V> Model for Keys<'a, K, V> {
     ghost use Rattle.std.specs.Prelude.{List};
-    ghost use Rattle.std.specs.Map.{keys_of};
-    ghost use Rattle.std.specs.Slice.Iter.{iter_rest};
+    ghost use Rattle.cedar_table.specs.Words.{iter_rest, keys_of};
 
     ghost Value = { List K };
 
@@ -140,8 +137,7 @@ pub struct Values<'a, K, V> {
 
 impl<'a, K, V> Model for Values<'a, K, V> {
     ghost use Rattle.std.specs.Prelude.{List};
-    ghost use Rattle.std.specs.Map.{values_of};
-    ghost use Rattle.std.specs.Slice.Iter.{iter_rest};
+    ghost use Rattle.cedar_table.specs.Words.{iter_rest, values_of};
 
     ghost Value = { List V };
 

@@ -1,11 +1,7 @@
 //! The place of a key in a sorted list of entries.
 
 ghost use Rattle.std.specs.Prelude.{◌≡◌, ◌↔◌, IfNone, IfSome, IsTrue, None};
-ghost use Rattle.std.specs.BTreeMap.{is_at};
-ghost use Rattle.std.specs.List.Sorted.{IsStrictlySortedBy};
-ghost use Rattle.std.specs.Map.{keys_of, lookup};
-ghost use Rattle.cedar_table.specs.Hints.{AreHinted};
-ghost use Rattle.cedar_table.specs.StandsAt.{StandsAt};
+ghost use Rattle.cedar_table.specs.Words.{AreHinted, IsStrictlySortedBy, StandsAt, is_at, keys_of, lookup};
 
 use crate::hints::Hints;
 use std::hash::Hash;

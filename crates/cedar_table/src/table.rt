@@ -2,8 +2,8 @@
 
 use crate::hints::Hints;
 use crate::iter::{Iter, Keys, Values};
-use crate::table_keys::TableKeys;
 use crate::search::place_of;
+use crate::table_keys::TableKeys;
 use cedar_below::M;
 use std::alloc::Global;
 use std::collections::BTreeMap;
@@ -20,10 +20,7 @@ pub struct Table<K: Ord + Hash, V> {
 }
 
 impl<K: Ord + Hash, V> Model for Table<K, V> {
-    ghost use Rattle.std.specs.List.Sorted.{IsStrictlySortedBy};
-    ghost use Rattle.std.specs.Map.{keys_of};
-    ghost use Rattle.cedar_table.specs.Entries.{Entries};
-    ghost use Rattle.cedar_table.specs.Hints.{AreHinted};
+    ghost use Rattle.cedar_table.specs.Words.{AreHinted, Entries, IsStrictlySortedBy, keys_of};
 
     ghost Value = { Entries K V };
 
@@ -45,8 +42,7 @@ impl<K: Ord + Hash + Drop, V: Drop> Drop for Table<K, V> {
 
 impl<K: Ord + Hash, V> Table<K, V> {
     ghost use Rattle.std.specs.Prelude.{◌≡◌, []};
-    ghost use Rattle.std.specs.List.Sorted.{IsStrictlySortedBy};
-    ghost use Rattle.std.specs.Map.{keys_of, values_of};
+    ghost use Rattle.cedar_table.specs.Words.{IsStrictlySortedBy, keys_of, values_of};
 
     /// The table without entries.
     pub fn new(alloc: Global) -> Self
@@ -91,9 +87,7 @@ impl<K: Ord + Hash, V> Table<K, V> {
 
 impl<K: Ord + Hash + Drop, V: Drop> Table<K, V> {
     ghost use Rattle.std.specs.Prelude.{◌≡◌, IfOk, OnOk, length};
-    ghost use Rattle.std.specs.List.{zip};
-    ghost use Rattle.std.specs.List.Sorted.{IsStrictlySortedBy};
-    ghost use Rattle.std.specs.Map.{keys_of, values_of};
+    ghost use Rattle.cedar_table.specs.Words.{IsStrictlySortedBy, keys_of, values_of, zip};
 
     /// The entries of a map. Out of memory is the only refusal.
     pub fn from_map(alloc: Global, map: BTreeMap<K, V>) -> M<Self>
@@ -150,9 +144,7 @@ impl<K: Ord + Hash + Drop, V: Drop> Table<K, V> {
 
 impl<K: Ord + Hash, V> Table<K, V> {
     ghost use Rattle.std.specs.Prelude.{◌≡◌, ◌<◌, ℕ, IfNone, IfSome, None, is_some, length};
-    ghost use Rattle.std.specs.Option.{option_copied};
-    ghost use Rattle.cedar_table.specs.Entries.{get_by};
-    ghost use Rattle.cedar_table.specs.StandsAt.{StandsAt};
+    ghost use Rattle.cedar_table.specs.Words.{StandsAt, get_by, option_copied};
 
     /// How many entries there are.
     pub fn len(&self) -> usize
@@ -187,8 +179,7 @@ impl<K: Ord + Hash, V> Table<K, V> {
 
 impl<'a, K: Ord + Hash, V> IntoIterator for &'a Table<K, V> {
     ghost use Rattle.std.specs.Prelude.{◌≡◌};
-    ghost use Rattle.std.specs.List.Sorted.{IsStrictlySortedBy};
-    ghost use Rattle.std.specs.Map.{keys_of};
+    ghost use Rattle.cedar_table.specs.Words.{IsStrictlySortedBy, keys_of};
 
     type Item = (&'a K, &'a V);
 

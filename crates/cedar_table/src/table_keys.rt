@@ -12,8 +12,7 @@ pub struct TableKeys<K: Ord + Hash> {
 
 impl<K: Ord + Hash> Model for TableKeys<K> {
     ghost use Rattle.std.specs.Prelude.{List};
-    ghost use Rattle.std.specs.List.Sorted.{IsStrictlySortedBy};
-    ghost use Rattle.cedar_table.specs.Hints.{AreHinted};
+    ghost use Rattle.cedar_table.specs.Words.{AreHinted, IsStrictlySortedBy};
 
     ghost Value = { List K };
 
@@ -46,8 +45,7 @@ impl<K: Ord + Hash> TableKeys<K> {
 
 impl<K: Ord + Hash + Drop> TableKeys<K> {
     ghost use Rattle.std.specs.Prelude.{◌≡◌};
-    ghost use Rattle.std.specs.List.Sorted.{IsStrictlySortedBy};
-    ghost use Rattle.cedar_table.specs.Hints.{AreHinted};
+    ghost use Rattle.cedar_table.specs.Words.{AreHinted, IsStrictlySortedBy};
 
     /// The keys, and the hints to them.
     pub(crate) fn into_parts(self) -> (Vec<K>, Hints)

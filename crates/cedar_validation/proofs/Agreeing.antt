@@ -2,20 +2,10 @@
 use Rattle.std.proofs.Common.{◌≡◌, ◌↔◌, ◌∙◌, List, map, inl, inr, subst, sym, Contains}
 use Rattle.cedar_below.proofs.Chains.{first_step, last_step, refined}
 use Rattle.cedar_below.proofs.Lists.{Contains-preimage}
-use Rattle.cedar_below.specs.Chain.{Chain, one}
-use Rattle.cedar_below.specs.Lists.{HoldsPairwise}
-use Rattle.cedar_below.specs.PlainName.{PlainName}
-use Rattle.cedar_below.specs.PlainUid.{PlainUid}
-use Rattle.cedar_below.specs.declared.extension.Extensions.{Extensions}
+use Rattle.cedar_validation.specs.Words.{ActionKind, Chain, ClosesAction, ClosesType, EntityTypeKind, Extensions, Fault, HoldsPairwise, IsContextOf, IsEnumerated, IsExternal, IsPrincipalOrResourceOf, IsSchemaFault, IsTypeIn, IsTypeOfKind, IsUnknownType, ListsDescendant, ListsDescendantAction, PlainName, PlainSchema, PlainUid, SchemaAction, SchemaEntityType, Ty, action_cycle, action_entity_type, action_shadowing, enumerated_below, external_below_enumerated, invalid_action_type, one, type_shadowing, undeclared_action_descendant, undeclared_entity_types, unknown_extension_type}
 use Rattle.cedar_declarations.proofs.OccurrenceLemmas.{Contains-image}
 use Rattle.cedar_declarations.proofs.TurnLemmas.{turn_forth}
 use Rattle.cedar_below.proofs.TurnLemmas.{turn_weaker}
-use Rattle.cedar_declarations.specs.ClosedSchema.{ClosesAction, ClosesType}
-use Rattle.cedar_declarations.specs.EntityTypeKind.{EntityTypeKind}
-use Rattle.cedar_declarations.specs.Fault.{Fault, undeclared_entity_types, unknown_extension_type, action_entity_type, invalid_action_type, action_cycle, external_below_enumerated, enumerated_below, undeclared_action_descendant, type_shadowing, action_shadowing}
-use Rattle.cedar_declarations.specs.PlainSchema.{ActionKind, PlainSchema, SchemaAction, SchemaEntityType}
-use Rattle.cedar_declarations.specs.ValidSchema.{IsContextOf, IsEnumerated, IsExternal, IsPrincipalOrResourceOf, IsSchemaFault, IsTypeIn, IsTypeOfKind, IsUnknownType, ListsDescendant, ListsDescendantAction}
-use Rattle.cedar_type_rules.specs.Ty.{Ty}
 use Rattle.cedar_validation.proofs.Pairwise.{pairwise_back}
 
 -- what items list, and of what kinds they are

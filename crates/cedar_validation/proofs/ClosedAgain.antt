@@ -1,12 +1,6 @@
 -- A schema that closes a closed one: what is at fault in it, and what it closes.
 use Rattle.std.proofs.Common.{◌∙◌}
-use Rattle.cedar_below.specs.PlainName.{PlainName}
-use Rattle.cedar_below.specs.PlainUid.{PlainUid}
-use Rattle.cedar_below.specs.declared.extension.Extensions.{Extensions}
-use Rattle.cedar_declarations.specs.ClosedSchema.{ClosesAction, ClosesSchema, ClosesType}
-use Rattle.cedar_declarations.specs.Fault.{Fault}
-use Rattle.cedar_declarations.specs.PlainSchema.{PlainSchema, SchemaAction, SchemaEntityType}
-use Rattle.cedar_declarations.specs.ValidSchema.{IsSchemaFault}
+use Rattle.cedar_validation.specs.Words.{ClosesAction, ClosesSchema, ClosesType, Extensions, Fault, IsSchemaFault, PlainName, PlainSchema, PlainUid, SchemaAction, SchemaEntityType}
 use Rattle.cedar_validation.proofs.Agreeing.{action_shape, actions_closed, fault_back as closed_fault, leads_back, type_shape, types_closed}
 use Rattle.cedar_validation.proofs.Pairwise.{pairwise_joined}
 

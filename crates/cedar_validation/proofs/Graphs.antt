@@ -2,11 +2,7 @@
 use Rattle.std.proofs.Common.{◌≡◌, ◌↔◌, Bool, IsTrue, List, ap, sym, refl, Contains}
 use Rattle.std.specs.Cmp.{IsEquivalence}
 use Rattle.cedar_below.proofs.Chains.{first_step, joined, last_step}
-use Rattle.cedar_below.specs.Chain.{Chain, one, more}
-use Rattle.cedar_graph.specs.Tables.{HasEntry, IsClosedTo, IsTableFault, StepsTo}
-use Rattle.cedar_graph.specs.declared.table_fault.TableFault.{TableFault}
-use Rattle.cedar_graph.specs.declared.table_fault.TableFault.TheVariants.{HasCycle, Lacks, Memory}
-use Rattle.cedar_validation.specs.Listed.{IsClosedOf, IsListFault, ListsIn}
+use Rattle.cedar_validation.specs.Words.{Chain, HasCycle, HasEntry, IsClosedOf, IsClosedTo, IsListFault, IsTableFault, Lacks, ListsIn, Memory, StepsTo, TableFault, more, one}
 
 -- keys and nodes, with what the keys stand for, and what the nodes list
 pub record Graph (K V P : Type 0) : Type 1 where

@@ -9,25 +9,13 @@ use Rattle.std.specs.Map.{keys_of}
 use Rattle.std.specs.Ordering.{is_eq}
 use Rattle.cedar_below.proofs.Lists.{Contains-preimage}
 use Rattle.cedar_below.proofs.Names.{entity_type_ord-Equal}
-use Rattle.cedar_below.specs.Chain.{one}
-use Rattle.cedar_below.specs.EntityType.{type_name}
-use Rattle.cedar_below.specs.PlainName.{PlainName}
+use Rattle.cedar_validation.specs.Words.{EntityType, EntityTypeKind, Fault, HasEntityType, IsBelowFault, IsBelowSound, IsEnumerated, IsExternal, IsOfKind, IsPairSound, IsRefusal, IsSchemaFault, ListsDescendant, Parts, PlainName, SchemaEntityType, StandsAt, ValidatorEntityType, descendant_names, entity_type_of, enumerated_below, external_below_enumerated, one, out_of_memory, plain_entry, plain_parts, type_name, undeclared_entity_types}
 use Rattle.cedar_below.specs.contracts.entity_type.EntityTypeOrd.TheImpl as entity_type_ord
-use Rattle.cedar_below.specs.declared.entity_type.EntityType.{EntityType}
 use Rattle.cedar_declarations.proofs.OccurrenceLemmas.{Contains-image}
-use Rattle.cedar_declarations.specs.EntityTypeKind.{EntityTypeKind}
-use Rattle.cedar_declarations.specs.Fault.{Fault, enumerated_below, external_below_enumerated, undeclared_entity_types, out_of_memory}
-use Rattle.cedar_declarations.specs.PlainSchema.{SchemaEntityType}
-use Rattle.cedar_declarations.specs.ValidSchema.{HasEntityType, IsEnumerated, IsExternal, IsOfKind, IsSchemaFault, ListsDescendant}
-use Rattle.cedar_schema_elements.specs.ValidatorEntityType.{descendant_names, entity_type_of, plain_entry}
-use Rattle.cedar_schema_elements.specs.declared.entity_type.ValidatorEntityType.{ValidatorEntityType}
 use Rattle.cedar_types.proofs.MemberLemmas.{Contains-named}
 use Rattle.cedar_graph.proofs.Numbers.{lookup_agree}
 use Rattle.cedar_validation.proofs.Keyed.{type_found}
 use Rattle.cedar_validation.proofs.RequestTypeLemmas.{one_unknown}
-use Rattle.cedar_validation.specs.Hierarchy.{IsBelowFault, IsBelowSound, IsPairSound, StandsAt}
-use Rattle.cedar_validation.specs.Parts.{IsRefusal, plain_parts}
-use Rattle.cedar_validation.specs.declared.parts.Parts.{Parts}
 
 abbrev pub Item : Type 0
 Item = EntityType × ValidatorEntityType

@@ -8,22 +8,13 @@ use Rattle.std.specs.Map.{keys_of, lookup}
 use Rattle.std.specs.Cmp.{Equal-is}
 use Rattle.std.specs.declared.cmp.Ordering.{Ordering}
 use Rattle.std.specs.declared.cmp.Ordering.TheVariants.{Equal}
-use Rattle.cedar_schema_elements.specs.ValidatorActionId.{plain_action_entry}
-use Rattle.cedar_schema_elements.specs.declared.action_id.ValidatorActionId.{ValidatorActionId}
+use Rattle.cedar_validation.specs.Words.{EntityType, EntityUID, PlainName, PlainUid, ValidatorActionId, ValidatorEntityType, plain_action_entry, plain_entry, type_name, uid_of}
 use Rattle.cedar_below.proofs.Lists.{Contains-preimage, list_any-Contains}
 use Rattle.cedar_below.proofs.Names.{entity_type_ord-Equal}
 use Rattle.cedar_below.proofs.Uids.{entity_uid_ord-Equal}
-use Rattle.cedar_below.specs.EntityType.{type_name}
-use Rattle.cedar_below.specs.EntityUID.{uid_of}
-use Rattle.cedar_below.specs.PlainName.{PlainName}
-use Rattle.cedar_below.specs.PlainUid.{PlainUid}
 use Rattle.cedar_below.specs.contracts.entity_type.EntityTypeOrd.TheImpl as entity_type_ord
 use Rattle.cedar_below.specs.contracts.entity_uid.EntityUIDOrd.TheImpl as entity_uid_ord
-use Rattle.cedar_below.specs.declared.entity_type.EntityType.{EntityType}
-use Rattle.cedar_below.specs.declared.entity_uid.EntityUID.{EntityUID}
 use Rattle.cedar_declarations.proofs.OccurrenceLemmas.{Contains-image}
-use Rattle.cedar_schema_elements.specs.ValidatorEntityType.{plain_entry}
-use Rattle.cedar_schema_elements.specs.declared.entity_type.ValidatorEntityType.{ValidatorEntityType}
 
 module _ {K V P Q : Type 0} (f : K → P) (plain : K × V → P × Q) (keyed : (e : K × V) → (plain e).0 ≡ f e.0) where
   -- the names of plain entries are those that the keys stand for

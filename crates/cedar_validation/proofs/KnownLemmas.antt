@@ -1,16 +1,7 @@
 -- What is known of the types of a schema, where the types of its actions are collected.
 use Rattle.std.proofs.Common.{◌≡◌, ◌⊎◌, ◌↔◌, [], ◌∷◌, List, inl, inr, subst, sym, Contains}
-use Rattle.cedar_below.specs.Extensions.{extension_types}
-use Rattle.cedar_below.specs.PlainName.{PlainName}
-use Rattle.cedar_below.specs.PlainUid.{PlainUid}
-use Rattle.cedar_below.specs.declared.extension.Extensions.{Extensions}
-use Rattle.cedar_declarations.specs.Fault.{Fault, undeclared_entity_types, unknown_extension_type, out_of_memory}
-use Rattle.cedar_declarations.specs.PlainSchema.{PlainSchema}
-use Rattle.cedar_declarations.specs.TypeMentions.{MentionsEntity, MentionsExtensionType}
-use Rattle.cedar_declarations.specs.ValidSchema.{HasAction, HasEntityType, IsSchemaFault, IsTypeIn}
-use Rattle.cedar_type_rules.specs.Ty.{Ty}
+use Rattle.cedar_validation.specs.Words.{AreMentionsSound, Extensions, Fault, HasAction, HasEntityType, IsSchemaFault, IsTypeIn, MentionsEntity, MentionsExtensionType, PlainName, PlainSchema, PlainUid, Ty, extension_types, out_of_memory, undeclared_entity_types, unknown_extension_type}
 use Rattle.cedar_validation.proofs.RequestTypeLemmas.{one_unknown}
-use Rattle.cedar_validation.specs.Sound.{AreMentionsSound}
 
 module _ (extensions : Extensions) (schema : PlainSchema) (names : List PlainName)
     (exact : (name : PlainName) → Contains names name ↔ ((uid : PlainUid) × HasAction schema uid × (uid.ty ≡ name))) where

@@ -1,15 +1,6 @@
 -- What types name: known, or why they are refused.
 use Rattle.std.proofs.Common.{◌≡◌, ◌∙◌, ◌⊎◌, Some, refl, inl, inr, subst, sym, Contains, List}
-use Rattle.cedar_below.specs.PlainName.{PlainName}
-use Rattle.cedar_declarations.specs.EntityTypeKind.{EntityTypeKind, enumerated_kind, external_kind, kind_fields, kind_tags, standard_kind}
-use Rattle.cedar_declarations.specs.Fault.{Fault, unknown_extension_type, out_of_memory}
-use Rattle.cedar_schema_elements.specs.ActionKind.{kind_context}
-use Rattle.cedar_declarations.specs.PlainSchema.{ActionKind, defined_action, external_action}
-use Rattle.cedar_declarations.specs.ValidSchema.{IsContextOf, IsTypeOfKind}
-use Rattle.cedar_type_rules.specs.Ty.{Ty, extension_of, record_of, union_of}
-use Rattle.cedar_type_rules.specs.declared.open_tag.OpenTag.TheVariants.{ClosedAttributes}
-use Rattle.cedar_validation.specs.Mentions.{IsKnownThroughout, IsUnknownIn, Knows, KnowsExtension}
-use Rattle.cedar_validation.specs.declared.known.Known.{Known}
+use Rattle.cedar_validation.specs.Words.{ActionKind, ClosedAttributes, EntityTypeKind, Fault, IsContextOf, IsKnownThroughout, IsTypeOfKind, IsUnknownIn, Known, Knows, KnowsExtension, PlainName, Ty, defined_action, enumerated_kind, extension_of, external_action, external_kind, kind_context, kind_fields, kind_tags, out_of_memory, record_of, standard_kind, union_of, unknown_extension_type}
 
 -- a union of known entity types is known throughout
 pub union_known : (known : Known) (ty : Ty) (names : List PlainName) → ty ≡ union_of names

@@ -1,15 +1,6 @@
 -- Names that nothing without a namespace stands beside.
 use Rattle.std.proofs.Common.{◌≡◌, [], sym, ◌∙◌}
-use Rattle.cedar_below.specs.EntityType.{type_name}
-use Rattle.cedar_below.specs.EntityUID.{uid_of}
-use Rattle.cedar_below.specs.PlainName.{IsActionType, PlainName}
-use Rattle.cedar_below.specs.PlainUid.{PlainUid}
-use Rattle.cedar_below.specs.declared.entity_type.EntityType.{EntityType}
-use Rattle.cedar_below.specs.declared.entity_uid.EntityUID.{EntityUID}
-use Rattle.cedar_declarations.specs.Shadowing.{ShadowsAction, ShadowsType}
-use Rattle.cedar_declarations.specs.ValidSchema.{HasAction, HasEntityType}
-use Rattle.cedar_validation.specs.Parts.{plain_parts}
-use Rattle.cedar_validation.specs.declared.parts.Parts.{Parts}
+use Rattle.cedar_validation.specs.Words.{EntityType, EntityUID, HasAction, HasEntityType, IsActionType, Parts, PlainName, PlainUid, ShadowsAction, ShadowsType, plain_parts, type_name, uid_of}
 
 -- no entity type of the schema would shadow the one
 abbrev pub ShadowsNoType : Parts → EntityType → Type 0

@@ -1,12 +1,7 @@
 -- Entity types in sets.
 use Rattle.std.proofs.Common.{◌≡◌, true, cond, List, ◌∷◌, map, sym, ◌∙◌, inl, inr, ⊎_elim, Contains}
 use Rattle.std.specs.List.{list_any}
-use Rattle.cedar_below.specs.EntityType.{type_name}
-use Rattle.cedar_below.specs.EntityUID.{uid_of}
-use Rattle.cedar_below.specs.PlainName.{PlainName}
-use Rattle.cedar_below.specs.PlainUid.{PlainUid}
-use Rattle.cedar_below.specs.declared.entity_type.EntityType.{EntityType}
-use Rattle.cedar_below.specs.declared.entity_uid.EntityUID.{EntityUID}
+use Rattle.cedar_validation.specs.Words.{EntityType, EntityUID, PlainName, PlainUid, type_name, uid_of}
 use Rattle.cedar_schema_elements.proofs.NamedTypes.{inserted_cases, inserted_kept, inserted_new, same_type}
 use Rattle.cedar_validation.proofs.Checking.{Checking, checking_more}
 

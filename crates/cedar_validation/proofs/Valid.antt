@@ -1,16 +1,7 @@
 -- A schema of which all is made sure has no fault.
 use Rattle.std.proofs.Common.{[], ◌∷◌, refl, inl, Contains, inr}
 use Rattle.cedar_below.proofs.Lists.{Contains-cons}
-use Rattle.cedar_below.specs.PlainName.{PlainName}
-use Rattle.cedar_below.specs.PlainUid.{PlainUid}
-use Rattle.cedar_below.specs.declared.extension.Extensions.{Extensions}
-use Rattle.cedar_declarations.specs.Fault.{undeclared_entity_types, unknown_extension_type, action_entity_type, invalid_action_type, action_cycle, external_below_enumerated, enumerated_below, undeclared_action_descendant, type_shadowing, action_shadowing}
-use Rattle.cedar_declarations.specs.PlainSchema.{PlainSchema, SchemaAction}
-use Rattle.cedar_declarations.specs.ValidSchema.{IsUnknownType, IsValidSchema, ListsDescendant}
-use Rattle.cedar_validation.specs.Hierarchy.{IsPairSound}
-use Rattle.cedar_validation.specs.Parts.{IsClosed}
-use Rattle.cedar_validation.specs.RequestTypes.{ArePlaced}
-use Rattle.cedar_validation.specs.Sound.{AreMentionsSound, AreNamesSound}
+use Rattle.cedar_validation.specs.Words.{AreMentionsSound, AreNamesSound, ArePlaced, Extensions, IsClosed, IsPairSound, IsUnknownType, IsValidSchema, ListsDescendant, PlainName, PlainSchema, PlainUid, SchemaAction, action_cycle, action_entity_type, action_shadowing, enumerated_below, external_below_enumerated, invalid_action_type, type_shadowing, undeclared_action_descendant, undeclared_entity_types, unknown_extension_type}
 
 module _ (extensions : Extensions) (schema : PlainSchema) (names : AreNamesSound schema) (mentions : AreMentionsSound extensions schema)
     (pairs : (lower upper : PlainName) → ListsDescendant schema lower upper → IsPairSound schema lower upper)

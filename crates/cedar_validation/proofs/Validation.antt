@@ -1,23 +1,8 @@
 -- A schema whose parts were closed and checked.
 use Rattle.std.proofs.Common.{◌≡◌, ◌⊎◌, List, [], inl, inr, map}
-use Rattle.cedar_schema_elements.specs.ValidatorActionId.{plain_action_entry}
-use Rattle.cedar_schema_elements.specs.declared.action_id.ValidatorActionId.{ValidatorActionId}
+use Rattle.cedar_validation.specs.Words.{AreActionEntities, Chain, ClosesAction, ClosesSchema, ClosesType, Entity, EntityType, EntityUID, Extensions, Fault, HoldsPairwise, IsClosed, IsSchemaFault, IsValidSchema, ListsDescendantAction, PlainUid, ValidatorActionId, ValidatorEntityType, out_of_memory, plain_action_entry, plain_entry, plain_schema}
 use Rattle.cedar_below.proofs.Chains.{refined}
-use Rattle.cedar_below.specs.Chain.{Chain}
-use Rattle.cedar_below.specs.Lists.{HoldsPairwise}
-use Rattle.cedar_below.specs.PlainUid.{PlainUid}
-use Rattle.cedar_below.specs.declared.entity.Entity.{Entity}
-use Rattle.cedar_below.specs.declared.entity_type.EntityType.{EntityType}
-use Rattle.cedar_below.specs.declared.entity_uid.EntityUID.{EntityUID}
-use Rattle.cedar_below.specs.declared.extension.Extensions.{Extensions}
-use Rattle.cedar_declarations.specs.ActionEntities.{AreActionEntities}
-use Rattle.cedar_declarations.specs.ClosedSchema.{ClosesAction, ClosesSchema, ClosesType}
-use Rattle.cedar_declarations.specs.Fault.{Fault, out_of_memory}
-use Rattle.cedar_declarations.specs.ValidSchema.{IsSchemaFault, IsValidSchema, ListsDescendantAction}
-use Rattle.cedar_schema_elements.specs.ValidatorEntityType.{plain_entry}
-use Rattle.cedar_schema_elements.specs.declared.entity_type.ValidatorEntityType.{ValidatorEntityType}
 use Rattle.cedar_validation.proofs.Agreeing.{action_shape, actions_closed, chain_listed, fault_back, fault_forth, listed_chain, type_shape, types_closed}
-use Rattle.cedar_validation.specs.Parts.{IsClosed, plain_schema}
 
 abbrev Types : Type 0
 Types = List (EntityType × ValidatorEntityType)

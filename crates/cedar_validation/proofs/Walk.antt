@@ -1,9 +1,6 @@
 -- What stands in types, as their attributes are gone through.
 use Rattle.std.proofs.Common.{◌≡◌, ◌⊎◌, ◌≤◌, ◌+◌, ℕ, inl, inr, arith}
-use Rattle.cedar_below.specs.PlainName.{PlainName}
-use Rattle.cedar_declarations.specs.TypeMentions.{FieldsMentionEntity, FieldsMentionExtensionType, MentionsEntity, MentionsExtensionType}
-use Rattle.cedar_type_rules.specs.Ty.{Fields, Ty, end, field, record_of, set_of}
-use Rattle.cedar_below.specs.Text.{Text}
+use Rattle.cedar_validation.specs.Words.{Fields, FieldsMentionEntity, FieldsMentionExtensionType, MentionsEntity, MentionsExtensionType, PlainName, Text, Ty, end, field, record_of, set_of}
 use Rattle.std.specs.Prelude.{Bool}
 
 abbrev mutual

@@ -1,13 +1,9 @@
 -- What is refused of entity types one below the other.
 use Rattle.std.specs.Prelude.{◌≡◌, ◌⊎◌, Contains, Some}
-use Rattle.cedar_below.specs.EntityType.{type_name}
-use Rattle.cedar_below.specs.PlainName.{PlainName}
+use Rattle.cedar_below.specs.Words.{PlainName, type_name}
 use Rattle.cedar_below.specs.contracts.entity_type.EntityTypeOrd.TheImpl as entity_type_ord
 use Rattle.cedar_below.specs.declared.entity_type.EntityType.{EntityType}
-use Rattle.cedar_declarations.specs.EntityTypeKind.{EntityTypeKind}
-use Rattle.cedar_declarations.specs.Fault.{Fault, enumerated_below, external_below_enumerated}
-use Rattle.cedar_declarations.specs.PlainSchema.{PlainSchema}
-use Rattle.cedar_declarations.specs.ValidSchema.{HasEntityType, IsEnumerated, IsExternal, IsOfKind}
+use Rattle.cedar_declarations.specs.Words.{EntityTypeKind, Fault, HasEntityType, IsEnumerated, IsExternal, IsOfKind, PlainSchema, enumerated_below, external_below_enumerated}
 use Rattle.cedar_schema_elements.specs.ValidatorEntityType.{entity_type_of}
 use Rattle.cedar_schema_elements.specs.declared.entity_type.ValidatorEntityType.{ValidatorEntityType}
 use Rattle.cedar_table.specs.Entries.{get_by}

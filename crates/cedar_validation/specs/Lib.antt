@@ -6,3 +6,4 @@ pub mod Mentions
 pub mod Parts
 pub mod RequestTypes
 pub mod Sound
+pub mod Words

@@ -1,11 +1,7 @@
 -- What types may name, and what they name that isn't known.
 use Rattle.std.specs.Prelude.{◌≡◌, ◌⊎◌, [], ◌∷◌, Contains, map}
-use Rattle.cedar_below.specs.EntityType.{type_name}
-use Rattle.cedar_below.specs.Extensions.{extension_types}
-use Rattle.cedar_below.specs.PlainName.{PlainName}
-use Rattle.cedar_declarations.specs.Fault.{Fault, undeclared_entity_types, unknown_extension_type, out_of_memory}
-use Rattle.cedar_declarations.specs.TypeMentions.{MentionsEntity, MentionsExtensionType}
-use Rattle.cedar_declarations.specs.ValidSchema.{HasEntityType}
+use Rattle.cedar_below.specs.Words.{PlainName, extension_types, type_name}
+use Rattle.cedar_declarations.specs.Words.{Fault, HasEntityType, MentionsEntity, MentionsExtensionType, out_of_memory, undeclared_entity_types, unknown_extension_type}
 use Rattle.cedar_type_rules.specs.Ty.{Ty}
 use Rattle.cedar_validation.specs.Parts.{plain_parts}
 use Rattle.cedar_validation.specs.declared.known.Known.{Known}

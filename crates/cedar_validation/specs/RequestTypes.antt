@@ -1,10 +1,7 @@
 -- Principals, resources and descendants of actions that have to be of the schema.
 use Rattle.std.specs.Prelude.{◌≡◌, ◌⊎◌, [], ◌∷◌, Contains}
-use Rattle.cedar_below.specs.PlainName.{PlainName}
-use Rattle.cedar_below.specs.PlainUid.{PlainUid}
-use Rattle.cedar_declarations.specs.Fault.{Fault, undeclared_action_descendant, undeclared_entity_types, out_of_memory}
-use Rattle.cedar_declarations.specs.PlainSchema.{PlainSchema, SchemaAction}
-use Rattle.cedar_declarations.specs.ValidSchema.{HasAction, HasEntityType, IsPrincipalOrResourceOf}
+use Rattle.cedar_below.specs.Words.{PlainName, PlainUid}
+use Rattle.cedar_declarations.specs.Words.{Fault, HasAction, HasEntityType, IsPrincipalOrResourceOf, PlainSchema, SchemaAction, out_of_memory, undeclared_action_descendant, undeclared_entity_types}
 
 -- the principals and resources of the action are entity types of the schema, and its descendants
 -- actions

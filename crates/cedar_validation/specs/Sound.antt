@@ -1,13 +1,8 @@
 -- What is made sure of a schema, step by step.
 use Rattle.std.specs.Prelude.{Contains}
-use Rattle.cedar_below.specs.Extensions.{extension_types}
-use Rattle.cedar_below.specs.PlainName.{IsActionType, PlainName}
-use Rattle.cedar_below.specs.PlainUid.{PlainUid}
+use Rattle.cedar_below.specs.Words.{IsActionType, PlainName, PlainUid, extension_types}
 use Rattle.cedar_below.specs.declared.extension.Extensions.{Extensions}
-use Rattle.cedar_declarations.specs.PlainSchema.{PlainSchema}
-use Rattle.cedar_declarations.specs.Shadowing.{ShadowsAction, ShadowsType}
-use Rattle.cedar_declarations.specs.TypeMentions.{MentionsEntity, MentionsExtensionType}
-use Rattle.cedar_declarations.specs.ValidSchema.{HasAction, HasEntityType, IsKnownType, IsTypeIn}
+use Rattle.cedar_declarations.specs.Words.{HasAction, HasEntityType, IsKnownType, IsTypeIn, MentionsEntity, MentionsExtensionType, PlainSchema, ShadowsAction, ShadowsType}
 use Rattle.cedar_type_rules.specs.Ty.{Ty}
 
 -- no entity type has the base name of actions' types, which each action's type has; and nothing is

@@ -2,22 +2,12 @@
 
 ghost use Rattle.std.specs.Prelude.{◌≡◌, ◌⊎◌, Contains, IfErr, IfOk, IsTrue, List, OnOk, map};
 ghost use Rattle.cedar_schema_elements.specs.ValidatorActionId as action_specs;
-ghost use Rattle.cedar_schema_elements.specs.ValidatorActionId.{plain_action_entry};
+ghost use Rattle.cedar_validation.specs.Words.{Chain, ClosesAction, ClosesType, Entity, HoldsPairwise, IsClosedOf, IsListFault, IsRefusal, LeadsTo, ListsDescendantAction, PlainUid, action_graph_fault, fault_of, plain_action_entry, plain_entry, plain_schema, type_graph_fault};
 ghost use Rattle.cedar_schema_elements.specs.declared.action_id.ValidatorActionId.{ValidatorActionId as Action};
-ghost use Rattle.cedar_below.specs.Chain.{Chain};
-ghost use Rattle.cedar_below.specs.Lists.{HoldsPairwise};
-ghost use Rattle.cedar_below.specs.PlainUid.{PlainUid};
-ghost use Rattle.cedar_below.specs.declared.entity.Entity.{Entity};
 ghost use Rattle.cedar_below.specs.declared.entity_type.EntityType.{EntityType as Name};
 ghost use Rattle.cedar_below.specs.declared.entity_uid.EntityUID.{EntityUID as Uid};
-ghost use Rattle.cedar_declarations.specs.ClosedSchema.{ClosesAction, ClosesType};
-ghost use Rattle.cedar_declarations.specs.SchemaError.{fault_of};
-ghost use Rattle.cedar_declarations.specs.ValidSchema.{ListsDescendantAction};
 ghost use Rattle.cedar_schema_elements.specs.ValidatorEntityType as type_specs;
-ghost use Rattle.cedar_schema_elements.specs.ValidatorEntityType.{plain_entry};
 ghost use Rattle.cedar_schema_elements.specs.declared.entity_type.ValidatorEntityType.{ValidatorEntityType as Node};
-ghost use Rattle.cedar_validation.specs.Listed.{IsClosedOf, IsListFault, LeadsTo};
-ghost use Rattle.cedar_validation.specs.Parts.{IsRefusal, action_graph_fault, plain_schema, type_graph_fault};
 
 use crate::parts::{Actions, Types};
 use cedar_below::{EntityType, EntityUID, Memory, NonEmpty};

@@ -1,8 +1,7 @@
 //! Copies of entity types and of actions.
 
 ghost use Rattle.std.specs.Prelude.{IfOk};
-ghost use Rattle.cedar_below.specs.Lists.{HoldsPairwise};
-ghost use Rattle.cedar_validation.specs.Copies.{IsActionCopied, IsTypeCopied};
+ghost use Rattle.cedar_validation.specs.Words.{HoldsPairwise, IsActionCopied, IsTypeCopied};
 
 use crate::parts::{Actions, Types};
 use cedar_below::{EntityType, EntityUID, M};

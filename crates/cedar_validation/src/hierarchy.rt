@@ -1,14 +1,7 @@
 //! What is refused of the hierarchy of entity types, whose descendants are closed.
 
 ghost use Rattle.std.specs.Prelude.{◌≡◌, ◌⊎◌, IfErr, OnOk};
-ghost use Rattle.cedar_below.specs.EntityType.{type_name};
-ghost use Rattle.cedar_below.specs.PlainName.{PlainName};
-ghost use Rattle.cedar_declarations.specs.Fault.{out_of_memory};
-ghost use Rattle.cedar_declarations.specs.SchemaError.{fault_of};
-ghost use Rattle.cedar_declarations.specs.ValidSchema.{ListsDescendant};
-ghost use Rattle.cedar_schema_elements.specs.ValidatorEntityType.{entity_type_of};
-ghost use Rattle.cedar_validation.specs.Hierarchy.{IsBelowFault, IsBelowSound, IsKindFault, IsKindSound, IsPairSound};
-ghost use Rattle.cedar_validation.specs.Parts.{IsRefusal, plain_parts};
+ghost use Rattle.cedar_validation.specs.Words.{IsBelowFault, IsBelowSound, IsKindFault, IsKindSound, IsPairSound, IsRefusal, ListsDescendant, PlainName, entity_type_of, fault_of, out_of_memory, plain_parts, type_name};
 
 use crate::parts::Parts;
 use crate::request_types::check_declared;

@@ -1,18 +1,7 @@
 //! Entity types and extension types that are known.
 
 ghost use Rattle.std.specs.Prelude.{◌≡◌, ◌⊎◌, ◌↔◌, [], ◌∷◌, Contains, IfErr, IfOk, IsTrue, OnOk, map};
-ghost use Rattle.cedar_below.specs.EntityType.{type_name};
-ghost use Rattle.cedar_below.specs.Extensions.{extension_types};
-ghost use Rattle.cedar_below.specs.Name.{plain_name};
-ghost use Rattle.cedar_below.specs.PlainName.{PlainName};
-ghost use Rattle.cedar_below.specs.PlainUid.{PlainUid};
-ghost use Rattle.cedar_declarations.specs.Fault.{undeclared_entity_types, unknown_extension_type, out_of_memory};
-ghost use Rattle.cedar_declarations.specs.SchemaError.{fault_of};
-ghost use Rattle.cedar_declarations.specs.ValidSchema.{HasAction, HasEntityType};
-ghost use Rattle.cedar_types.specs.EntityKind.{kind_ty};
-ghost use Rattle.cedar_types.specs.EntityLUB.{lub_names};
-ghost use Rattle.cedar_validation.specs.Mentions.{IsKnownThroughout, IsUnknownIn, Knows};
-ghost use Rattle.cedar_validation.specs.Parts.{plain_parts};
+ghost use Rattle.cedar_validation.specs.Words.{HasAction, HasEntityType, IsKnownThroughout, IsUnknownIn, Knows, PlainName, PlainUid, extension_types, fault_of, kind_ty, lub_names, out_of_memory, plain_name, plain_parts, type_name, undeclared_entity_types, unknown_extension_type};
 
 use crate::parts::Parts;
 use cedar_below::{EntityType, Extensions, M, Name, NonEmpty};

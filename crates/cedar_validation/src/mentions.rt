@@ -1,22 +1,13 @@
 //! What types name.
 
 ghost use Rattle.std.specs.Prelude.{◌≡◌, ◌⊎◌, Contains, IfErr, OnOk};
-ghost use Rattle.cedar_schema_elements.specs.ValidatorActionId.{action_of};
-ghost use Rattle.cedar_declarations.specs.Fault.{out_of_memory};
-ghost use Rattle.cedar_declarations.specs.SchemaError.{fault_of};
-ghost use Rattle.cedar_declarations.specs.ValidSchema.{IsContextOf, IsTypeIn, IsTypeOfKind};
-ghost use Rattle.cedar_schema_elements.specs.ValidatorEntityType.{entity_type_of};
-ghost use Rattle.cedar_type_rules.specs.Ty.{Ty, record_of};
-ghost use Rattle.cedar_type_rules.specs.declared.open_tag.OpenTag.TheVariants.{ClosedAttributes};
-ghost use Rattle.cedar_types.specs.Meaning.{fields_of, ty_of};
-ghost use Rattle.cedar_validation.specs.Mentions.{IsKnownThroughout, IsUnknownIn};
-ghost use Rattle.cedar_validation.specs.Parts.{plain_parts};
+ghost use Rattle.cedar_validation.specs.Words.{ClosedAttributes, IsContextOf, IsKnownThroughout, IsTypeIn, IsTypeOfKind, IsUnknownIn, Ty, action_of, entity_type_of, fault_of, fields_of, out_of_memory, plain_parts, record_of, ty_of};
 
 use crate::known::Known;
 use cedar_declarations::SchemaError;
 use cedar_schema_elements::{ValidatorActionId, ValidatorEntityType};
-use cedar_types::{Attributes, Type};
 use cedar_table::Table;
+use cedar_types::{Attributes, Type};
 use std::hash::Hash;
 
 /// Refuses a type in which an entity type or an extension type stands that isn't known.

@@ -1,21 +1,13 @@
 //! Entity types and actions put under their names.
 
 ghost use Rattle.std.specs.Prelude.{◌≡◌, Contains, IfOk};
-ghost use Rattle.std.specs.Ordering.{is_eq};
-ghost use Rattle.cedar_schema_elements.specs.ValidatorActionId.{action_of};
+ghost use Rattle.cedar_validation.specs.Words.{action_of, entity_type_of, get_by, is_eq, last_named, last_of_uid, last_that, name_cmp, type_name, uid_cmp, uid_of};
 ghost use Rattle.cedar_schema_elements.specs.declared.action_id.ValidatorActionId.{ValidatorActionId as ActionOfSchema};
-ghost use Rattle.cedar_below.specs.EntityType.{type_name};
-ghost use Rattle.cedar_below.specs.EntityUID.{uid_of};
-ghost use Rattle.cedar_below.specs.PlainName.{name_cmp};
-ghost use Rattle.cedar_below.specs.PlainUid.{uid_cmp};
 ghost use Rattle.cedar_below.specs.declared.entity_type.EntityType.{EntityType as Name};
 ghost use Rattle.cedar_below.specs.declared.entity_uid.EntityUID.{EntityUID as Uid};
 ghost use Rattle.cedar_schema_elements.specs.ValidatorActionId as action_specs;
 ghost use Rattle.cedar_schema_elements.specs.ValidatorEntityType as type_specs;
-ghost use Rattle.cedar_schema_elements.specs.ValidatorEntityType.{entity_type_of};
 ghost use Rattle.cedar_schema_elements.specs.declared.entity_type.ValidatorEntityType.{ValidatorEntityType as EntityTypeOfSchema};
-ghost use Rattle.cedar_table.specs.Entries.{get_by};
-ghost use Rattle.cedar_validation.specs.LastNamed.{last_named, last_of_uid, last_that};
 
 use crate::parts::{Actions, Types};
 use cedar_below::{EntityType, EntityUID, M};

@@ -1,13 +1,7 @@
 //! What is refused of the names of entity types and the uids of actions.
 
 ghost use Rattle.std.specs.Prelude.{◌≡◌, [], IfErr, IfOk, OnOk};
-ghost use Rattle.cedar_below.specs.EntityType.{type_name};
-ghost use Rattle.cedar_below.specs.PlainName.{IsActionType, PlainName};
-ghost use Rattle.cedar_below.specs.PlainUid.{PlainUid};
-ghost use Rattle.cedar_declarations.specs.SchemaError.{fault_of};
-ghost use Rattle.cedar_declarations.specs.Shadowing.{ShadowsAction, ShadowsType};
-ghost use Rattle.cedar_declarations.specs.ValidSchema.{HasAction, HasEntityType};
-ghost use Rattle.cedar_validation.specs.Parts.{IsRefusal, plain_parts};
+ghost use Rattle.cedar_validation.specs.Words.{HasAction, HasEntityType, IsActionType, IsRefusal, PlainName, PlainUid, ShadowsAction, ShadowsType, fault_of, plain_parts, type_name};
 
 use crate::parts::Parts;
 use cedar_below::{EntityType, EntityUID, InternalName, M, Name};

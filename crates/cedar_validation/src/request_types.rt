@@ -1,18 +1,7 @@
 //! What is refused of principals, resources and descendants that are named.
 
 ghost use Rattle.std.specs.Prelude.{◌≡◌, ◌⊎◌, [], ◌∷◌, Contains, IfErr, OnOk, map};
-ghost use Rattle.std.specs.Option.{MatchOption};
-ghost use Rattle.cedar_schema_elements.specs.ValidatorActionId.{action_of};
-ghost use Rattle.cedar_below.specs.EntityType.{type_name};
-ghost use Rattle.cedar_below.specs.PlainName.{PlainName};
-ghost use Rattle.cedar_below.specs.PlainUid.{PlainUid};
-ghost use Rattle.cedar_declarations.specs.Fault.{undeclared_action_descendant, undeclared_entity_types, out_of_memory};
-ghost use Rattle.cedar_declarations.specs.PlainSchema.{SchemaAction};
-ghost use Rattle.cedar_declarations.specs.SchemaError.{fault_of};
-ghost use Rattle.cedar_declarations.specs.ValidSchema.{HasAction, HasEntityType};
-ghost use Rattle.cedar_validation.specs.Parts.{IsRefusal, plain_parts};
-ghost use Rattle.cedar_table.specs.Entries.{HasKey};
-ghost use Rattle.cedar_validation.specs.RequestTypes.{ArePlaced, IsMisplaced};
+ghost use Rattle.cedar_validation.specs.Words.{ArePlaced, HasAction, HasEntityType, HasKey, IsMisplaced, IsRefusal, MatchOption, PlainName, PlainUid, SchemaAction, action_of, fault_of, out_of_memory, plain_parts, type_name, undeclared_action_descendant, undeclared_entity_types};
 
 use crate::known::undeclared;
 use crate::parts::Parts;

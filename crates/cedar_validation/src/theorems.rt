@@ -1,9 +1,6 @@
 //! Laws of validation.
 
-ghost use Rattle.cedar_below.specs.declared.extension.Extensions.{Extensions};
-ghost use Rattle.cedar_declarations.specs.ClosedSchema.{ClosesSchema};
-ghost use Rattle.cedar_declarations.specs.PlainSchema.{PlainSchema};
-ghost use Rattle.cedar_declarations.specs.ValidSchema.{IsValidSchema};
+ghost use Rattle.cedar_validation.specs.Words.{ClosesSchema, Extensions, IsValidSchema, PlainSchema};
 
 /// A valid schema is valid still once it is closed, and closing it again is closing it once.
 pub fn closing_again_is_closing_once()

@@ -2,15 +2,8 @@
 
 ghost use Rattle.std.specs.Prelude.{◌≡◌, ◌⊎◌, IfErr, IfOk, List, OnOk};
 ghost use Rattle.cedar_schema_elements.specs.ValidatorActionId as action_specs;
-ghost use Rattle.cedar_below.specs.Entities.{entities_of};
-ghost use Rattle.cedar_below.specs.declared.entity.Entity.{Entity};
-ghost use Rattle.cedar_declarations.specs.ClosedSchema.{ClosesSchema};
-ghost use Rattle.cedar_declarations.specs.Fault.{out_of_memory};
-ghost use Rattle.cedar_declarations.specs.SchemaError.{fault_of};
-ghost use Rattle.cedar_declarations.specs.ValidSchema.{IsSchemaFault, IsValidSchema};
+ghost use Rattle.cedar_validation.specs.Words.{AreMentionsSound, AreNamesSound, ClosesSchema, Entity, IsClosed, IsRefusal, IsSchemaFault, IsValidSchema, entities_of, fault_of, out_of_memory, plain_parts, plain_schema};
 ghost use Rattle.cedar_schema_elements.specs.ValidatorEntityType as type_specs;
-ghost use Rattle.cedar_validation.specs.Parts.{IsClosed, IsRefusal, plain_parts, plain_schema};
-ghost use Rattle.cedar_validation.specs.Sound.{AreMentionsSound, AreNamesSound};
 
 use crate::closing::{closed_actions, closed_types};
 use crate::hierarchy::check_hierarchy;

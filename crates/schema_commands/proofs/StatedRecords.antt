@@ -5,17 +5,12 @@ use Rattle.std.specs.Option.{option_or}
 use Rattle.std.specs.Str.{bytes_eq}
 use Rattle.std.specs.declared.rc.Rc.{Rc}
 use Rattle.std.specs.declared.string.String.{String}
-use Rattle.cedar_below.specs.LastNamed.{last_named}
-use Rattle.cedar_below.specs.Text.{Text}
+use Rattle.cedar_below.specs.Words.{Text, last_named}
 use Rattle.cedar_below.specs.declared.extension.Extensions.{Extensions}
 use Rattle.cedar_type_rules.proofs.SubtypeLemmas.{found-HasField}
-use Rattle.cedar_type_rules.specs.Below.{HasField}
-use Rattle.cedar_type_rules.specs.Fields.{IsRecordOf}
-use Rattle.cedar_type_rules.specs.Stated.{AreInhabitedWith, FieldsRequireAll, IsStatedWith}
-use Rattle.cedar_type_rules.specs.Ty.{Fields, Ty, end, field}
+use Rattle.cedar_type_rules.specs.Words.{AreInhabitedWith, Fields, FieldsRequireAll, HasField, IsRecordOf, IsStatedWith, Ty, end, field}
 use Rattle.cedar_type_rules.specs.declared.open_tag.OpenTag.{OpenTag}
-use Rattle.cedar_types.specs.Attributes.{plain_required}
-use Rattle.cedar_types.specs.Meaning.{ty_of}
+use Rattle.cedar_types.specs.Words.{plain_required, ty_of}
 use Rattle.cedar_types.specs.declared.types.Type.{«Type»}
 use Rattle.schema_commands.specs.Samples.{IsStatedAlone}
 

@@ -1,9 +1,7 @@
 use Rattle.std.specs.Prelude.{[], codes}
-use Rattle.cedar_below.specs.PlainName.{PlainName}
-use Rattle.cedar_below.specs.Text.{Text}
+use Rattle.cedar_below.specs.Words.{PlainName, Text}
 use Rattle.cedar_below.specs.declared.extension.Extensions.{Extensions}
-use Rattle.cedar_type_rules.specs.Stated.{IsStatedWith}
-use Rattle.cedar_type_rules.specs.Ty.{Ty}
+use Rattle.cedar_type_rules.specs.Words.{IsStatedWith, Ty}
 
 -- the name that a text spells, without a path
 abbrev pub bare_name : Text → PlainName

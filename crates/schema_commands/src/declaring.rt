@@ -1,9 +1,7 @@
 //! Declarations without locations, as plain data.
 
 ghost use Rattle.std.specs.Prelude.{◌≡◌, ◌≢◌, IfOk};
-ghost use Rattle.cedar_below.specs.Identifier.{IsIdentifier, reserved_word};
-ghost use Rattle.cedar_below.specs.Name.{plain_name};
-ghost use Rattle.cedar_below.specs.UnreservedId.{unreserved_id_text};
+ghost use Rattle.cedar_below.specs.Words.{IsIdentifier, plain_name, reserved_word, unreserved_id_text};
 ghost use Rattle.cedar_names.specs.ReservedTypeWord.{IsReservedTypeWord};
 ghost use Rattle.schema_commands.specs.Samples.{bare_name};
 

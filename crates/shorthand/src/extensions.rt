@@ -1,8 +1,7 @@
 //! The sample extension.
 
 ghost use Rattle.std.specs.Prelude.{IfOk};
-ghost use Rattle.cedar_below.specs.Extensions.{extension_types};
-ghost use Rattle.cedar_below.specs.TypeNames.{TypeNamesFit};
+ghost use Rattle.cedar_below.specs.Words.{TypeNamesFit, extension_types};
 
 use crate::names::name;
 use cedar_below::{CoreSchemaType, ExtensionFunction, Extensions};

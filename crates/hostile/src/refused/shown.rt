@@ -1,7 +1,6 @@
 //! Schemas and refusals as text.
 
-ghost use Rattle.cedar_below.specs.Extensions.{extension_types};
-ghost use Rattle.cedar_below.specs.TypeNames.{TypeNamesFit};
+ghost use Rattle.cedar_below.specs.Words.{TypeNamesFit, extension_types};
 
 use crate::refused::stop::Stop;
 use cedar_schema::below::Extensions;

@@ -1,16 +1,13 @@
 use Rattle.std.proofs.Common.{map, ap, subst, sym, ◌∙◌}
-use Rattle.cedar_below.specs.EntityUID.{uid_of}
+use Rattle.cedar_builder.specs.Words.{AreDeclaredActions, fault_of, parents_in, uid_of}
 use Rattle.cedar_below.proofs.Uids.{entity_uid_eq-same, entity_uid_ord-Equal}
 use Rattle.cedar_below.specs.contracts.entity_uid.EntityUIDEq.TheImpl as uid_equal
 use Rattle.cedar_below.specs.contracts.entity_uid.EntityUIDOrd.TheImpl as uid_ord
 use Rattle.cedar_schema_elements.specs.ValidatorActionId.{IsLocatedAsKey}
 use Rattle.cedar_graph.proofs.MovedMaps.{moved_each, tests_tied}
-use Rattle.cedar_declarations.specs.SchemaError.{fault_of}
 use Rattle.cedar_builder.proofs.ActionParents.{AreEdges, listed}
 use Rattle.cedar_builder.proofs.NodesLinked.{entry_at_node, node_has_entry}
 use Rattle.cedar_builder.proofs.ActionsReady.{certain, declared_at, collecting_fault, linking_fault, ready_to_link, stands_after}
-use Rattle.cedar_builder.specs.DeclaredActions.{AreDeclaredActions}
-use Rattle.cedar_builder.specs.DeclaredNodes.{parents_in}
 use Rattle.cedar_fragments.proofs.FragmentLemmas.{exit_holds}
 use Rattle.cedar_builder.proofs.action_building.actions.Goals as goal
 

@@ -1,9 +1,8 @@
 use Rattle.std.proofs.Common.{◌≡◌, refl, inr, ap}
-use Rattle.cedar_below.specs.EntityUID.{uid_of}
+use Rattle.cedar_builder.specs.Words.{SameAction, ValidatorActionId, uid_of}
 use Rattle.cedar_graph.proofs.AddedEdges.{alike_weaker}
 use Rattle.cedar_schema_elements.specs.ActionKind.{plain_kind}
-use Rattle.cedar_schema_elements.specs.declared.action_id.ValidatorActionId.{ValidatorActionId}
-use Rattle.cedar_builder.specs.ActionNodes.{SameAction, node_at}
+use Rattle.cedar_builder.specs.ActionNodes.{node_at}
 use Rattle.cedar_builder.proofs.action_links.linked_nodes.Goals as goal
 
 pub returns-in-Ok-clause-linked : goal.returns-in-Ok-clause-linked

@@ -1,7 +1,6 @@
 use Rattle.std.proofs.Common.{ap, sym, ◌∙◌, inr}
 use Rattle.std.proofs.lemmas.Bool.{false≢true}
-use Rattle.cedar_declarations.specs.Fault.{context_not_record}
-use Rattle.cedar_types.specs.Meaning.{ty_of}
+use Rattle.cedar_builder.specs.Words.{context_not_record, ty_of}
 use Rattle.cedar_builder.proofs.action_requests.context_type.Goals as goal
 
 pub returns-clause-fault : goal.returns-clause-fault

@@ -1,15 +1,7 @@
 use Rattle.std.proofs.Common.{map, ◌∙◌, inl, inr, refl}
 use Rattle.std.proofs.IntoIterSteps.{All-taken}
-use Rattle.cedar_schema_elements.specs.ActionKind.{kind_principals, kind_resources}
-use Rattle.cedar_schema_elements.specs.ValidatorActionId.{action_of}
-use Rattle.cedar_below.specs.EntityUID.{uid_of}
-use Rattle.cedar_below.specs.InternalName.{name_of}
-use Rattle.cedar_declarations.specs.SchemaError.{fault_of}
-use Rattle.cedar_declarations.specs.ResolvedExpr.{resolved_expr, resolved_reference}
-use Rattle.cedar_names.specs.declared.json_schema.reference_type.ReferenceType.TheVariants.{Entity}
-use Rattle.cedar_types.specs.Meaning.{ty_of}
+use Rattle.cedar_builder.specs.Words.{Entity, action_of, fault_of, kind_principals, kind_resources, name_of, names_in, resolved_expr, resolved_reference, ty_of, uid_of}
 use Rattle.cedar_builder.proofs.ActionsElaborated.{SameItems-none, kind_elaborated, name_among, named_by, principals_fault, resources_fault}
-use Rattle.cedar_builder.specs.ActionSteps.{names_in}
 use Rattle.cedar_fragments.proofs.FragmentLemmas.{exit_holds}
 use Rattle.cedar_builder.proofs.action_requests.elaborated_definition.Goals as goal
 

@@ -1,9 +1,8 @@
 use Rattle.std.proofs.Common.{arith, ap, inl, map, inr}
 use Rattle.std.proofs.lemmas.List.{nil_from_length}
-use Rattle.cedar_declarations.specs.SchemaError.{fault_of}
+use Rattle.cedar_builder.specs.Words.{fault_of, named}
 use Rattle.cedar_graph.proofs.MovedMaps.{empty_lacks}
 use Rattle.cedar_builder.proofs.NodesCollected.{all_collected, all_once, all_sound, collected_more, collected_none, next_fault, twice_fault}
-use Rattle.cedar_builder.specs.DeclaredNodes.{named}
 use Rattle.cedar_fragments.proofs.FragmentLemmas.{exit_holds}
 use Rattle.cedar_builder.proofs.declared_node.collected_nodes.Goals as goal
 

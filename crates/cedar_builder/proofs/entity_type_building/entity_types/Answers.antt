@@ -1,17 +1,12 @@
 use Rattle.std.proofs.Common.{map, ap, subst, sym, ◌∙◌}
-use Rattle.cedar_below.specs.EntityType.{type_name}
+use Rattle.cedar_builder.specs.Words.{AreDeclaredEntityTypes, IsLocatedAsKey, collected_entities, fault_of, parents_in, type_name}
 use Rattle.cedar_below.proofs.Names.{entity_type_eq-same, entity_type_ord-Equal}
 use Rattle.cedar_below.specs.contracts.entity_type.EntityTypeEq.TheImpl as entity_type_equal
 use Rattle.cedar_below.specs.contracts.entity_type.EntityTypeOrd.TheImpl as entity_type_ord
-use Rattle.cedar_schema_elements.specs.ValidatorEntityType.{IsLocatedAsKey}
 use Rattle.cedar_graph.proofs.MovedMaps.{moved_each, tests_tied}
-use Rattle.cedar_declarations.specs.SchemaError.{fault_of}
 use Rattle.cedar_builder.proofs.EntityTypeParents.{AreEdges, listed}
 use Rattle.cedar_builder.proofs.EntityTypesReady.{certain, declared_at, collecting_fault, linking_fault, no_edges, parent_fault, stands_after}
 use Rattle.cedar_builder.proofs.NodesLinked.{entry_at_node, node_has_entry}
-use Rattle.cedar_resolution.specs.Collected.{collected_entities}
-use Rattle.cedar_builder.specs.DeclaredEntityTypes.{AreDeclaredEntityTypes}
-use Rattle.cedar_builder.specs.DeclaredNodes.{parents_in}
 use Rattle.cedar_fragments.proofs.FragmentLemmas.{exit_holds}
 use Rattle.cedar_builder.proofs.entity_type_building.entity_types.Goals as goal
 

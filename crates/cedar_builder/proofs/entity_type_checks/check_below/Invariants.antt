@@ -1,7 +1,6 @@
 use Rattle.std.proofs.Common.{map, Contains}
 use Rattle.std.specs.Map.Iter.{deref}
-use Rattle.cedar_below.specs.declared.entity_type.EntityType.{EntityType}
-use Rattle.cedar_builder.specs.EntityTypeNodes.{IsExternalAt, node_at}
+use Rattle.cedar_builder.specs.Words.{EntityType, IsExternalAt, node_at}
 use Rattle.cedar_builder.proofs.entity_type_checks.check_below.Given as goal
 
 abbrev pub invariant-loop-lower : goal.invariant-loop-lower

@@ -4,12 +4,8 @@ use Rattle.std.proofs.lemmas.List.Elements.{All-contains_itself}
 use Rattle.std.proofs.lemmas.Map.Iter.{iter_end}
 use Rattle.std.proofs.lemmas.Map.Views.{All-turn}
 use Rattle.std.specs.Map.Iter.{deref_pair}
-use Rattle.cedar_below.specs.declared.entity_type.EntityType.{EntityType}
-use Rattle.cedar_schema_elements.specs.ValidatorEntityType.{entity_type_of}
-use Rattle.cedar_schema_elements.specs.declared.entity_type.ValidatorEntityType.{ValidatorEntityType}
+use Rattle.cedar_builder.specs.Words.{EntityType, IsEnumerated, IsExternalAt, ValidatorEntityType, entity_type_of, node_at}
 use Rattle.cedar_builder.proofs.EntityTypeChecks.{certain_of_all, entry_enumerated, entry_leads, entry_stands, shown_more}
-use Rattle.cedar_declarations.specs.ValidSchema.{IsEnumerated}
-use Rattle.cedar_builder.specs.EntityTypeNodes.{IsExternalAt, node_at}
 use Rattle.cedar_fragments.proofs.FragmentLemmas.{exit_holds}
 use Rattle.cedar_builder.proofs.entity_type_checks.check_descendants.Goals as goal
 

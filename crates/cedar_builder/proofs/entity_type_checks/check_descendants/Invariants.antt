@@ -1,10 +1,6 @@
 use Rattle.std.proofs.Common.{map, Contains}
 use Rattle.std.specs.Map.Iter.{deref_pair}
-use Rattle.cedar_below.specs.declared.entity_type.EntityType.{EntityType}
-use Rattle.cedar_schema_elements.specs.ValidatorEntityType.{entity_type_of}
-use Rattle.cedar_schema_elements.specs.declared.entity_type.ValidatorEntityType.{ValidatorEntityType}
-use Rattle.cedar_declarations.specs.ValidSchema.{IsEnumerated}
-use Rattle.cedar_builder.specs.EntityTypeNodes.{IsExternalAt, node_at}
+use Rattle.cedar_builder.specs.Words.{EntityType, IsEnumerated, IsExternalAt, ValidatorEntityType, entity_type_of, node_at}
 use Rattle.cedar_builder.proofs.entity_type_checks.check_descendants.Given as goal
 
 abbrev pub invariant-loop-name : goal.invariant-loop-name

@@ -1,6 +1,5 @@
 use Rattle.std.proofs.Common.{take, Contains}
-use Rattle.cedar_below.specs.declared.entity_type.EntityType.{EntityType}
-use Rattle.cedar_builder.specs.EntityTypeNodes.{IsEdgeSound}
+use Rattle.cedar_builder.specs.Words.{EntityType, IsEdgeSound}
 use Rattle.cedar_builder.proofs.entity_type_checks.check_edges.Given as goal
 
 abbrev pub invariant-loop-edge : goal.invariant-loop-edge

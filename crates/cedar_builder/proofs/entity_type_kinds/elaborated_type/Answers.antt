@@ -1,17 +1,9 @@
 use Rattle.std.proofs.Common.{map, ap}
 use Rattle.std.proofs.IntoIterSteps.{All-taken}
 use Rattle.std.proofs.lemmas.Result.{IfErr-weaker, IfOk-weaker, on_ok_weaker}
-use Rattle.cedar_below.specs.EntityType.{type_name}
-use Rattle.cedar_below.specs.declared.internal_name.InternalName.{InternalName}
-use Rattle.cedar_declarations.specs.SchemaError.{fault_of}
-use Rattle.cedar_declarations.specs.ResolvedExpr.{resolved_reference}
-use Rattle.cedar_schema_elements.specs.ValidatorEntityType.{descendant_names}
-use Rattle.cedar_fragments.specs.TypeDeclarations.{fragment_body}
+use Rattle.cedar_builder.specs.Words.{Entity, InternalName, IsBodyFault, IsElaboratedEntity, descendant_names, fault_of, fragment_body, resolved_reference, type_name}
 use Rattle.cedar_fragments.specs.declared.namespace.entity_types.EntityTypeFragment.TheVariants as variant
-use Rattle.cedar_names.specs.declared.json_schema.reference_type.ReferenceType.TheVariants.{Entity}
 use Rattle.cedar_builder.proofs.EntityTypesElaborated.{SameItems-none}
-use Rattle.cedar_builder.specs.EntityTypeNodes.{IsElaboratedEntity}
-use Rattle.cedar_builder.specs.EntityTypeSteps.{IsBodyFault}
 use Rattle.cedar_builder.proofs.entity_type_kinds.elaborated_type.Goals as goal
 
 -- what holds of the parts of a standard entity type holds of its body

@@ -1,7 +1,6 @@
 use Rattle.std.proofs.Common.{ap, inr}
-use Rattle.cedar_declarations.specs.Fault.{shape_not_record}
+use Rattle.cedar_builder.specs.Words.{shape_not_record, ty_of}
 use Rattle.cedar_types.proofs.MemberParts.{ty_of-record}
-use Rattle.cedar_types.specs.Meaning.{ty_of}
 use Rattle.cedar_builder.proofs.EntityTypeCases.{no_record}
 use Rattle.cedar_builder.proofs.EntityTypesElaborated.{closed_elaborated}
 use Rattle.cedar_builder.proofs.entity_type_kinds.shape_attributes.Goals as goal

@@ -1,8 +1,6 @@
 use Rattle.std.proofs.Common.{refl, inl, inr}
 use Rattle.std.proofs.IntoIterSteps.{All-taken}
-use Rattle.cedar_declarations.specs.ResolvedExpr.{resolved_expr}
-use Rattle.cedar_schema_elements.specs.ValidatorEntityType.{descendant_names}
-use Rattle.cedar_types.specs.Meaning.{fields_of}
+use Rattle.cedar_builder.specs.Words.{descendant_names, fields_of, resolved_expr}
 use Rattle.cedar_builder.proofs.EntityTypesElaborated.{SameItems-none}
 use Rattle.cedar_fragments.proofs.FragmentLemmas.{exit_holds}
 use Rattle.cedar_builder.proofs.entity_type_kinds.standard_type.Goals as goal

@@ -1,12 +1,7 @@
 use Rattle.std.proofs.Common.{◌≡◌, BuildHasherDefault, FoldHasher, HashMap, List, inl, inr, Contains}
-use Rattle.cedar_below.specs.EntityType.{type_name}
-use Rattle.cedar_below.specs.declared.entity_type.EntityType.{EntityType}
+use Rattle.cedar_builder.specs.Words.{EntityType, IsEdgeSound, SameType, ValidatorEntityType, fault_of, node_at, plain_kind, type_name}
 use Rattle.cedar_graph.proofs.AddedEdges.{alike_weaker}
-use Rattle.cedar_schema_elements.specs.EntityTypeKind.{plain_kind}
-use Rattle.cedar_schema_elements.specs.declared.entity_type.ValidatorEntityType.{ValidatorEntityType}
-use Rattle.cedar_declarations.specs.SchemaError.{fault_of}
 use Rattle.cedar_builder.proofs.EntityTypeLinks.{are_linked, below_fault, upper_stands}
-use Rattle.cedar_builder.specs.EntityTypeNodes.{IsEdgeSound, SameType, node_at}
 use Rattle.cedar_fragments.proofs.FragmentLemmas.{exit_holds}
 use Rattle.cedar_builder.proofs.entity_type_links.linked_nodes.Goals as goal
 

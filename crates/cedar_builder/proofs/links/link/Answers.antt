@@ -1,8 +1,7 @@
 use Rattle.std.specs.HashMap.{get}
-use Rattle.cedar_below.specs.Chain.{Chain}
+use Rattle.cedar_builder.specs.Words.{Chain, IsEdgeIn, Reaches}
 use Rattle.cedar_graph.proofs.AddedEdges.{alike_onwards, chains_in}
 use Rattle.cedar_graph.proofs.MovedMaps.{each_alike_twice}
-use Rattle.cedar_graph.specs.Edges.{IsEdgeIn, Reaches}
 use Rattle.cedar_builder.proofs.NodesLinked.{refusal_along}
 use Rattle.cedar_fragments.proofs.FragmentLemmas.{exit_holds}
 use Rattle.cedar_builder.proofs.links.link.Goals as goal

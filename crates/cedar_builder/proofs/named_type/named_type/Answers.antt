@@ -1,7 +1,5 @@
 use Rattle.std.proofs.Common.{◌∙◌, ap, subst, inr}
-use Rattle.cedar_below.specs.InternalName.{name_of}
-use Rattle.cedar_below.specs.PlainName.{IsReserved}
-use Rattle.cedar_declarations.specs.Fault.{reserved_name}
+use Rattle.cedar_builder.specs.Words.{IsReserved, name_of, reserved_name}
 use Rattle.cedar_builder.proofs.named_type.named_type.Goals as goal
 
 pub returns-in-Err-clause-fault : goal.returns-in-Err-clause-fault

@@ -1,9 +1,8 @@
 use Rattle.std.proofs.Common.{map, append-nil, sym, take}
 use Rattle.std.proofs.lemmas.List.{take_all}
 use Rattle.cedar_declarations.proofs.OccurrenceLemmas.{Contains-image}
-use Rattle.cedar_declarations.specs.SchemaError.{fault_of}
+use Rattle.cedar_builder.specs.Words.{fault_of, plain_edge}
 use Rattle.cedar_builder.proofs.NodeEdges.{item_among, map_item, parent_fault, pushed_parent}
-use Rattle.cedar_builder.specs.DeclaredNodes.{plain_edge}
 use Rattle.cedar_fragments.proofs.FragmentLemmas.{exit_holds}
 use Rattle.cedar_builder.proofs.parents.add_parents.Goals as goal
 

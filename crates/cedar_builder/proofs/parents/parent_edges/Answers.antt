@@ -1,8 +1,7 @@
 use Rattle.std.proofs.Common.{◌++◌, ◌∙◌, ap, map, sym, take}
 use Rattle.cedar_declarations.proofs.OccurrenceLemmas.{Contains-image}
-use Rattle.cedar_declarations.specs.SchemaError.{fault_of}
+use Rattle.cedar_builder.specs.Words.{fault_of, named, parents_in}
 use Rattle.cedar_builder.proofs.NodeEdges.{item_among, map_item, parent_fault_wider, parents_more}
-use Rattle.cedar_builder.specs.DeclaredNodes.{named, parents_in}
 use Rattle.cedar_fragments.proofs.FragmentLemmas.{exit_holds}
 use Rattle.cedar_builder.proofs.parents.parent_edges.Goals as goal
 

@@ -1,7 +1,6 @@
 use Rattle.std.proofs.Common.{sym, ◌∙◌, ◌∷◌, inr, map}
 use Rattle.std.proofs.lemmas.Bool.{false≢true}
-use Rattle.cedar_below.specs.EntityType.{type_name}
-use Rattle.cedar_declarations.specs.Fault.{undeclared_entity_types}
+use Rattle.cedar_builder.specs.Words.{type_name, undeclared_entity_types}
 use Rattle.cedar_builder.proofs.RequestTypes.{has_name}
 use Rattle.cedar_builder.proofs.request_types.declared_type.Goals as goal
 

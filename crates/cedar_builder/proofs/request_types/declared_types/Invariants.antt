@@ -1,8 +1,5 @@
 use Rattle.std.proofs.Common.{◌≡◌, Contains, map, take}
-use Rattle.cedar_below.specs.EntityType.{type_name}
-use Rattle.cedar_below.specs.InternalName.{name_of}
-use Rattle.cedar_below.specs.PlainName.{PlainName}
-use Rattle.cedar_builder.specs.ActionSteps.{names_in}
+use Rattle.cedar_builder.specs.Words.{PlainName, name_of, names_in, type_name}
 use Rattle.cedar_builder.proofs.request_types.declared_types.Given as goal
 
 abbrev pub invariant-loop-name : goal.invariant-loop-name

@@ -1,11 +1,8 @@
 use Rattle.std.proofs.Common.{◌≡◌, ◌∷◌, Contains, ap, inl, inr, map, refl, subst, sym, ◌∙◌}
 use Rattle.std.proofs.lemmas.Bool.{false≢true}
 use Rattle.cedar_below.proofs.Lists.{Contains-cons}
-use Rattle.cedar_below.specs.EntityUID.{uid_of}
+use Rattle.cedar_compare.specs.Words.{AreActionUppersSoFar, ListsApart, action_of, schema_of, uid_of}
 use Rattle.cedar_compare.proofs.ActionUpperLemmas.{IsActionLeft, action_left_first, action_left_none, action_left_past, action_past_kept, action_past_there, action_put, apart_turned, descendants_of_it, none_kept}
-use Rattle.cedar_compare.specs.Uppers.{AreActionUppersSoFar, ListsApart}
-use Rattle.cedar_schema.specs.ValidatorSchema.{schema_of}
-use Rattle.cedar_schema_elements.specs.ValidatorActionId.{action_of}
 use Rattle.cedar_compare.proofs.action_uppers.add_descendants.Goals as goal
 
 pub loop-lower-init : goal.loop-lower-init

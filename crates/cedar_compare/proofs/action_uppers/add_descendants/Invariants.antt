@@ -1,11 +1,6 @@
 use Rattle.std.proofs.Common.{List, ◌∷◌, Contains, map}
-use Rattle.cedar_below.specs.EntityUID.{uid_of}
-use Rattle.cedar_below.specs.Lists.{Included}
-use Rattle.cedar_below.specs.PlainUid.{PlainUid}
+use Rattle.cedar_compare.specs.Words.{AreActionUppersSoFar, Included, PlainUid, action_of, schema_of, uid_of}
 use Rattle.cedar_compare.proofs.ActionUpperLemmas.{IsActionLeft}
-use Rattle.cedar_compare.specs.Uppers.{AreActionUppersSoFar}
-use Rattle.cedar_schema.specs.ValidatorSchema.{schema_of}
-use Rattle.cedar_schema_elements.specs.ValidatorActionId.{action_of}
 use Rattle.cedar_compare.proofs.action_uppers.add_descendants.Given as goal
 
 abbrev pub invariant-loop-lower : goal.invariant-loop-lower

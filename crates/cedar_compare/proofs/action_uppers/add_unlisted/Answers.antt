@@ -1,11 +1,7 @@
 use Rattle.std.proofs.Common.{List, Contains, ap, map, subst, sym, ◌∙◌}
-use Rattle.cedar_below.specs.EntityUID.{uid_of}
-use Rattle.cedar_below.specs.PlainUid.{PlainUid}
+use Rattle.cedar_compare.specs.Words.{AreActionUppersSoFar, PlainUid, action_entries, action_of, schema_of, uid_of}
 use Rattle.cedar_compare.proofs.ActionUpperLemmas.{action_past_none, actions_left, no_action_left}
 use Rattle.cedar_compare.proofs.FindLemmas.{plain_keys}
-use Rattle.cedar_compare.specs.Uppers.{AreActionUppersSoFar}
-use Rattle.cedar_schema.specs.ValidatorSchema.{action_entries, schema_of}
-use Rattle.cedar_schema_elements.specs.ValidatorActionId.{action_of}
 use Rattle.cedar_compare.proofs.action_uppers.add_unlisted.Goals as goal
 
 pub loop-uid-init : goal.loop-uid-init

@@ -1,7 +1,5 @@
 use Rattle.std.proofs.Common.{Contains, map}
-use Rattle.cedar_below.specs.EntityUID.{uid_of}
-use Rattle.cedar_compare.specs.Uppers.{AreActionUppersSoFar}
-use Rattle.cedar_schema.specs.ValidatorSchema.{schema_of}
+use Rattle.cedar_compare.specs.Words.{AreActionUppersSoFar, schema_of, uid_of}
 use Rattle.cedar_compare.proofs.action_uppers.add_unlisted.Given as goal
 
 abbrev pub invariant-loop-uid : goal.invariant-loop-uid

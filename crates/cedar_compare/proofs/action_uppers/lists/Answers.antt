@@ -1,10 +1,8 @@
 use Rattle.std.proofs.Common.{sym, ◌∙◌}
 use Rattle.std.proofs.lemmas.Bool.{false≢true}
-use Rattle.cedar_below.specs.EntityUID.{uid_of}
+use Rattle.cedar_compare.specs.Words.{action_of, schema_of, uid_of}
 use Rattle.cedar_compare.proofs.FindLemmas.{listed_by}
-use Rattle.cedar_schema.specs.ValidatorSchema.{schema_of}
 use Rattle.cedar_schema_elements.proofs.SetLemmas.{list_any-uids}
-use Rattle.cedar_schema_elements.specs.ValidatorActionId.{action_of}
 use Rattle.cedar_compare.proofs.action_uppers.lists.Goals as goal
 
 pub returns-in-Some : goal.returns-in-Some

@@ -1,9 +1,7 @@
 use Rattle.std.proofs.Common.{Some, None, subst, sym, ◌∙◌, ⊎_elim}
 use Rattle.std.proofs.lemmas.Bool.{false≢true}
-use Rattle.cedar_below.specs.EntityUID.{uid_of}
+use Rattle.cedar_compare.specs.Words.{ListsApart, new_of, old_of, uid_of}
 use Rattle.cedar_compare.proofs.ActionUpperLemmas.{action_upper_found}
-use Rattle.cedar_compare.specs.Uppers.{ListsApart}
-use Rattle.cedar_compare.specs.Versions.{new_of, old_of}
 use Rattle.cedar_compare.proofs.actions.action_cause.Goals as goal
 
 pub returns-then-not-is_defined : goal.returns-then-not-is_defined

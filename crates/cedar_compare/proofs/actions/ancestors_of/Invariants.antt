@@ -1,7 +1,5 @@
 use Rattle.std.proofs.Common.{◌⊎◌, ◌↔◌, Contains, map}
-use Rattle.cedar_below.specs.Entity.{entity_ancestors}
-use Rattle.cedar_below.specs.EntityUID.{uid_of}
-use Rattle.cedar_below.specs.PlainUid.{PlainUid}
+use Rattle.cedar_compare.specs.Words.{PlainUid, entity_ancestors, uid_of}
 use Rattle.cedar_compare.proofs.actions.ancestors_of.Given as goal
 
 abbrev pub invariant-loop-uid : goal.invariant-loop-uid

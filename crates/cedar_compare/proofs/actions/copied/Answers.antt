@@ -1,10 +1,6 @@
 use Rattle.std.proofs.Common.{List, Contains, ap, subst, sym, ◌∙◌}
-use Rattle.cedar_below.specs.PlainUid.{PlainUid}
+use Rattle.cedar_compare.specs.Words.{DefinesAction, ListsDescendantAction, PlainUid, named_values, old_of}
 use Rattle.cedar_compare.proofs.EntityLemmas.{no_values, real_entity}
-use Rattle.cedar_compare.specs.Versions.{old_of}
-use Rattle.cedar_declarations.specs.ActionEntities.{DefinesAction}
-use Rattle.cedar_declarations.specs.ValidSchema.{ListsDescendantAction}
-use Rattle.cedar_schema_elements.specs.ActionEntities.{named_values}
 use Rattle.cedar_compare.proofs.actions.copied.Goals as goal
 
 pub returns-clause-uid : goal.returns-clause-uid

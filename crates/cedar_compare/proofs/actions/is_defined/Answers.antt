@@ -1,10 +1,7 @@
 use Rattle.std.proofs.Common.{subst}
 use Rattle.std.proofs.lemmas.Bool.{false≢true}
-use Rattle.cedar_below.specs.EntityUID.{uid_of}
+use Rattle.cedar_compare.specs.Words.{IsDefinedKind, action_of, schema_of, uid_of}
 use Rattle.cedar_compare.proofs.FindLemmas.{defined_as, fails, not_external, not_fails}
-use Rattle.cedar_declarations.specs.ActionEntities.{IsDefinedKind}
-use Rattle.cedar_schema.specs.ValidatorSchema.{schema_of}
-use Rattle.cedar_schema_elements.specs.ValidatorActionId.{action_of}
 use Rattle.cedar_compare.proofs.actions.is_defined.Goals as goal
 
 pub returns-in-Some : goal.returns-in-Some

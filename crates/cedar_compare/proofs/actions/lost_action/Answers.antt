@@ -1,17 +1,8 @@
 use Rattle.std.proofs.Common.{Option, None, ap, subst, sym, ◌∙◌}
 use Rattle.std.proofs.lemmas.Bool.{false≢true}
 use Rattle.std.specs.Option.{option_map}
-use Rattle.cedar_below.specs.Entity.{entity_uid}
-use Rattle.cedar_below.specs.EntityUID.{uid_of}
-use Rattle.cedar_below.specs.PlainUid.{PlainUid}
+use Rattle.cedar_compare.specs.Words.{Cause, IsActionAnswer, IsActionCause, IsEntityOfType, PlainUid, action_subject, entity_uid, new_of, old_of, plain_action_entity, plain_cause, uid_of}
 use Rattle.cedar_compare.proofs.ActionLemmas.{kept_defined, kept_of_type, lost_by_cause, of_type_alike}
-use Rattle.cedar_compare.specs.Difference.{IsActionCause, action_subject}
-use Rattle.cedar_compare.specs.Entities.{IsEntityOfType}
-use Rattle.cedar_compare.specs.Told.{plain_cause}
-use Rattle.cedar_compare.specs.Uppers.{IsActionAnswer}
-use Rattle.cedar_compare.specs.Versions.{new_of, old_of}
-use Rattle.cedar_compare.specs.declared.difference.Cause.{Cause}
-use Rattle.cedar_schema_elements.specs.ActionEntities.{plain_action_entity}
 use Rattle.cedar_compare.proofs.actions.lost_action.Goals as goal
 
 pub returns-then-is_bare_of_type : goal.returns-then-is_bare_of_type

@@ -1,20 +1,9 @@
 use Rattle.std.proofs.Common.{Contains, ap, subst, sym, ◌∙◌}
 use Rattle.std.proofs.lemmas.Bool.{false≢true}
-use Rattle.cedar_below.specs.PlainUid.{PlainUid}
-use Rattle.cedar_below.specs.Tree.{Entries, map_value, no_entry}
+use Rattle.cedar_compare.specs.Words.{AreTagsOf, EntityTypeKind, Entries, Fields, Has, IsEntityOfKind, IsStandard, PlainUid, choice_texts, kind_fields, kind_openness, kind_tags, map_value, no_entry, plain_action_entity, plain_kind, plain_type, record_of, schema_of}
 use Rattle.cedar_compare.proofs.BareLemmas.{of_its_kind}
 use Rattle.cedar_compare.proofs.NoTags.{no_tags}
 use Rattle.cedar_compare.proofs.LostLemmas.{of_parts, parts_of}
-use Rattle.cedar_compare.specs.Choices.{choice_texts}
-use Rattle.cedar_compare.specs.Entities.{AreTagsOf, IsEntityOfKind}
-use Rattle.cedar_compare.specs.Lookup.{plain_type}
-use Rattle.cedar_compare.specs.Versions.{IsStandard}
-use Rattle.cedar_declarations.specs.EntityTypeKind.{EntityTypeKind, kind_fields, kind_openness, kind_tags}
-use Rattle.cedar_schema.specs.ValidatorSchema.{schema_of}
-use Rattle.cedar_schema_elements.specs.ActionEntities.{plain_action_entity}
-use Rattle.cedar_schema_elements.specs.EntityTypeKind.{plain_kind}
-use Rattle.cedar_type_rules.specs.Has.{Has}
-use Rattle.cedar_type_rules.specs.Ty.{Fields, record_of}
 use Rattle.cedar_compare.proofs.bare.is_bare_of_type.Goals as goal
 
 pub returns-in_default : goal.returns-in_default

@@ -1,10 +1,6 @@
 use Rattle.std.proofs.Common.{ap, map, refl, subst, sym, ◌∙◌}
 use Rattle.std.proofs.lemmas.Bool.{false≢true}
-use Rattle.cedar_below.specs.Entity.{entity_ancestors, entity_uid}
-use Rattle.cedar_below.specs.EntityUID.{uid_of}
-use Rattle.cedar_below.specs.PlainUid.{PlainUid}
-use Rattle.cedar_compare.specs.Entities.{MayStandAbove}
-use Rattle.cedar_schema.specs.ValidatorSchema.{schema_of}
+use Rattle.cedar_compare.specs.Words.{MayStandAbove, PlainUid, entity_ancestors, entity_uid, schema_of, uid_of}
 use Rattle.cedar_compare.proofs.LeftLemmas.{sure_all, sure_here, sure_more, sure_none}
 use Rattle.cedar_compare.proofs.bare.may_all_stand_above.Goals as goal
 

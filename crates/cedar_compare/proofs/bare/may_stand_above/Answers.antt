@@ -1,12 +1,7 @@
 use Rattle.std.proofs.Common.{Contains, List, Option, subst, sym, ◌∙◌}
 use Rattle.std.proofs.lemmas.Bool.{false≢true}
-use Rattle.cedar_below.specs.EntityType.{type_name}
-use Rattle.cedar_below.specs.EntityUID.{uid_of}
-use Rattle.cedar_below.specs.Text.{Text}
+use Rattle.cedar_compare.specs.Words.{MayHave, Text, choice_texts, plain_type, schema_of, type_name, uid_of}
 use Rattle.cedar_compare.proofs.StandLemmas.{may_stand, stands_listed, stands_with}
-use Rattle.cedar_compare.specs.Choices.{MayHave, choice_texts}
-use Rattle.cedar_compare.specs.Lookup.{plain_type}
-use Rattle.cedar_schema.specs.ValidatorSchema.{schema_of}
 use Rattle.cedar_compare.proofs.bare.may_stand_above.Goals as goal
 
 pub returns-in_default : goal.returns-in_default

@@ -3,9 +3,8 @@ use Rattle.std.proofs.lemmas.Bool.{false≢true}
 use Rattle.std.specs.List.{list_any}
 use Rattle.cedar_below.proofs.Ids.{eid_eq-same}
 use Rattle.cedar_below.proofs.Lists.{Contains-cons, Contains-cons_cases, list_any-Contains}
-use Rattle.cedar_below.specs.Eid.{eid_text}
+use Rattle.cedar_compare.specs.Words.{Eid, eid_text}
 use Rattle.cedar_below.specs.contracts.eid.EidPartialEq.TheImpl as eid_eq
-use Rattle.cedar_below.specs.declared.eid.Eid.{Eid}
 use Rattle.cedar_compare.proofs.choices.has_choice.Goals as goal
 
 pub returns-else-eq : goal.returns-else-eq

@@ -3,10 +3,8 @@ use Rattle.std.proofs.lemmas.Bool.{false≢true}
 use Rattle.std.proofs.lemmas.List.{take_all}
 use Rattle.std.proofs.lemmas.List.Elements.{All-more}
 use Rattle.cedar_below.proofs.Lists.{Contains-cons}
-use Rattle.cedar_below.specs.Eid.{eid_text}
-use Rattle.cedar_below.specs.declared.eid.Eid.{Eid}
+use Rattle.cedar_compare.specs.Words.{Eid, choice_texts, eid_text}
 use Rattle.cedar_compare.proofs.ChoiceLemmas.{each_image}
-use Rattle.cedar_compare.specs.Choices.{choice_texts}
 use Rattle.cedar_declarations.proofs.OccurrenceLemmas.{Contains-image}
 use Rattle.cedar_compare.proofs.choices.other_choice.Goals as goal
 

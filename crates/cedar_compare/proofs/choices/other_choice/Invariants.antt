@@ -1,6 +1,5 @@
 use Rattle.std.proofs.Common.{All, Contains, take}
-use Rattle.cedar_below.specs.Eid.{eid_text}
-use Rattle.cedar_compare.specs.Choices.{choice_texts}
+use Rattle.cedar_compare.specs.Words.{choice_texts, eid_text}
 use Rattle.cedar_compare.proofs.choices.other_choice.Given as goal
 
 abbrev pub invariant-loop-eid : goal.invariant-loop-eid

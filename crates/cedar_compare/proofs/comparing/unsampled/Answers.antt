@@ -4,13 +4,7 @@ use Rattle.std.specs.List.Sorted.{IsPermutation}
 use Rattle.cedar_compare.proofs.CompareLemmas.{leaf_here, leaf_next, leaves_start}
 use Rattle.cedar_compare.proofs.LeftLemmas.{sure_all}
 use Rattle.cedar_compare.proofs.SampledLemmas.{schema_inhabited}
-use Rattle.cedar_queries.specs.GivesLeaf.{GivesLeaf, pending_types}
-use Rattle.cedar_queries.specs.Leaves.{leaves_of, schema_leaves}
-use Rattle.cedar_queries.specs.declared.leaves.TypeIterator.{TypeIterator}
-use Rattle.cedar_schema.specs.ValidatorSchema.{schema_of}
-use Rattle.cedar_type_rules.specs.Stated.{IsInhabitedWith}
-use Rattle.cedar_types.specs.Meaning.{ty_of}
-use Rattle.cedar_types.specs.Samples.{value_trees}
+use Rattle.cedar_compare.specs.Words.{GivesLeaf, IsInhabitedWith, TypeIterator, leaves_of, pending_types, schema_leaves, schema_of, ty_of, value_trees}
 use Rattle.cedar_compare.proofs.comparing.unsampled.Goals as goal
 
 pub loop-ty-init : goal.loop-ty-init

@@ -1,13 +1,8 @@
 use Rattle.std.proofs.Common.{Contains, ap, inl, subst, sym, ◌∙◌}
 use Rattle.std.proofs.lemmas.Bool.{false≢true}
-use Rattle.cedar_below.specs.EntityUID.{uid_of}
-use Rattle.cedar_below.specs.PlainUid.{PlainUid}
+use Rattle.cedar_compare.specs.Words.{IsEnumerated, LacksChoice, PlainUid, SchemaEntityType, new_of, old_of, uid_of}
 use Rattle.cedar_compare.proofs.BareLemmas.{alike_enumerated, is_enumerated}
 use Rattle.cedar_compare.proofs.StandLemmas.{choice_of_kind}
-use Rattle.cedar_compare.specs.Difference.{LacksChoice}
-use Rattle.cedar_compare.specs.Versions.{new_of, old_of}
-use Rattle.cedar_declarations.specs.PlainSchema.{SchemaEntityType}
-use Rattle.cedar_declarations.specs.ValidSchema.{IsEnumerated}
 use Rattle.cedar_compare.proofs.entity_types.choice_cause.Goals as goal
 
 pub returns-then-is_enumerated_at : goal.returns-then-is_enumerated_at

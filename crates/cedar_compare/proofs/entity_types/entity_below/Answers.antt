@@ -1,17 +1,9 @@
 use Rattle.std.proofs.Common.{◌≡◌, ◌∷◌, [], List, ap, map, subst, sym, ◌∙◌}
 use Rattle.std.specs.BTreeSet.{insert_key}
 use Rattle.cedar_below.proofs.ValueCopies.{uid_real}
-use Rattle.cedar_below.specs.EntityType.{type_name}
-use Rattle.cedar_below.specs.EntityUID.{uid_of}
-use Rattle.cedar_below.specs.IsValue.{IsValue}
-use Rattle.cedar_below.specs.PlainUid.{PlainUid}
-use Rattle.cedar_below.specs.Tree.{uid_value}
+use Rattle.cedar_compare.specs.Words.{EntityUID, IsFreshIn, IsValue, PlainUid, named_values, new_of, type_name, uid_of, uid_value}
 use Rattle.cedar_below.specs.contracts.entity_uid.EntityUIDOrd.TheImpl as uid_ord
-use Rattle.cedar_below.specs.declared.entity_uid.EntityUID.{EntityUID}
 use Rattle.cedar_compare.proofs.EntityLemmas.{no_values}
-use Rattle.cedar_compare.specs.Fresh.{IsFreshIn}
-use Rattle.cedar_compare.specs.Versions.{new_of}
-use Rattle.cedar_schema_elements.specs.ActionEntities.{named_values}
 use Rattle.cedar_compare.proofs.entity_types.entity_below.Goals as goal
 
 pub returns : goal.returns

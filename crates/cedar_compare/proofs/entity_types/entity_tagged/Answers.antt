@@ -3,19 +3,7 @@ use Rattle.std.specs.BTreeMap.{insert_entry}
 use Rattle.std.specs.declared.alloc.Global.{Global}
 use Rattle.std.specs.declared.string.String.{String}
 use Rattle.cedar_below.proofs.ValueCopies.{uid_real}
-use Rattle.cedar_below.specs.EntityType.{type_name}
-use Rattle.cedar_below.specs.EntityUID.{uid_of}
-use Rattle.cedar_below.specs.IsValue.{IsValue}
-use Rattle.cedar_below.specs.PlainUid.{PlainUid}
-use Rattle.cedar_below.specs.RestrictedExpr.{tree_of}
-use Rattle.cedar_below.specs.Text.{Text}
-use Rattle.cedar_below.specs.Tree.{entries_from, entry, no_entry, uid_value}
-use Rattle.cedar_below.specs.Value.{value_expr}
-use Rattle.cedar_below.specs.declared.value.Value.{Value}
-use Rattle.cedar_compare.specs.Fresh.{IsFreshIn}
-use Rattle.cedar_compare.specs.Versions.{new_of}
-use Rattle.cedar_schema_elements.specs.ActionEntities.{named_values}
-use Rattle.cedar_types.specs.Samples.{value_tree}
+use Rattle.cedar_compare.specs.Words.{IsFreshIn, IsValue, PlainUid, Text, Value, entries_from, entry, named_values, new_of, no_entry, tree_of, type_name, uid_of, uid_value, value_expr, value_tree}
 use Rattle.cedar_compare.proofs.entity_types.entity_tagged.Goals as goal
 
 pub returns : goal.returns

@@ -1,14 +1,7 @@
 use Rattle.std.proofs.Common.{ap, map, subst, sym, ◌∙◌}
 use Rattle.cedar_below.proofs.ValueCopies.{uid_real}
-use Rattle.cedar_below.specs.EntityType.{type_name}
-use Rattle.cedar_below.specs.EntityUID.{uid_of}
-use Rattle.cedar_below.specs.IsValue.{IsValue}
-use Rattle.cedar_below.specs.PlainUid.{PlainUid}
-use Rattle.cedar_below.specs.Tree.{uid_value}
+use Rattle.cedar_compare.specs.Words.{IsFreshIn, IsValue, PlainUid, named_values, new_of, type_name, uid_of, uid_value}
 use Rattle.cedar_compare.proofs.EntityLemmas.{no_values}
-use Rattle.cedar_compare.specs.Fresh.{IsFreshIn}
-use Rattle.cedar_compare.specs.Versions.{new_of}
-use Rattle.cedar_schema_elements.specs.ActionEntities.{named_values}
 use Rattle.cedar_compare.proofs.entity_types.entity_with.Goals as goal
 
 pub returns : goal.returns

@@ -1,8 +1,5 @@
-use Rattle.cedar_below.specs.EntityType.{type_name}
+use Rattle.cedar_compare.specs.Words.{named_values, new_of, old_of, plain_action_entity, plain_type, type_name}
 use Rattle.cedar_compare.proofs.LostLemmas.{gone_loss}
-use Rattle.cedar_compare.specs.Lookup.{plain_type}
-use Rattle.cedar_compare.specs.Versions.{new_of, old_of}
-use Rattle.cedar_schema_elements.specs.ActionEntities.{named_values, plain_action_entity}
 use Rattle.cedar_compare.proofs.entity_types.gone.Goals as goal
 
 pub returns : goal.returns

@@ -1,13 +1,8 @@
 use Rattle.std.proofs.Common.{None, Some, ⊎_elim}
 use Rattle.cedar_below.proofs.ValueCopies.{uid_real}
-use Rattle.cedar_below.specs.EntityType.{type_name}
-use Rattle.cedar_below.specs.EntityUID.{uid_of}
+use Rattle.cedar_compare.specs.Words.{named_values, new_of, old_of, plain_action_entity, plain_cause, plain_type, type_name, uid_of}
 use Rattle.cedar_compare.proofs.LostLemmas.{below_loss}
 use Rattle.cedar_compare.proofs.UpperLemmas.{upper_found}
-use Rattle.cedar_compare.specs.Lookup.{plain_type}
-use Rattle.cedar_compare.specs.Told.{plain_cause}
-use Rattle.cedar_compare.specs.Versions.{new_of, old_of}
-use Rattle.cedar_schema_elements.specs.ActionEntities.{named_values, plain_action_entity}
 use Rattle.cedar_compare.proofs.entity_types.lost_below.Goals as goal
 
 pub returns-in_default : goal.returns-in_default

@@ -1,15 +1,7 @@
 use Rattle.std.proofs.Common.{Option, subst}
 use Rattle.std.specs.Option.{option_map}
-use Rattle.cedar_below.specs.EntityType.{type_name}
+use Rattle.cedar_compare.specs.Words.{IsTagOutside, Outside, kind_tags, named_values, new_of, old_of, plain_action_entity, plain_outside, plain_type, steps_of, type_name, value_tree}
 use Rattle.cedar_compare.proofs.LostLemmas.{tags_loss}
-use Rattle.cedar_compare.specs.LostEntities.{IsTagOutside, plain_outside}
-use Rattle.cedar_compare.specs.Lookup.{plain_type}
-use Rattle.cedar_counterexample.specs.Steps.{steps_of}
-use Rattle.cedar_compare.specs.Versions.{new_of, old_of}
-use Rattle.cedar_counterexample.specs.declared.found.Outside.{Outside}
-use Rattle.cedar_declarations.specs.EntityTypeKind.{kind_tags}
-use Rattle.cedar_schema_elements.specs.ActionEntities.{named_values, plain_action_entity}
-use Rattle.cedar_types.specs.Samples.{value_tree}
 use Rattle.cedar_compare.proofs.entity_types.lost_beside.Goals as goal
 
 pub returns-in-Some : goal.returns-in-Some

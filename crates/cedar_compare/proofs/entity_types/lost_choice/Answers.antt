@@ -1,16 +1,7 @@
 use Rattle.std.proofs.Common.{ap, refl, subst, sym, ◌∙◌}
 use Rattle.std.proofs.lemmas.Bool.{false≢true}
-use Rattle.cedar_below.specs.Eid.{eid_text}
-use Rattle.cedar_below.specs.EntityType.{type_name}
-use Rattle.cedar_below.specs.PlainUid.{PlainUid}
+use Rattle.cedar_compare.specs.Words.{ActionEntity, EntityTypeKind, IsEntityIn, IsEntityOfKind, IsEntityOfType, PlainUid, bare_entity, eid_text, new_of, old_of, plain_action_entity, type_name, type_subject}
 use Rattle.cedar_compare.proofs.EntityLemmas.{real_entity}
-use Rattle.cedar_compare.specs.Difference.{type_subject}
-use Rattle.cedar_compare.specs.Entities.{IsEntityIn, IsEntityOfKind, IsEntityOfType}
-use Rattle.cedar_compare.specs.LostEntities.{bare_entity}
-use Rattle.cedar_compare.specs.Versions.{new_of, old_of}
-use Rattle.cedar_declarations.specs.EntityTypeKind.{EntityTypeKind}
-use Rattle.cedar_declarations.specs.PlainSchema.{ActionEntity}
-use Rattle.cedar_schema_elements.specs.ActionEntities.{plain_action_entity}
 use Rattle.cedar_compare.proofs.entity_types.lost_choice.Goals as goal
 
 pub returns-then-is_kept : goal.returns-then-is_kept

@@ -3,18 +3,9 @@ use Rattle.std.proofs.lemmas.List.{take_all}
 use Rattle.std.proofs.lemmas.List.Elements.{All-more}
 use Rattle.std.specs.Option.{option_map}
 use Rattle.cedar_below.proofs.Lists.{Contains-cons}
-use Rattle.cedar_below.specs.Eid.{eid_text}
-use Rattle.cedar_below.specs.declared.eid.Eid.{Eid}
-use Rattle.cedar_below.specs.EntityType.{type_name}
+use Rattle.cedar_compare.specs.Words.{Difference, Eid, EntityTypeKind, IsChoiceAnswer, IsEntityIn, IsEntityOfKind, bare_entity, choice_texts, eid_text, new_of, old_of, plain_difference, type_name}
 use Rattle.cedar_compare.proofs.BareLemmas.{of_its_kind}
 use Rattle.cedar_compare.proofs.ChoiceLemmas.{each_image}
-use Rattle.cedar_compare.specs.Choices.{choice_texts}
-use Rattle.cedar_compare.specs.Entities.{IsEntityIn, IsEntityOfKind}
-use Rattle.cedar_compare.specs.LostEntities.{IsChoiceAnswer, bare_entity}
-use Rattle.cedar_compare.specs.Told.{plain_difference}
-use Rattle.cedar_compare.specs.Versions.{new_of, old_of}
-use Rattle.cedar_compare.specs.declared.difference.Difference.{Difference}
-use Rattle.cedar_declarations.specs.EntityTypeKind.{EntityTypeKind}
 use Rattle.cedar_declarations.proofs.OccurrenceLemmas.{Contains-image}
 use Rattle.cedar_compare.proofs.entity_types.lost_enumerated.Goals as goal
 

@@ -1,9 +1,5 @@
 use Rattle.std.proofs.Common.{All, take}
-use Rattle.cedar_below.specs.Eid.{eid_text}
-use Rattle.cedar_below.specs.EntityType.{type_name}
-use Rattle.cedar_compare.specs.Entities.{IsEntityIn}
-use Rattle.cedar_compare.specs.LostEntities.{bare_entity}
-use Rattle.cedar_compare.specs.Versions.{new_of}
+use Rattle.cedar_compare.specs.Words.{IsEntityIn, bare_entity, eid_text, new_of, type_name}
 use Rattle.cedar_compare.proofs.entity_types.lost_enumerated.Given as goal
 
 abbrev pub invariant-loop-eid : goal.invariant-loop-eid

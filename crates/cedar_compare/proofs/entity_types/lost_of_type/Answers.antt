@@ -1,10 +1,6 @@
 use Rattle.std.proofs.Common.{Contains, ap, subst, sym}
 use Rattle.cedar_compare.proofs.BareLemmas.{of_its_kind}
-use Rattle.cedar_compare.specs.Entities.{IsEntityOfKind}
-use Rattle.cedar_compare.specs.Lookup.{plain_type}
-use Rattle.cedar_compare.specs.Versions.{old_of}
-use Rattle.cedar_declarations.specs.EntityTypeKind.{EntityTypeKind}
-use Rattle.cedar_schema_elements.specs.EntityTypeKind.{plain_kind}
+use Rattle.cedar_compare.specs.Words.{EntityTypeKind, IsEntityOfKind, old_of, plain_kind, plain_type}
 use Rattle.cedar_compare.proofs.entity_types.lost_of_type.Goals as goal
 
 pub returns-in_default : goal.returns-in_default

@@ -1,24 +1,9 @@
 use Rattle.std.proofs.Common.{◌≡◌, IfSome, Option, subst, sym, ◌∙◌}
 use Rattle.std.proofs.lemmas.Bool.{false≢true}
-use Rattle.cedar_below.specs.IsValue.{IsValue}
-use Rattle.cedar_below.specs.Tree.{map_value}
-use Rattle.cedar_below.specs.EntityType.{type_name}
+use Rattle.cedar_compare.specs.Words.{AreInhabitedWith, AttributesOutside, Has, IsOutsideAt, IsStandard, IsValue, SchemaEntityType, ValuesIncluded, fields_of, kind_fields, kind_openness, map_value, named_values, new_of, old_of, plain_action_entity, plain_type, record_of, steps_of, type_name, value_trees}
 use Rattle.cedar_compare.proofs.AnswerLemmas.{standard_answered}
 use Rattle.cedar_compare.proofs.LostLemmas.{attributes_loss}
 use Rattle.cedar_compare.proofs.SampledLemmas.{attributes_sampled}
-use Rattle.cedar_compare.specs.Lookup.{plain_type}
-use Rattle.cedar_counterexample.specs.Steps.{IsOutsideAt, steps_of}
-use Rattle.cedar_compare.specs.Versions.{IsStandard, new_of, old_of}
-use Rattle.cedar_counterexample.specs.declared.found.AttributesOutside.{AttributesOutside}
-use Rattle.cedar_declarations.specs.EntityTypeKind.{kind_fields, kind_openness}
-use Rattle.cedar_declarations.specs.PlainSchema.{SchemaEntityType}
-use Rattle.cedar_schema_elements.specs.ActionEntities.{named_values, plain_action_entity}
-use Rattle.cedar_type_rules.specs.Has.{Has}
-use Rattle.cedar_type_rules.specs.InclusionLaws.{ValuesIncluded}
-use Rattle.cedar_type_rules.specs.Stated.{AreInhabitedWith}
-use Rattle.cedar_type_rules.specs.Ty.{record_of}
-use Rattle.cedar_types.specs.Meaning.{fields_of}
-use Rattle.cedar_types.specs.Samples.{value_trees}
 use Rattle.cedar_compare.proofs.entity_types.lost_standard.Goals as goal
 
 pub attributes_outside-requires : goal.attributes_outside-requires

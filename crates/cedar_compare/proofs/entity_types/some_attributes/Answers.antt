@@ -1,10 +1,6 @@
 use Rattle.std.proofs.Common.{subst, sym}
-use Rattle.cedar_below.specs.EntityType.{type_name}
+use Rattle.cedar_compare.specs.Words.{AreInhabitedWith, old_of, plain_type, type_name, value_trees}
 use Rattle.cedar_compare.proofs.SampledLemmas.{attributes_sampled}
-use Rattle.cedar_compare.specs.Lookup.{plain_type}
-use Rattle.cedar_compare.specs.Versions.{old_of}
-use Rattle.cedar_type_rules.specs.Stated.{AreInhabitedWith}
-use Rattle.cedar_types.specs.Samples.{value_trees}
 use Rattle.cedar_compare.proofs.entity_types.some_attributes.Goals as goal
 
 pub sample_attributes-requires : goal.sample_attributes-requires

@@ -1,12 +1,7 @@
 use Rattle.std.proofs.Common.{sym}
-use Rattle.cedar_below.specs.EntityType.{type_name}
+use Rattle.cedar_compare.specs.Words.{kind_tags, old_of, plain_type, ty_of, type_name, value_trees}
 use Rattle.cedar_compare.proofs.SampledLemmas.{tags_sampled}
 use Rattle.cedar_compare.proofs.TagLemmas.{tags_answered}
-use Rattle.cedar_compare.specs.Lookup.{plain_type}
-use Rattle.cedar_compare.specs.Versions.{old_of}
-use Rattle.cedar_declarations.specs.EntityTypeKind.{kind_tags}
-use Rattle.cedar_types.specs.Meaning.{ty_of}
-use Rattle.cedar_types.specs.Samples.{value_trees}
 use Rattle.cedar_compare.proofs.entity_types.tag_outside.Goals as goal
 
 pub outside-requires : goal.outside-requires

@@ -1,11 +1,7 @@
 use Rattle.std.proofs.Common.{Contains, inr, subst, sym, ◌∙◌}
 use Rattle.std.proofs.lemmas.Bool.{false≢true}
-use Rattle.cedar_below.specs.EntityType.{type_name}
-use Rattle.cedar_below.specs.EntityUID.{uid_of}
+use Rattle.cedar_compare.specs.Words.{LacksChoice, ListsDescendant, new_of, old_of, type_name, uid_of}
 use Rattle.cedar_compare.proofs.StandLemmas.{may_stand}
-use Rattle.cedar_compare.specs.Difference.{LacksChoice}
-use Rattle.cedar_compare.specs.Versions.{new_of, old_of}
-use Rattle.cedar_declarations.specs.ValidSchema.{ListsDescendant}
 use Rattle.cedar_compare.proofs.entity_types.upper_cause.Goals as goal
 
 pub returns-then-lists_type : goal.returns-then-lists_type

@@ -1,13 +1,8 @@
 use Rattle.std.proofs.Common.{false, codes, arith, inr, refl}
 use Rattle.cedar_below.proofs.Inclusion.{Included-none}
-use Rattle.cedar_below.specs.Fits.{Gives}
-use Rattle.cedar_below.specs.Tree.{map_value}
+use Rattle.cedar_compare.specs.Words.{ClosedAttributes, Gives, end, field, field_names, long, map_value, record_of, with_age, without_attributes}
 use Rattle.cedar_compare.proofs.UserLemmas.{nothing_above, users_keep}
-use Rattle.cedar_compare.specs.Samples.{with_age, without_attributes}
 use Rattle.cedar_type_rules.proofs.ValueInclusion.{HasBy-included}
-use Rattle.cedar_type_rules.specs.Fields.{field_names}
-use Rattle.cedar_type_rules.specs.Ty.{end, field, long, record_of}
-use Rattle.cedar_type_rules.specs.declared.open_tag.OpenTag.TheVariants.{ClosedAttributes}
 use Rattle.cedar_compare.proofs.examples.optional_attributes_are_kept.Goals as goal
 
 pub returns : goal.returns

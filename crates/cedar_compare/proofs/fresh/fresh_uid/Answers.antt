@@ -1,9 +1,7 @@
 use Rattle.std.proofs.Common.{◌≤◌, ap, arith, length, ◌∙◌}
 use Rattle.std.proofs.lemmas.Grind.{common_steps}
-use Rattle.cedar_below.specs.EntityType.{type_name}
-use Rattle.cedar_below.specs.EntityUID.{uid_of}
+use Rattle.cedar_compare.specs.Words.{schema_of, type_name, uid_of}
 use Rattle.cedar_compare.proofs.FreshLemmas.{fresh_of}
-use Rattle.cedar_schema.specs.ValidatorSchema.{schema_of}
 use Rattle.cedar_compare.proofs.fresh.fresh_uid.Goals as goal
 
 pub returns : goal.returns

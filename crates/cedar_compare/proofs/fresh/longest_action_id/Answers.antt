@@ -2,13 +2,10 @@ use Rattle.std.proofs.Common.{◌≤◌, ap, arith, length, map, sym, ◌∙◌}
 use Rattle.std.proofs.lemmas.Bool.{false≢true}
 use Rattle.std.proofs.lemmas.Grind.{common_steps}
 use Rattle.cedar_below.proofs.Names.{entity_type_eq-same}
-use Rattle.cedar_below.specs.EntityType.{type_name}
-use Rattle.cedar_below.specs.EntityUID.{uid_of}
+use Rattle.cedar_compare.specs.Words.{action_entries, action_of, schema_of, type_name, uid_of}
 use Rattle.cedar_compare.proofs.FindLemmas.{plain_keys}
 use Rattle.cedar_compare.proofs.FreshLemmas.{IsNoLonger}
 use Rattle.cedar_compare.proofs.LeftLemmas.{sure_more, sure_none}
-use Rattle.cedar_schema.specs.ValidatorSchema.{action_entries, schema_of}
-use Rattle.cedar_schema_elements.specs.ValidatorActionId.{action_of}
 use Rattle.cedar_compare.proofs.fresh.longest_action_id.Goals as goal
 
 pub loop-uid-init : goal.loop-uid-init

@@ -1,9 +1,7 @@
 use Rattle.std.proofs.Common.{map}
-use Rattle.cedar_below.specs.EntityType.{type_name}
-use Rattle.cedar_below.specs.EntityUID.{uid_of}
+use Rattle.cedar_compare.specs.Words.{schema_of, type_name, uid_of}
 use Rattle.cedar_compare.proofs.FreshLemmas.{IsNoLonger}
 use Rattle.cedar_compare.proofs.LeftLemmas.{SureSoFar}
-use Rattle.cedar_schema.specs.ValidatorSchema.{schema_of}
 use Rattle.cedar_compare.proofs.fresh.longest_action_id.Given as goal
 
 abbrev pub invariant-loop-uid : goal.invariant-loop-uid

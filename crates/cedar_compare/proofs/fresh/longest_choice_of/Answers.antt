@@ -1,10 +1,6 @@
 use Rattle.std.proofs.Common.{◌≡◌, None, Some, List, ap, subst, sym, ◌∙◌, Contains}
 use Rattle.std.proofs.lemmas.Option.{same_Some}
-use Rattle.cedar_below.specs.EntityType.{type_name}
-use Rattle.cedar_below.specs.Text.{Text}
-use Rattle.cedar_compare.specs.Choices.{choice_texts, kind_choices}
-use Rattle.cedar_compare.specs.Lookup.{plain_type}
-use Rattle.cedar_declarations.specs.PlainSchema.{SchemaEntityType}
+use Rattle.cedar_compare.specs.Words.{SchemaEntityType, Text, choice_texts, kind_choices, plain_type, type_name}
 use Rattle.cedar_compare.proofs.fresh.longest_choice_of.Goals as goal
 
 pub returns-in-Some-choices_of : goal.returns-in-Some-choices_of

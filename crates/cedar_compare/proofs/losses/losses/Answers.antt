@@ -1,7 +1,6 @@
 use Rattle.std.proofs.Common.{◌++◌, ap, ◌∙◌}
-use Rattle.cedar_below.specs.Entities.{entities_of}
+use Rattle.cedar_compare.specs.Words.{entities_of, new_of}
 use Rattle.cedar_compare.proofs.CompareLemmas.{told_kept_all, told_losses}
-use Rattle.cedar_compare.specs.Versions.{new_of}
 use Rattle.cedar_compare.proofs.losses.losses.Goals as goal
 
 pub returns-clause-losses : goal.returns-clause-losses

@@ -1,16 +1,9 @@
 use Rattle.std.proofs.Common.{List, Contains, ap, inl, inr, map, refl, subst, sym, ◌∙◌}
 use Rattle.std.specs.List.Sorted.{IsStrictlySortedBy}
 use Rattle.cedar_below.proofs.Lists.{Contains-cons}
-use Rattle.cedar_below.specs.Entities.{entities_of}
-use Rattle.cedar_below.specs.Entity.{entity_uid}
-use Rattle.cedar_below.specs.PlainUid.{uid_cmp}
-use Rattle.cedar_below.specs.declared.entity.Entity.{Entity}
+use Rattle.cedar_compare.specs.Words.{Entity, action_subject, action_subjects, entities_of, entity_uid, new_of, old_of, plain_difference, uid_cmp}
 use Rattle.cedar_compare.proofs.CompareLemmas.{entities_sorted, member_of_action, told_difference, told_nothing, told_start}
 use Rattle.cedar_compare.proofs.ToldLemmas.{told_all}
-use Rattle.cedar_compare.specs.Difference.{action_subject}
-use Rattle.cedar_compare.specs.Losses.{action_subjects}
-use Rattle.cedar_compare.specs.Told.{plain_difference}
-use Rattle.cedar_compare.specs.Versions.{new_of, old_of}
 use Rattle.cedar_compare.proofs.losses.lost_actions.Goals as goal
 
 pub loop-entity-init : goal.loop-entity-init

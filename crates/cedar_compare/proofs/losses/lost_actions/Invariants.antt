@@ -1,10 +1,6 @@
 use Rattle.std.proofs.Common.{map}
-use Rattle.cedar_below.specs.Entities.{entities_of}
-use Rattle.cedar_below.specs.Lists.{Included}
+use Rattle.cedar_compare.specs.Words.{Included, action_subjects, entities_of, new_of, old_of, plain_difference}
 use Rattle.cedar_compare.proofs.ToldLemmas.{AnswersSoFar}
-use Rattle.cedar_compare.specs.Losses.{action_subjects}
-use Rattle.cedar_compare.specs.Told.{plain_difference}
-use Rattle.cedar_compare.specs.Versions.{new_of, old_of}
 use Rattle.cedar_compare.proofs.losses.lost_actions.Given as goal
 
 abbrev pub invariant-loop-entity : goal.invariant-loop-entity

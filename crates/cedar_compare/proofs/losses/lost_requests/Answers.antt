@@ -1,14 +1,8 @@
 use Rattle.std.proofs.Common.{List, ap, map, subst, sym, ◌∙◌}
 use Rattle.std.specs.List.Sorted.{IsStrictlySortedBy}
-use Rattle.cedar_below.specs.EntityUID.{uid_of}
-use Rattle.cedar_below.specs.PlainUid.{uid_cmp}
-use Rattle.cedar_below.specs.declared.entity_uid.EntityUID.{EntityUID}
+use Rattle.cedar_compare.specs.Words.{EntityUID, action_entries, action_of, new_of, old_of, plain_difference, uid_cmp, uid_of}
 use Rattle.cedar_compare.proofs.CompareLemmas.{requests_all, requests_next, requests_start}
 use Rattle.cedar_compare.proofs.FindLemmas.{plain_keys}
-use Rattle.cedar_compare.specs.Told.{plain_difference}
-use Rattle.cedar_compare.specs.Versions.{new_of, old_of}
-use Rattle.cedar_schema.specs.ValidatorSchema.{action_entries}
-use Rattle.cedar_schema_elements.specs.ValidatorActionId.{action_of}
 use Rattle.cedar_compare.proofs.losses.lost_requests.Goals as goal
 
 pub loop-uid-init : goal.loop-uid-init

@@ -1,8 +1,6 @@
 use Rattle.std.proofs.Common.{map}
-use Rattle.cedar_below.specs.EntityUID.{uid_of}
+use Rattle.cedar_compare.specs.Words.{new_of, old_of, plain_difference, uid_of}
 use Rattle.cedar_compare.proofs.AllLemmas.{RequestsSoFar}
-use Rattle.cedar_compare.specs.Told.{plain_difference}
-use Rattle.cedar_compare.specs.Versions.{new_of, old_of}
 use Rattle.cedar_compare.proofs.losses.lost_requests.Given as goal
 
 abbrev pub invariant-loop-uid : goal.invariant-loop-uid

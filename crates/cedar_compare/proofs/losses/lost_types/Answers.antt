@@ -1,14 +1,8 @@
 use Rattle.std.proofs.Common.{List, ap, map, subst, sym, ◌∙◌}
 use Rattle.std.specs.List.Sorted.{IsStrictlySortedBy}
-use Rattle.cedar_below.specs.EntityType.{type_name}
-use Rattle.cedar_below.specs.PlainName.{name_cmp}
-use Rattle.cedar_below.specs.declared.entity_type.EntityType.{EntityType}
+use Rattle.cedar_compare.specs.Words.{EntityType, Subject, name_cmp, new_of, old_of, plain_difference, type_name, type_subject, type_subjects}
 use Rattle.cedar_compare.proofs.CompareLemmas.{named_subjects, names_sorted, told_difference, told_nothing, told_start}
 use Rattle.cedar_compare.proofs.ToldLemmas.{told_all}
-use Rattle.cedar_compare.specs.Difference.{Subject, type_subject}
-use Rattle.cedar_compare.specs.Losses.{type_subjects}
-use Rattle.cedar_compare.specs.Told.{plain_difference}
-use Rattle.cedar_compare.specs.Versions.{new_of, old_of}
 use Rattle.cedar_compare.proofs.losses.lost_types.Goals as goal
 
 -- the subjects of names

@@ -1,10 +1,6 @@
 use Rattle.std.proofs.Common.{List, Option, subst, sym}
-use Rattle.cedar_below.specs.EntityType.{type_name}
-use Rattle.cedar_below.specs.Text.{Text}
+use Rattle.cedar_compare.specs.Words.{AreChoicesAt, Text, plain_type, schema_of, type_name}
 use Rattle.cedar_compare.proofs.FindLemmas.{choices_there}
-use Rattle.cedar_compare.specs.Lookup.{plain_type}
-use Rattle.cedar_compare.specs.PlainRequests.{AreChoicesAt}
-use Rattle.cedar_schema.specs.ValidatorSchema.{schema_of}
 use Rattle.cedar_compare.proofs.requests.choices_at.Goals as goal
 
 pub returns-in-Some : goal.returns-in-Some

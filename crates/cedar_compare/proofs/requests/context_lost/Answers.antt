@@ -1,21 +1,8 @@
 use Rattle.std.proofs.Common.{Option, refl, subst, sym}
 use Rattle.std.specs.Option.{option_map}
 use Rattle.cedar_below.proofs.ValueCopies.{uid_real}
-use Rattle.cedar_below.specs.EntityType.{type_name}
-use Rattle.cedar_below.specs.EntityUID.{uid_of}
-use Rattle.cedar_below.specs.Tree.{Tree}
+use Rattle.cedar_compare.specs.Words.{Has, IsContextOutside, Outside, Request, Tree, context_at, new_action, new_of, old_of, plain_outside, plain_request, steps_of, ty_of, type_name, uid_of, value_tree}
 use Rattle.cedar_compare.proofs.RequestSteps.{context_answer}
-use Rattle.cedar_compare.specs.LostEntities.{plain_outside}
-use Rattle.cedar_compare.specs.LostRequests.{context_at, new_action}
-use Rattle.cedar_compare.specs.PlainRequests.{IsContextOutside}
-use Rattle.cedar_counterexample.specs.Steps.{steps_of}
-use Rattle.cedar_compare.specs.Told.{plain_request}
-use Rattle.cedar_compare.specs.Versions.{new_of, old_of}
-use Rattle.cedar_compare.specs.declared.difference.Request.{Request}
-use Rattle.cedar_counterexample.specs.declared.found.Outside.{Outside}
-use Rattle.cedar_type_rules.specs.Has.{Has}
-use Rattle.cedar_types.specs.Meaning.{ty_of}
-use Rattle.cedar_types.specs.Samples.{value_tree}
 use Rattle.cedar_compare.proofs.requests.context_lost.Goals as goal
 
 -- the request has the value that is outside as its context

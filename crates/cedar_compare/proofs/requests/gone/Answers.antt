@@ -1,10 +1,5 @@
-use Rattle.cedar_below.specs.EntityType.{type_name}
-use Rattle.cedar_below.specs.EntityUID.{uid_of}
+use Rattle.cedar_compare.specs.Words.{environment_with, new_of, old_of, plain_request, ty_of, type_name, uid_of}
 use Rattle.cedar_compare.proofs.RequestSteps.{environment_context, gone_answer}
-use Rattle.cedar_compare.specs.LostRequests.{environment_with}
-use Rattle.cedar_compare.specs.Told.{plain_request}
-use Rattle.cedar_compare.specs.Versions.{new_of, old_of}
-use Rattle.cedar_types.specs.Meaning.{ty_of}
 use Rattle.cedar_compare.proofs.requests.gone.Goals as goal
 
 -- the context is that of an environment of the old version

@@ -1,20 +1,7 @@
 use Rattle.std.proofs.Common.{◌≡◌, Option, None, Some, inl, inr, refl, subst, sym}
 use Rattle.std.specs.Option.{option_map}
-use Rattle.cedar_below.specs.EntityType.{type_name}
-use Rattle.cedar_below.specs.EntityUID.{uid_of}
-use Rattle.cedar_below.specs.PlainName.{PlainName}
-use Rattle.cedar_below.specs.PlainUid.{PlainUid}
-use Rattle.cedar_below.specs.declared.entity_uid.EntityUID.{EntityUID}
+use Rattle.cedar_compare.specs.Words.{EntityUID, IsContextOutside, IsUidOutside, LacksChoice, Outside, PlainName, PlainSchema, PlainUid, context_at, environment_with, new_action, new_of, old_of, plain_outside, plain_request, ty_of, type_name, uid_of}
 use Rattle.cedar_compare.proofs.RequestSteps.{choice_answer, environment_context, kept_answer}
-use Rattle.cedar_compare.specs.Difference.{LacksChoice}
-use Rattle.cedar_compare.specs.LostEntities.{plain_outside}
-use Rattle.cedar_compare.specs.LostRequests.{context_at, environment_with, new_action}
-use Rattle.cedar_compare.specs.PlainRequests.{IsContextOutside, IsUidOutside}
-use Rattle.cedar_compare.specs.Told.{plain_request}
-use Rattle.cedar_compare.specs.Versions.{new_of, old_of}
-use Rattle.cedar_counterexample.specs.declared.found.Outside.{Outside}
-use Rattle.cedar_declarations.specs.PlainSchema.{PlainSchema}
-use Rattle.cedar_types.specs.Meaning.{ty_of}
 use Rattle.cedar_compare.proofs.requests.ids_lost.Goals as goal
 
 -- where no uid is found, none is outside

@@ -7,11 +7,8 @@ use Rattle.std.specs.Map.Iter.{deref}
 use Rattle.std.specs.Vec.Iter.{into_iter_items}
 use Rattle.itertools.proofs.AdaptorLemmas.{items_from_whole_run}
 use Rattle.cedar_below.proofs.Names.{entity_type_ord-name_cmp}
-use Rattle.cedar_below.specs.EntityType.{type_name}
-use Rattle.cedar_below.specs.Lists.{SameItems}
-use Rattle.cedar_below.specs.PlainName.{PlainName, name_cmp}
+use Rattle.cedar_compare.specs.Words.{EntityType, PlainName, SameItems, name_cmp, type_name}
 use Rattle.cedar_below.specs.contracts.entity_type.EntityTypeOrd.TheImpl as entity_type_ord
-use Rattle.cedar_below.specs.declared.entity_type.EntityType.{EntityType}
 use Rattle.cedar_compare.proofs.RequestSteps.{sorted_once, sorted_same}
 use Rattle.cedar_queries.proofs.BorrowedLemmas.{IsSorted-borrowed, borrowed, borrowed_shown}
 use Rattle.cedar_compare.proofs.requests.in_order.Goals as goal

@@ -2,25 +2,9 @@ use Rattle.std.proofs.Common.{◌≡◌, Bor, Err, Global, IfOk, List, None, Ok,
 use Rattle.std.proofs.lemmas.List.Elements.{Contains-get_or}
 use Rattle.std.specs.List.{flat_map}
 use Rattle.std.specs.Option.{option_copied, option_map}
-use Rattle.cedar_below.specs.EntityType.{type_name}
-use Rattle.cedar_below.specs.EntityUID.{uid_of}
-use Rattle.cedar_below.specs.Lists.{SameItems}
-use Rattle.cedar_below.specs.PlainName.{PlainName}
-use Rattle.cedar_below.specs.PlainUid.{PlainUid}
-use Rattle.cedar_below.specs.declared.entity_type.EntityType.{EntityType}
+use Rattle.cedar_compare.specs.Words.{AreActionAnswers, AreAnswers, Difference, EntityType, IsEnvironmentOf, PlainDifference, PlainName, PlainUid, SameItems, Ty, action_of, context_at, kind_principals, kind_resources, new_of, old_of, plain_difference, subjects_with, ty_of, type_name, uid_of}
 use Rattle.cedar_compare.proofs.RequestSteps.{action_answers, asked_of, no_answers}
-use Rattle.cedar_compare.specs.Difference.{AreAnswers, PlainDifference}
-use Rattle.cedar_compare.specs.LostRequests.{context_at, subjects_with}
-use Rattle.cedar_compare.specs.PlainRequests.{AreActionAnswers}
-use Rattle.cedar_compare.specs.Told.{plain_difference}
-use Rattle.cedar_compare.specs.Versions.{new_of, old_of}
-use Rattle.cedar_compare.specs.declared.difference.Difference.{Difference}
 use Rattle.cedar_declarations.proofs.OccurrenceLemmas.{Contains-image}
-use Rattle.cedar_declarations.specs.Environments.{IsEnvironmentOf}
-use Rattle.cedar_schema_elements.specs.ActionKind.{kind_principals, kind_resources}
-use Rattle.cedar_schema_elements.specs.ValidatorActionId.{action_of}
-use Rattle.cedar_type_rules.specs.Ty.{Ty}
-use Rattle.cedar_types.specs.Meaning.{ty_of}
 use Rattle.cedar_compare.proofs.requests.lost_of_action.Goals as goal
 
 -- the names of some entity types

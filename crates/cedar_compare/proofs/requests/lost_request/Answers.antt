@@ -1,10 +1,7 @@
 use Rattle.std.proofs.Common.{sym, ◌∙◌}
 use Rattle.std.proofs.lemmas.Bool.{false≢true}
-use Rattle.cedar_below.specs.EntityType.{type_name}
-use Rattle.cedar_below.specs.EntityUID.{uid_of}
+use Rattle.cedar_compare.specs.Words.{new_action, new_of, type_name, uid_of}
 use Rattle.cedar_compare.proofs.RequestSteps.{lacking_there, still_there}
-use Rattle.cedar_compare.specs.LostRequests.{new_action}
-use Rattle.cedar_compare.specs.Versions.{new_of}
 use Rattle.cedar_compare.proofs.requests.lost_request.Goals as goal
 
 -- the new version's action isn't for the principal and the resource

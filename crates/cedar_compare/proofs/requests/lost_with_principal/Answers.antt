@@ -2,19 +2,10 @@ use Rattle.std.proofs.Common.{◌≡◌, ◌+◌, ◌++◌, [], ◌∷◌, Bor, 
 use Rattle.std.proofs.lemmas.List.{drop_all}
 use Rattle.std.specs.Option.{option_map}
 use Rattle.cedar_below.proofs.TreeLemmas.{drop-at}
-use Rattle.cedar_below.specs.EntityType.{type_name}
-use Rattle.cedar_below.specs.EntityUID.{uid_of}
-use Rattle.cedar_below.specs.PlainName.{PlainName}
-use Rattle.cedar_below.specs.declared.entity_type.EntityType.{EntityType}
+use Rattle.cedar_compare.specs.Words.{Difference, EntityType, IsAnswer, IsEnvironmentOf, PlainDifference, PlainName, Subject, environment_subject, environment_with, new_of, old_of, plain_difference, subjects_with, type_name, uid_of}
 use Rattle.cedar_compare.proofs.AllLemmas.{subjects_sorted}
 use Rattle.cedar_compare.proofs.RequestSteps.{kept_none, told_found}
 use Rattle.cedar_compare.proofs.ToldLemmas.{AnswersSoFar, map_append, told_all, told_kept, told_none}
-use Rattle.cedar_compare.specs.Difference.{IsAnswer, PlainDifference, Subject, environment_subject}
-use Rattle.cedar_compare.specs.LostRequests.{environment_with, subjects_with}
-use Rattle.cedar_compare.specs.Told.{plain_difference}
-use Rattle.cedar_compare.specs.Versions.{new_of, old_of}
-use Rattle.cedar_compare.specs.declared.difference.Difference.{Difference}
-use Rattle.cedar_declarations.specs.Environments.{IsEnvironmentOf}
 use Rattle.cedar_compare.proofs.requests.lost_with_principal.Goals as goal
 use Rattle.cedar_compare.proofs.requests.lost_with_principal.Goals.{in-Some+in_ok-push, in_default}
 

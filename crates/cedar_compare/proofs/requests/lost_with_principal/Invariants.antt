@@ -1,10 +1,6 @@
 use Rattle.std.proofs.Common.{drop, map}
-use Rattle.cedar_below.specs.EntityType.{type_name}
-use Rattle.cedar_below.specs.EntityUID.{uid_of}
+use Rattle.cedar_compare.specs.Words.{new_of, old_of, plain_difference, subjects_with, type_name, uid_of}
 use Rattle.cedar_compare.proofs.ToldLemmas.{AnswersSoFar}
-use Rattle.cedar_compare.specs.LostRequests.{subjects_with}
-use Rattle.cedar_compare.specs.Told.{plain_difference}
-use Rattle.cedar_compare.specs.Versions.{new_of, old_of}
 use Rattle.cedar_compare.proofs.requests.lost_with_principal.Given as goal
 
 abbrev pub invariant-loop-resource : goal.invariant-loop-resource

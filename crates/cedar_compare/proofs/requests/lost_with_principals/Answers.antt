@@ -3,17 +3,9 @@ use Rattle.std.proofs.lemmas.List.{take-append-drop, take_all, take_more}
 use Rattle.std.specs.List.{flat_map}
 use Rattle.std.specs.List.Sorted.{IsStrictlySortedBy}
 use Rattle.cedar_below.proofs.TreeLemmas.{drop-at}
-use Rattle.cedar_below.specs.EntityType.{type_name}
-use Rattle.cedar_below.specs.EntityUID.{uid_of}
-use Rattle.cedar_below.specs.PlainName.{PlainName, name_cmp}
-use Rattle.cedar_below.specs.declared.entity_type.EntityType.{EntityType}
+use Rattle.cedar_compare.specs.Words.{AreAnswers, EntityType, IsEnvironmentOf, PlainDifference, PlainName, environment_with, name_cmp, new_of, old_of, plain_difference, subjects_with, type_name, uid_of}
 use Rattle.cedar_compare.proofs.RequestSteps.{principals_more}
 use Rattle.cedar_compare.proofs.ToldLemmas.{answered_none, map_append}
-use Rattle.cedar_compare.specs.Difference.{AreAnswers, PlainDifference}
-use Rattle.cedar_compare.specs.LostRequests.{environment_with, subjects_with}
-use Rattle.cedar_compare.specs.Told.{plain_difference}
-use Rattle.cedar_compare.specs.Versions.{new_of, old_of}
-use Rattle.cedar_declarations.specs.Environments.{IsEnvironmentOf}
 use Rattle.cedar_compare.proofs.requests.lost_with_principals.Goals as goal
 
 -- the names of some entity types

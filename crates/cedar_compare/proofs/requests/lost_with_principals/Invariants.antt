@@ -1,11 +1,6 @@
 use Rattle.std.proofs.Common.{map, take}
 use Rattle.std.specs.List.{flat_map}
-use Rattle.cedar_below.specs.EntityType.{type_name}
-use Rattle.cedar_below.specs.EntityUID.{uid_of}
-use Rattle.cedar_compare.specs.Difference.{AreAnswers}
-use Rattle.cedar_compare.specs.LostRequests.{subjects_with}
-use Rattle.cedar_compare.specs.Told.{plain_difference}
-use Rattle.cedar_compare.specs.Versions.{new_of, old_of}
+use Rattle.cedar_compare.specs.Words.{AreAnswers, new_of, old_of, plain_difference, subjects_with, type_name, uid_of}
 use Rattle.cedar_compare.proofs.requests.lost_with_principals.Given as goal
 
 abbrev pub invariant-loop-principal : goal.invariant-loop-principal

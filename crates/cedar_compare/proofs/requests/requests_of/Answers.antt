@@ -1,23 +1,7 @@
 use Rattle.std.proofs.Common.{◌≡◌, ◌↔◌, rules, Bor, Option, None, Some, ap, refl, subst, sym, ◌∙◌}
 use Rattle.std.specs.Option.{IfSome, MatchOption, option_copied, option_map}
-use Rattle.cedar_below.specs.IsValue.{IsValue}
-use Rattle.cedar_below.specs.declared.extension.Extensions.{Extensions}
+use Rattle.cedar_compare.specs.Words.{Extensions, Has, IsContextOutside, IsOutsideAt, IsValue, Outside, Ty, «Type», ValidatorActionId, ValuesIncluded, action_of, context_at, kind_context, old_of, plain_outside, steps_of, ty_of, value_tree, value_trees}
 use Rattle.cedar_compare.proofs.SampledLemmas.{context_sampled}
-use Rattle.cedar_compare.specs.LostEntities.{plain_outside}
-use Rattle.cedar_compare.specs.LostRequests.{context_at}
-use Rattle.cedar_compare.specs.PlainRequests.{IsContextOutside}
-use Rattle.cedar_counterexample.specs.Steps.{IsOutsideAt, steps_of}
-use Rattle.cedar_compare.specs.Versions.{old_of}
-use Rattle.cedar_counterexample.specs.declared.found.Outside.{Outside}
-use Rattle.cedar_schema_elements.specs.ActionKind.{kind_context}
-use Rattle.cedar_schema_elements.specs.ValidatorActionId.{action_of}
-use Rattle.cedar_schema_elements.specs.declared.action_id.ValidatorActionId.{ValidatorActionId}
-use Rattle.cedar_type_rules.specs.Has.{Has}
-use Rattle.cedar_type_rules.specs.InclusionLaws.{ValuesIncluded}
-use Rattle.cedar_type_rules.specs.Ty.{Ty}
-use Rattle.cedar_types.specs.Meaning.{ty_of}
-use Rattle.cedar_types.specs.Samples.{value_tree, value_trees}
-use Rattle.cedar_types.specs.declared.types.Type.{«Type»}
 use Rattle.cedar_compare.proofs.requests.requests_of.Goals as goal
 use Rattle.cedar_compare.proofs.requests.requests_of.Goals.{in-Some+in_ok-found-in-Some, in-None}
 

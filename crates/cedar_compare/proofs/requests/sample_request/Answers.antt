@@ -1,9 +1,7 @@
 use Rattle.std.proofs.Common.{refl}
 use Rattle.cedar_below.proofs.ValueCopies.{uid_real}
 use Rattle.cedar_compare.proofs.SampledLemmas.{context_sampled}
-use Rattle.cedar_compare.specs.Versions.{old_of}
-use Rattle.cedar_types.specs.Meaning.{ty_of}
-use Rattle.cedar_types.specs.Samples.{value_trees}
+use Rattle.cedar_compare.specs.Words.{old_of, ty_of, value_trees}
 use Rattle.cedar_compare.proofs.requests.sample_request.Goals as goal
 
 pub sample_value-requires : goal.sample_value-requires

@@ -1,13 +1,7 @@
 use Rattle.std.proofs.Common.{◌≡◌, Option, None, subst, sym, ◌∙◌}
 use Rattle.std.specs.Option.{option_copied, option_map}
-use Rattle.cedar_below.specs.Eid.{eid_text}
-use Rattle.cedar_below.specs.EntityType.{type_name}
-use Rattle.cedar_below.specs.EntityUID.{uid_of}
-use Rattle.cedar_below.specs.Text.{Text}
-use Rattle.cedar_below.specs.declared.eid.Eid.{Eid}
+use Rattle.cedar_compare.specs.Words.{Eid, IsIdOutside, MayHave, Text, choice_texts, eid_text, new_of, old_of, type_name, uid_of}
 use Rattle.cedar_compare.proofs.RequestLemmas.{lacks_choice, may_have_id, uid_found}
-use Rattle.cedar_compare.specs.Choices.{IsIdOutside, MayHave, choice_texts}
-use Rattle.cedar_compare.specs.Versions.{new_of, old_of}
 use Rattle.cedar_compare.proofs.requests.uid_outside.Goals as goal
 
 -- the id is one that the old version's choices have and the new version's lack

@@ -2,16 +2,8 @@ use Rattle.std.proofs.Common.{◌≡◌, ◌∷◌, Contains, ap, inl, inr, map,
 use Rattle.std.proofs.lemmas.Bool.{false≢true}
 use Rattle.std.specs.Option.{option_copied, option_map}
 use Rattle.cedar_below.proofs.Lists.{Contains-cons}
-use Rattle.cedar_below.specs.Eid.{eid_text}
-use Rattle.cedar_below.specs.EntityType.{type_name}
-use Rattle.cedar_below.specs.EntityUID.{uid_of}
-use Rattle.cedar_below.specs.PlainName.{PlainName}
-use Rattle.cedar_below.specs.PlainUid.{PlainUid}
+use Rattle.cedar_compare.specs.Words.{AreUppersSoFar, MayStandAbove, PlainName, PlainUid, eid_text, new_of, old_of, plain_type, type_name, uid_of}
 use Rattle.cedar_compare.proofs.UpperLemmas.{IsLeftOf, below_it, found_put, left_first, left_none, left_past, may_above, none_kept, not_above, past_kept, past_there, still_above}
-use Rattle.cedar_compare.specs.Entities.{MayStandAbove}
-use Rattle.cedar_compare.specs.Lookup.{plain_type}
-use Rattle.cedar_compare.specs.Uppers.{AreUppersSoFar}
-use Rattle.cedar_compare.specs.Versions.{new_of, old_of}
 use Rattle.cedar_compare.proofs.uppers.add_descendants.Goals as goal
 
 pub loop-lower-init : goal.loop-lower-init

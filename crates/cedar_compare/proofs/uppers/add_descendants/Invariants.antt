@@ -1,11 +1,6 @@
 use Rattle.std.proofs.Common.{List, ◌∷◌, Contains, map}
-use Rattle.cedar_below.specs.EntityType.{type_name}
-use Rattle.cedar_below.specs.PlainName.{PlainName}
-use Rattle.cedar_below.specs.Lists.{Included}
+use Rattle.cedar_compare.specs.Words.{AreUppersSoFar, Included, PlainName, new_of, old_of, plain_type, type_name}
 use Rattle.cedar_compare.proofs.UpperLemmas.{IsLeftOf}
-use Rattle.cedar_compare.specs.Lookup.{plain_type}
-use Rattle.cedar_compare.specs.Uppers.{AreUppersSoFar}
-use Rattle.cedar_compare.specs.Versions.{new_of, old_of}
 use Rattle.cedar_compare.proofs.uppers.add_descendants.Given as goal
 
 abbrev pub invariant-loop-lower : goal.invariant-loop-lower

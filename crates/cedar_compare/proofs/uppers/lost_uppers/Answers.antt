@@ -1,12 +1,7 @@
 use Rattle.std.proofs.Common.{List, Contains, ap, map, subst, sym, ◌∙◌}
-use Rattle.cedar_below.specs.EntityType.{type_name}
-use Rattle.cedar_below.specs.PlainName.{PlainName}
+use Rattle.cedar_compare.specs.Words.{AreUppersSoFar, PlainName, new_of, old_of, plain_type, schema_entries, type_name}
 use Rattle.cedar_compare.proofs.FindLemmas.{plain_keys}
 use Rattle.cedar_compare.proofs.UpperLemmas.{all_left, none_left, past_none}
-use Rattle.cedar_compare.specs.Lookup.{plain_type}
-use Rattle.cedar_compare.specs.Uppers.{AreUppersSoFar}
-use Rattle.cedar_compare.specs.Versions.{new_of, old_of}
-use Rattle.cedar_schema.specs.ValidatorSchema.{schema_entries}
 use Rattle.cedar_compare.proofs.uppers.lost_uppers.Goals as goal
 
 pub loop-name-init : goal.loop-name-init

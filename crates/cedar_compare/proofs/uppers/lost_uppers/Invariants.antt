@@ -1,7 +1,5 @@
 use Rattle.std.proofs.Common.{Contains, map}
-use Rattle.cedar_below.specs.EntityType.{type_name}
-use Rattle.cedar_compare.specs.Uppers.{AreUppersSoFar}
-use Rattle.cedar_compare.specs.Versions.{new_of, old_of}
+use Rattle.cedar_compare.specs.Words.{AreUppersSoFar, new_of, old_of, type_name}
 use Rattle.cedar_compare.proofs.uppers.lost_uppers.Given as goal
 
 abbrev pub invariant-loop-name : goal.invariant-loop-name

@@ -1,11 +1,6 @@
 use Rattle.std.proofs.Common.{Option, subst, sym}
 use Rattle.std.specs.Option.{option_copied, option_map}
-use Rattle.cedar_below.specs.Eid.{eid_text}
-use Rattle.cedar_below.specs.EntityType.{type_name}
-use Rattle.cedar_below.specs.declared.eid.Eid.{Eid}
-use Rattle.cedar_compare.specs.Choices.{IsIdOutside, MayHave, choice_texts, kind_choices}
-use Rattle.cedar_compare.specs.Lookup.{plain_type}
-use Rattle.cedar_declarations.specs.PlainSchema.{SchemaEntityType}
+use Rattle.cedar_compare.specs.Words.{Eid, IsIdOutside, MayHave, SchemaEntityType, choice_texts, eid_text, kind_choices, plain_type, type_name}
 use Rattle.cedar_compare.proofs.uppers.upper_of.Goals as goal
 
 pub returns-in-Some-2-clause-kept : goal.returns-in-Some-2-clause-kept

@@ -1,9 +1,6 @@
 use Rattle.std.proofs.Common.{subst}
 use Rattle.std.proofs.lemmas.Bool.{false≢true}
-use Rattle.cedar_below.specs.EntityType.{type_name}
-use Rattle.cedar_compare.specs.Lookup.{plain_type}
-use Rattle.cedar_declarations.specs.PlainSchema.{SchemaEntityType}
-use Rattle.cedar_declarations.specs.ValidSchema.{IsEnumerated}
+use Rattle.cedar_compare.specs.Words.{IsEnumerated, SchemaEntityType, plain_type, type_name}
 use Rattle.cedar_compare.proofs.versions.is_enumerated_at.Goals as goal
 
 pub returns-in-Some : goal.returns-in-Some

@@ -1,8 +1,6 @@
 use Rattle.std.proofs.Common.{subst, Contains}
 use Rattle.std.proofs.lemmas.Bool.{false≢true}
-use Rattle.cedar_below.specs.EntityType.{type_name}
-use Rattle.cedar_compare.specs.Lookup.{plain_type}
-use Rattle.cedar_declarations.specs.PlainSchema.{SchemaEntityType}
+use Rattle.cedar_compare.specs.Words.{SchemaEntityType, plain_type, type_name}
 use Rattle.cedar_compare.proofs.versions.lists_type.Goals as goal
 
 pub returns-in-Some : goal.returns-in-Some

@@ -1,6 +1,5 @@
 use Rattle.cedar_elaboration.proofs.ElaborationLemmas.{names_kept, elaborated_each}
-use Rattle.cedar_elaboration.specs.Scope.{set_names}
-use Rattle.cedar_resolution.specs.Collected.{collected_common}
+use Rattle.cedar_elaboration.specs.Words.{collected_common, set_names}
 use Rattle.cedar_elaboration.proofs.common.common_types.Goals as goal
 
 pub returns-clause-names : goal.returns-clause-names

@@ -3,14 +3,9 @@ use Rattle.std.proofs.Math.ListN.{length-map}
 use Rattle.std.proofs.lemmas.List.{get_or_default, take_all, take_more}
 use Rattle.std.proofs.lemmas.List.Elements.{Contains-get_or}
 use Rattle.std.proofs.lemmas.Option.{slice_get_within}
-use Rattle.cedar_below.specs.Extensions.{extension_types}
-use Rattle.cedar_below.specs.InternalName.{name_of}
-use Rattle.cedar_declarations.specs.ResolvedExpr.{resolved_expr}
+use Rattle.cedar_elaboration.specs.Words.{collected_common, defined_over, extension_types, item_names, name_of, resolved_expr, set_names}
 use Rattle.cedar_elaboration.proofs.IndexLemmas.{item_at_index, index_of, split_at}
 use Rattle.cedar_elaboration.proofs.ElaborationLemmas.{Covers-next, ElaboratedInOrder-more, fault_at}
-use Rattle.cedar_elaboration.specs.Scope.{set_names}
-use Rattle.cedar_elaboration.specs.Indices.{defined_over, item_names}
-use Rattle.cedar_resolution.specs.Collected.{collected_common}
 use Rattle.cedar_elaboration.proofs.common.elaborate_in_order.Goals as goal
 use Rattle.cedar_elaboration.proofs.common.elaborate_in_order.Goals.{After-row_known-1}
 

@@ -1,8 +1,6 @@
 use Rattle.std.proofs.Common.{take}
-use Rattle.cedar_below.specs.Extensions.{extension_types}
+use Rattle.cedar_elaboration.specs.Words.{collected_common, elaborated_types, extension_types, set_names}
 use Rattle.cedar_elaboration.proofs.ElaborationLemmas.{ElaboratedInOrder}
-use Rattle.cedar_elaboration.specs.Scope.{set_names, elaborated_types}
-use Rattle.cedar_resolution.specs.Collected.{collected_common}
 use Rattle.cedar_elaboration.proofs.common.elaborate_in_order.Given as goal
 
 abbrev pub invariant-loop-item_index : goal.invariant-loop-item_index

@@ -2,8 +2,7 @@ use Rattle.std.proofs.Common.{◌∙◌}
 use Rattle.std.proofs.lemmas.Result.{IfOk-weaker, IfErr-weaker, on_ok_weaker}
 use Rattle.cedar_elaboration.proofs.CommonFaults.{common_fault, common_sound, common_elaborated}
 use Rattle.cedar_elaboration.proofs.Results.{IfOk-both, OnOk-both}
-use Rattle.cedar_declarations.specs.SchemaError.{fault_of}
-use Rattle.cedar_elaboration.specs.Scope.{elaborated_types}
+use Rattle.cedar_elaboration.specs.Words.{elaborated_types, fault_of}
 use Rattle.cedar_elaboration.proofs.defined.defined_common_types.Goals as goal
 
 pub returns-clause-elaborates : goal.returns-clause-elaborates

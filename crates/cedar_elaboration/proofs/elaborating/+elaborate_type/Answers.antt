@@ -1,13 +1,6 @@
 use Rattle.std.proofs.Common.{sym, ◌∙◌, ap, rules}
 use Rattle.std.proofs.IntoIterSteps.{All-taken}
-use Rattle.cedar_below.specs.UnreservedId.{unreserved_id_text}
-use Rattle.cedar_below.specs.declared.internal_name.InternalName.{InternalName}
-use Rattle.cedar_declarations.specs.ResolvedExpr.{resolved_expr, resolved_variant}
-use Rattle.cedar_declarations.specs.ElaboratesTo.{as_text, as_long, as_truth}
-use Rattle.cedar_names.specs.Expr.{set_expr}
-use Rattle.cedar_names.specs.declared.json_schema.type_of.TypeOfAttribute.{out-TypeOfAttribute}
-use Rattle.cedar_type_rules.specs.Ty.{set_of}
-use Rattle.cedar_types.specs.Meaning.{ty_of, fields_of}
+use Rattle.cedar_elaboration.specs.Words.{InternalName, as_long, as_text, as_truth, fields_of, out-TypeOfAttribute, resolved_expr, resolved_variant, set_expr, set_of, ty_of, unreserved_id_text}
 use Rattle.cedar_elaboration.proofs.ScopeLemmas.{ElaboratesTo-as, set_elaborated, fault_of_set, extension_elaborated}
 use Rattle.cedar_elaboration.proofs.RecordLemmas.{ElaboratedSoFar-none, ElaboratedSoFar-more, fault_of_next, record_elaborated, record_closed, record_extensions}
 use Rattle.cedar_elaboration.proofs.ResolvedLemmas.{resolved-String, resolved-Long, resolved-Boolean, resolved-Set, resolved-Extension}

@@ -1,10 +1,6 @@
 use Rattle.std.proofs.Common.{rules}
-use Rattle.cedar_below.specs.InternalName.{name_of}
-use Rattle.cedar_declarations.specs.ResolvedExpr.{resolved_reference}
-use Rattle.cedar_names.specs.Expr.{named}
+use Rattle.cedar_elaboration.specs.Words.{IsRefusal, fault_of, name_of, named, resolved_reference}
 use Rattle.cedar_elaboration.proofs.ScopeLemmas.{common_elaborated, entity_elaborated, fault_of_entity, fault_of_reference}
-use Rattle.cedar_elaboration.specs.Refusals.{IsRefusal}
-use Rattle.cedar_declarations.specs.SchemaError.{fault_of}
 use Rattle.cedar_elaboration.proofs.elaborating.elaborate_reference.Goals as goal
 
 -- a reference to a common type is elaborated as what it stands for

@@ -1,7 +1,6 @@
 use Rattle.std.proofs.Common.{take}
 use Rattle.cedar_elaboration.proofs.IndexLemmas.{NumberedSoFar}
-use Rattle.cedar_elaboration.specs.Indices.{item_names, indexed_names}
-use Rattle.cedar_resolution.specs.Collected.{collected_common}
+use Rattle.cedar_elaboration.specs.Words.{collected_common, indexed_names, item_names}
 use Rattle.cedar_elaboration.proofs.indices.name_indices.Given as goal
 
 abbrev pub invariant-loop-item_index : goal.invariant-loop-item_index

@@ -1,11 +1,7 @@
 use Rattle.std.proofs.Common.{[], take}
-use Rattle.cedar_below.specs.InternalName.{name_of}
-use Rattle.cedar_declarations.specs.Mentions.{Refers}
-use Rattle.cedar_declarations.specs.ResolvedExpr.{resolved_expr}
+use Rattle.cedar_elaboration.specs.Words.{AddsIndices, Refers, collected_common, indexed_names, name_of, resolved_expr}
 use Rattle.cedar_elaboration.proofs.OrderLemmas.{HoldsPairwise-push}
 use Rattle.cedar_elaboration.proofs.IndexLemmas.{items_more}
-use Rattle.cedar_elaboration.specs.Indices.{AddsIndices, indexed_names}
-use Rattle.cedar_resolution.specs.Collected.{collected_common}
 use Rattle.cedar_elaboration.proofs.ordering.all_targets.Goals as goal
 
 pub loop-item-preserved : goal.loop-item-preserved

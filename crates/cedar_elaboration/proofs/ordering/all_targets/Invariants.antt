@@ -1,7 +1,6 @@
 use Rattle.std.proofs.Common.{take}
 use Rattle.cedar_elaboration.proofs.OrderLemmas.{AreTargets}
-use Rattle.cedar_elaboration.specs.Indices.{indexed_names}
-use Rattle.cedar_resolution.specs.Collected.{collected_common}
+use Rattle.cedar_elaboration.specs.Words.{collected_common, indexed_names}
 use Rattle.cedar_elaboration.proofs.ordering.all_targets.Given as goal
 
 abbrev pub invariant-loop-item : goal.invariant-loop-item

@@ -1,13 +1,9 @@
 use Rattle.std.proofs.Common.{◌<◌, ℕ, length, ap, sym, subst, ◌∙◌, rules}
 use Rattle.std.proofs.Math.ListN.{length-map}
 use Rattle.cedar_below.proofs.Chains.{last_step}
-use Rattle.cedar_below.specs.InternalName.{name_of}
-use Rattle.cedar_graph.specs.Order.{LeadsTo}
-use Rattle.cedar_declarations.specs.ResolvedExpr.{resolved_expr}
+use Rattle.cedar_elaboration.specs.Words.{LeadsTo, collected_common, indexed_names, name_of, resolved_expr}
 use Rattle.cedar_elaboration.proofs.OrderLemmas.{as_many, cycle_found, name_at, no_cycle_among, order_of_indices}
 use Rattle.cedar_elaboration.proofs.IndexLemmas.{item_at_index}
-use Rattle.cedar_elaboration.specs.Indices.{indexed_names}
-use Rattle.cedar_resolution.specs.Collected.{collected_common}
 use Rattle.cedar_elaboration.proofs.ordering.elaboration_order.Goals as goal
 use Rattle.cedar_elaboration.proofs.ordering.elaboration_order.Goals.{In-Cycle}
 

@@ -1,9 +1,7 @@
 use Rattle.std.proofs.Common.{sym, ◌∙◌, ap}
-use Rattle.cedar_declarations.specs.ResolvedExpr.{resolved_expr, resolved_variant}
-use Rattle.cedar_names.specs.Expr.{set_expr}
+use Rattle.cedar_elaboration.specs.Words.{indexed_names, resolved_expr, resolved_variant, set_expr}
 use Rattle.cedar_elaboration.proofs.ReferringLemmas.{AddedSoFar-more, record_adds, set_adds}
 use Rattle.cedar_elaboration.proofs.ResolvedLemmas.{resolved-Set}
-use Rattle.cedar_elaboration.specs.Indices.{indexed_names}
 use Rattle.cedar_elaboration.proofs.referring.+add.Goals as goal
 
 pub add_variant_indices-returns-in-Set : goal.add_variant_indices-returns-in-Set

@@ -1,11 +1,10 @@
 use Rattle.std.proofs.Common.{sym, ◌∙◌}
 use Rattle.std.proofs.lemmas.Bool.{false≢true}
 use Rattle.cedar_below.proofs.Names.{internal_name_ord-Equal}
-use Rattle.cedar_below.specs.InternalName.{name_of}
+use Rattle.cedar_elaboration.specs.Words.{indexed_names, name_of}
 use Rattle.cedar_below.specs.contracts.internal_name.InternalNameOrd.TheImpl as order
 use Rattle.cedar_elaboration.proofs.Entries.{looked_up, not_found}
 use Rattle.cedar_elaboration.proofs.ReferringLemmas.{adds_none, adds_index}
-use Rattle.cedar_elaboration.specs.Indices.{indexed_names}
 use Rattle.cedar_elaboration.proofs.referring.add_index.Goals as goal
 
 pub returns-in_ok-push : goal.returns-in_ok-push

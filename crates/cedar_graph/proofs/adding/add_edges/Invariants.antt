@@ -1,8 +1,7 @@
 use Rattle.std.proofs.Common.{◌≡◌, ◌⊎◌, Contains}
 use Rattle.std.specs.HashMap.{get, keys, ContainsKey}
 use Rattle.std.specs.Vec.Iter.{into_iter_items}
-use Rattle.cedar_graph.specs.Edges.{HasEdge, IsEdgeIn}
-use Rattle.cedar_graph.specs.Growth.{GrowsAt}
+use Rattle.cedar_graph.specs.Words.{GrowsAt, HasEdge, IsEdgeIn}
 use Rattle.cedar_graph.proofs.adding.add_edges.Given as goal
 
 abbrev pub invariant-loop-from : goal.invariant-loop-from

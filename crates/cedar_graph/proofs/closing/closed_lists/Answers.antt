@@ -1,9 +1,7 @@
 use Rattle.std.proofs.Common.{◌≡◌, ◌↔◌, [], ◌∷◌, Contains, length, sym, ◌∙◌, ap, subst, inl, inr, arith}
 use Rattle.std.proofs.lemmas.Bool.{cases_lt}
 use Rattle.cedar_below.proofs.Chains.{first_step}
-use Rattle.cedar_below.specs.Chain.{Chain}
-use Rattle.cedar_graph.specs.Gathered.{AreGathered, mark_of}
-use Rattle.cedar_graph.specs.Numbered.{IsTarget}
+use Rattle.cedar_graph.specs.Words.{AreGathered, Chain, IsTarget, mark_of}
 use Rattle.cedar_graph.proofs.Gathering.{all_fresh}
 use Rattle.std.proofs.lemmas.List.{length-append}
 use Rattle.cedar_graph.proofs.KeyedEdges.{nothing_in_nil}

@@ -1,6 +1,5 @@
 use Rattle.std.proofs.Common.{◌≡◌, ℕ, ◌*◌, ◌≤◌, length, vec_len}
-use Rattle.cedar_graph.specs.Gathered.{AreClosed, mark_of}
-use Rattle.cedar_graph.specs.declared.closing.Mark.TheVariants.{Fresh}
+use Rattle.cedar_graph.specs.Words.{AreClosed, Fresh, mark_of}
 use Rattle.cedar_graph.proofs.closing.closed_lists.Given as goal
 
 abbrev pub invariant-loop-from : goal.invariant-loop-from

@@ -1,9 +1,7 @@
 use Rattle.std.proofs.Common.{◌≡◌, ℕ, Contains, get_or, sym, subst, arith}
 use Rattle.std.proofs.lemmas.List.Elements.{Contains-get_or}
 use Rattle.cedar_below.proofs.Chains.{last_step}
-use Rattle.cedar_below.specs.Chain.{Chain}
-use Rattle.cedar_graph.specs.Numbered.{IsTarget}
-use Rattle.cedar_graph.specs.declared.closing.Mark.TheVariants.{Done}
+use Rattle.cedar_graph.specs.Words.{Chain, Done, IsTarget}
 use Rattle.cedar_graph.proofs.Gathering.{followed_within, reached_more, done_more}
 use Rattle.cedar_graph.proofs.closing.follow.Goals as goal
 use Rattle.cedar_graph.proofs.closing.follow.Goals.{After-deref}

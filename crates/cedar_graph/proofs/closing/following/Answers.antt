@@ -1,7 +1,6 @@
 use Rattle.std.proofs.Common.{◌≡◌, ◌<◌, Contains, length, sym, ◌∙◌, ap, subst, arith}
 use Rattle.cedar_below.proofs.Chains.{joined}
-use Rattle.cedar_below.specs.Chain.{one}
-use Rattle.cedar_graph.specs.Numbered.{items_at}
+use Rattle.cedar_graph.specs.Words.{items_at, one}
 use Rattle.cedar_graph.proofs.Lists.{items_at-read}
 use Rattle.cedar_graph.proofs.closing.following.Goals as goal
 use Rattle.cedar_graph.proofs.closing.following.Goals.{In-Some, After-index}

@@ -1,6 +1,5 @@
 use Rattle.std.proofs.Common.{◌≡◌, ◌≢◌, ℕ, ◌<◌, ◌≤◌, get_or, length}
-use Rattle.cedar_graph.specs.Gathered.{mark_of}
-use Rattle.cedar_graph.specs.declared.closing.Mark.TheVariants.{Fresh}
+use Rattle.cedar_graph.specs.Words.{Fresh, mark_of}
 use Rattle.cedar_graph.proofs.closing.forget.Given as goal
 
 abbrev pub invariant-loop-number : goal.invariant-loop-number

@@ -3,9 +3,7 @@ use Rattle.std.proofs.lemmas.Bool.{both_ways, cases_eq}
 use Rattle.std.proofs.lemmas.List.Elements.{Contains-append_left, Contains-get_or}
 use Rattle.std.proofs.Math.ListN.{get_or-append}
 use Rattle.std.proofs.lemmas.List.{length-append}
-use Rattle.cedar_graph.specs.Gathered.{AreGathered, GathersMore}
-use Rattle.cedar_graph.specs.Numbered.{IsTarget, items_at}
-use Rattle.cedar_graph.specs.declared.closing.Mark.TheVariants.{Met}
+use Rattle.cedar_graph.specs.Words.{AreGathered, GathersMore, IsTarget, Met, items_at}
 use Rattle.cedar_graph.proofs.Counting.{count_below-fewer, count_below-le}
 use Rattle.cedar_graph.proofs.Gathering.{found_few, gathers_same, is_undone, marked_within, nothing_gathered, reached_all, reached_first, read_at, told_done, told_undone}
 use Rattle.cedar_graph.proofs.Lists.{items_at-read}

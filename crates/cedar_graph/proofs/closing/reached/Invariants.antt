@@ -1,6 +1,5 @@
 use Rattle.std.proofs.Common.{◌≡◌, ℕ, ◌+◌, ◌-◌, ◌<◌, ◌≤◌, Contains, get_or, length, vec_len}
-use Rattle.cedar_graph.specs.Gathered.{AreReached}
-use Rattle.cedar_graph.specs.Numbered.{IsTarget}
+use Rattle.cedar_graph.specs.Words.{AreReached, IsTarget}
 use Rattle.cedar_graph.proofs.Counting.{count_below}
 use Rattle.cedar_graph.proofs.Gathering.{is_undone}
 use Rattle.cedar_graph.proofs.closing.reached.Given as goal

@@ -2,9 +2,7 @@ use Rattle.std.proofs.Common.{◌≡◌, ◌<◌, ◌≤◌, ℕ, IfSome, length
 use Rattle.std.specs.HashMap.{keys}
 use Rattle.std.proofs.lemmas.List.{length-map}
 use Rattle.std.proofs.lemmas.Option.{IfSome_then}
-use Rattle.cedar_graph.specs.Edges.{HasEdge}
-use Rattle.cedar_graph.specs.Numbered.{IsTarget}
-use Rattle.cedar_graph.specs.Numbering.{IsNumbered}
+use Rattle.cedar_graph.specs.Words.{HasEdge, IsNumbered, IsTarget}
 use Rattle.cedar_below.proofs.Chains.{held_after}
 use Rattle.cedar_graph.proofs.KeyedEdges.{step_of_keys, step_of_numbers, target_named, names_for_all}
 use Rattle.cedar_graph.proofs.Numbers.{numbers_from_keys, keys_from_numbers, one_number, number_below}

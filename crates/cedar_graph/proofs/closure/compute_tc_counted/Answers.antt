@@ -1,11 +1,9 @@
 use Rattle.std.proofs.Common.{subst, inl, inr}
-use Rattle.cedar_graph.specs.Numbered.{IsTarget}
+use Rattle.cedar_graph.specs.Words.{IsTarget, ListHas, one}
 use Rattle.std.proofs.lemmas.Bool.{both_ways}
 use Rattle.std.proofs.Common.{◌≡◌, ◌<◌, Some, length, slice_get, refl, arith}
 use Rattle.std.specs.HashMap.{get}
 use Rattle.std.proofs.lemmas.Option.{slice_get_read}
-use Rattle.cedar_below.specs.Chain.{one}
-use Rattle.cedar_graph.specs.Numbering.{ListHas}
 use Rattle.cedar_graph.proofs.Growing.{edge_sound}
 use Rattle.cedar_graph.proofs.KeyedEdges.{begins_at_node}
 use Rattle.cedar_graph.proofs.Numbers.{numbered_from_name}

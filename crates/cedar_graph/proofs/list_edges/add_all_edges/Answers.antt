@@ -2,9 +2,7 @@ use Rattle.std.proofs.Common.{◌≡◌, ◌<◌, ℕ, Some, Contains, IsTrue, H
 use Rattle.std.specs.HashMap.{get}
 use Rattle.std.proofs.lemmas.Bool.{cases_lt}
 use Rattle.std.proofs.lemmas.Option.{slice_get_read}
-use Rattle.cedar_graph.specs.Growth.{GrowsAt}
-use Rattle.cedar_graph.specs.Numbered.{items_at}
-use Rattle.cedar_graph.specs.Numbering.{IsNumbered, StandsIn}
+use Rattle.cedar_graph.specs.Words.{GrowsAt, IsNumbered, StandsIn, items_at}
 use Rattle.cedar_graph.proofs.Growing.{grows_at_onwards, grows_at_weaker, edge_kept, some_kept}
 use Rattle.cedar_graph.proofs.Lists.{items_at-read, items_at-past}
 use Rattle.cedar_graph.proofs.Numbers.{numbered_from_name, name_from_numbered, eq_back}

@@ -1,9 +1,6 @@
 use Rattle.std.proofs.Common.{◌≡◌, ℕ, ◌<◌}
 use Rattle.std.specs.HashMap.{get, keys, ContainsKey}
-use Rattle.cedar_graph.specs.Edges.{HasEdge}
-use Rattle.cedar_graph.specs.Growth.{GrowsAt}
-use Rattle.cedar_graph.specs.Numbered.{items_at}
-use Rattle.cedar_graph.specs.Numbering.{IsNumbered, StandsIn}
+use Rattle.cedar_graph.specs.Words.{GrowsAt, HasEdge, IsNumbered, StandsIn, items_at}
 use Rattle.cedar_graph.proofs.list_edges.add_all_edges.Given as goal
 
 abbrev pub invariant-loop-i : goal.invariant-loop-i

@@ -1,6 +1,5 @@
 use Rattle.std.proofs.Common.{ℕ, ◌<◌, IsTrue, get_or}
-use Rattle.cedar_graph.specs.Growth.{GrowsBy}
-use Rattle.cedar_graph.specs.Numbering.{IsNumbered, StandsIn}
+use Rattle.cedar_graph.specs.Words.{GrowsBy, IsNumbered, StandsIn}
 use Rattle.cedar_graph.proofs.list_edges.add_edges.Given as goal
 
 abbrev pub invariant-loop-number : goal.invariant-loop-number

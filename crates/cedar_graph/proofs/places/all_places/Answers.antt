@@ -6,8 +6,7 @@ use Rattle.std.proofs.lemmas.List.{length-map}
 use Rattle.std.proofs.lemmas.Map.Iter.{rest_more, rest_all}
 use Rattle.std.proofs.lemmas.Option.{MatchOption-from_none, slice_get_past}
 use Rattle.std.proofs.lemmas.Result.{err_from_is_err_and}
-use Rattle.cedar_graph.specs.Numbered.{items_at}
-use Rattle.cedar_graph.specs.Numbering.{AreNumbersOf}
+use Rattle.cedar_graph.specs.Words.{AreNumbersOf, items_at}
 use Rattle.cedar_graph.proofs.Lists.{drop_next, drop_done, each_after_push}
 use Rattle.cedar_graph.proofs.TableEdges.{lack_of_table}
 use Rattle.cedar_graph.proofs.places.all_places.Goals as goal

@@ -1,7 +1,6 @@
 use Rattle.std.proofs.Common.{◌≡◌, ◌<◌, ◌≤◌, ℕ, vec_len, length, drop, IfSome, slice_get}
 use Rattle.std.specs.Map.{keys_of, values_of}
-use Rattle.cedar_graph.specs.Numbered.{items_at}
-use Rattle.cedar_graph.specs.Numbering.{AreNumbersOf}
+use Rattle.cedar_graph.specs.Words.{AreNumbersOf, items_at}
 use Rattle.cedar_graph.proofs.places.all_places.Given as goal
 
 abbrev pub invariant-loop-node : goal.invariant-loop-node

@@ -3,10 +3,7 @@ use Rattle.std.proofs.lemmas.Result.{IfErr-weaker, IfOk-weaker, on_ok_weaker}
 use Rattle.std.specs.Bool.{⊤}
 use Rattle.std.specs.Map.{keys_of}
 use Rattle.cedar_below.proofs.Chains.{refined}
-use Rattle.cedar_below.specs.Chain.{Chain, one}
-use Rattle.cedar_below.specs.Lists.{HoldsPairwise}
-use Rattle.cedar_graph.specs.Numbering.{ListHas}
-use Rattle.cedar_graph.specs.Tables.{AreInTurn, HasEntry, IsClosedTo, IsGrown, IsTableFault, StepsTo}
+use Rattle.cedar_graph.specs.Words.{AreInTurn, Chain, HasEntry, HoldsPairwise, IsClosedTo, IsGrown, IsTableFault, ListHas, StepsTo, one}
 use Rattle.cedar_graph.proofs.TableClosing.{closed_pairwise, fault_of_steps, on_ok_anyway}
 use Rattle.cedar_graph.proofs.TableEdges.{leads_there, linked, list_from_step, step_from_list, within}
 use Rattle.cedar_graph.proofs.table_closing.close_table.Goals as goal

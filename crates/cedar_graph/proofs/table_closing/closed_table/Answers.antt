@@ -5,10 +5,7 @@ use Rattle.std.proofs.lemmas.Option.{slice_get_read}
 use Rattle.std.specs.List.{IsDistinct, zip}
 use Rattle.std.specs.Map.{keys_of}
 use Rattle.cedar_below.proofs.Chains.{held_after}
-use Rattle.cedar_below.specs.Chain.{Chain}
-use Rattle.cedar_graph.specs.Numbered.{IsTarget, items_at}
-use Rattle.cedar_graph.specs.Numbering.{ListHas, StandsIn}
-use Rattle.cedar_graph.specs.Tables.{AreInTurn, IsGrown}
+use Rattle.cedar_graph.specs.Words.{AreInTurn, Chain, IsGrown, IsTarget, ListHas, StandsIn, items_at}
 use Rattle.cedar_graph.proofs.Numbers.{eq_back, numbered_from_name}
 use Rattle.cedar_graph.proofs.TableClosing.{distinct_keys, grown_entries}
 use Rattle.cedar_graph.proofs.TableEdges.{chain_of_keys, chain_of_numbers, one_place}

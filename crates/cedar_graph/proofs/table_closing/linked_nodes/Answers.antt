@@ -2,9 +2,7 @@ use Rattle.std.proofs.Common.{◌≡◌, ℕ, inl, inr, ◌++◌, ◌∷◌, [],
 use Rattle.std.proofs.lemmas.List.{append_assoc}
 use Rattle.std.proofs.IntoIterSteps.{All-taken}
 use Rattle.std.proofs.lemmas.Option.{MatchOption-at_some, slice_get_within}
-use Rattle.cedar_graph.specs.Numbered.{items_at}
-use Rattle.cedar_graph.specs.Numbering.{StandsIn}
-use Rattle.cedar_graph.specs.Tables.{AreInTurn, IsGrown}
+use Rattle.cedar_graph.specs.Words.{AreInTurn, IsGrown, StandsIn, items_at}
 use Rattle.cedar_graph.proofs.Lists.{items_at-read}
 use Rattle.cedar_graph.proofs.TableEdges.{grown_after, item_after, more_in_turn}
 use Rattle.cedar_graph.proofs.table_closing.linked_nodes.Goals as goal

@@ -1,7 +1,5 @@
 use Rattle.std.proofs.Common.{◌≡◌, ◌++◌}
-use Rattle.cedar_graph.specs.Numbered.{items_at}
-use Rattle.cedar_graph.specs.Numbering.{StandsIn}
-use Rattle.cedar_graph.specs.Tables.{AreInTurn, IsGrown}
+use Rattle.cedar_graph.specs.Words.{AreInTurn, IsGrown, StandsIn, items_at}
 use Rattle.cedar_graph.proofs.table_closing.linked_nodes.Given as goal
 
 abbrev pub invariant-loop-node : goal.invariant-loop-node

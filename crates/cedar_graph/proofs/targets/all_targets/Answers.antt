@@ -4,8 +4,7 @@ use Rattle.std.specs.Map.Iter.{deref}
 use Rattle.std.proofs.lemmas.Bool.{cases_lt}
 use Rattle.std.proofs.lemmas.Map.Iter.{rest_more, rest_all}
 use Rattle.std.proofs.lemmas.Option.{IfSome_then, MatchOption-from_none, slice_get_past}
-use Rattle.cedar_graph.specs.Numbered.{items_at}
-use Rattle.cedar_graph.specs.Numbering.{AreNumbersOf}
+use Rattle.cedar_graph.specs.Words.{AreNumbersOf, items_at}
 use Rattle.cedar_graph.proofs.Lists.{drop_next, drop_done, each_after_push}
 use Rattle.cedar_graph.proofs.Numbers.{numbers_of_kept}
 use Rattle.cedar_graph.proofs.targets.all_targets.Goals as goal

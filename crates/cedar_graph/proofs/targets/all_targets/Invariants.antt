@@ -1,7 +1,6 @@
 use Rattle.std.proofs.Common.{◌≡◌, ◌<◌, ◌≤◌, ℕ, vec_len, length, drop, IfSome, slice_get}
 use Rattle.std.specs.HashMap.{values}
-use Rattle.cedar_graph.specs.Numbered.{items_at}
-use Rattle.cedar_graph.specs.Numbering.{AreNumbers, KeepsNumbers, AreNumbersOf}
+use Rattle.cedar_graph.specs.Words.{AreNumbers, AreNumbersOf, KeepsNumbers, items_at}
 use Rattle.cedar_graph.proofs.targets.all_targets.Given as goal
 
 abbrev pub invariant-loop-node : goal.invariant-loop-node

@@ -1,8 +1,7 @@
 use Rattle.std.proofs.Common.{◌≡◌, ◌++◌, drop, map, option_map}
 use Rattle.json.specs.Value.{items_view}
 use Rattle.cedar_json.proofs.action_reading.read_parent_items.Given as goal
-use Rattle.cedar_json.specs.ActionFormat.{parent_of, written_parent}
-use Rattle.cedar_json.specs.Lists.{all_of}
+use Rattle.cedar_json.specs.Words.{all_of, parent_of, written_parent}
 
 abbrev pub invariant-loop-index : goal.invariant-loop-index
 invariant-loop-index l =

@@ -1,8 +1,7 @@
 use Rattle.std.proofs.Common.{refl, Some, ap, rules, string_bytes, string_cmp, sym}
 use Rattle.json.specs.Json.{object}
 use Rattle.json.specs.Value.{members_view, value_view}
-use Rattle.cedar_below.specs.Text.{text_cmp}
-use Rattle.cedar_json.specs.ActionFormat.{action_of, written_action}
+use Rattle.cedar_json.specs.Words.{action_of, text_cmp, written_action}
 use Rattle.cedar_json.proofs.DefinitionLemmas.{all_entries, entry_more, no_entry}
 use Rattle.cedar_json.proofs.FieldLemmas.{nth_member-is}
 use Rattle.cedar_json.proofs.TypeLemmas.{members_from_index}

@@ -1,9 +1,7 @@
 use Rattle.std.proofs.Common.{◌≡◌, [], Some, drop}
-use Rattle.cedar_below.specs.Text.{text_cmp}
+use Rattle.cedar_json.specs.Words.{action_of, entries_of, text_cmp, written_actions}
 use Rattle.json.specs.Value.{members_view}
 use Rattle.cedar_json.proofs.definition_reading.read_actions.Given as goal
-use Rattle.cedar_json.specs.DefinitionFormat.{entries_of, written_actions}
-use Rattle.cedar_json.specs.ActionFormat.{action_of}
 
 abbrev pub invariant-loop-index : goal.invariant-loop-index
 invariant-loop-index l =

@@ -2,11 +2,8 @@ use Rattle.std.proofs.Common.{refl, None, rules}
 use Rattle.std.proofs.lemmas.Result.{err_from_is_err_and}
 use Rattle.json.specs.Json.{object}
 use Rattle.json.specs.Value.{members_view, value_view}
-use Rattle.cedar_below.specs.Text.{text_cmp}
-use Rattle.cedar_names.specs.CommonTypeId.{common_type_text}
-use Rattle.cedar_names.specs.RawExpr.{raw_expr}
+use Rattle.cedar_json.specs.Words.{common_key, common_type_of, common_type_text, raw_expr, text_cmp}
 use Rattle.cedar_names.specs.contracts.json_schema.common_type_id.CommonTypeIdOrd.TheImpl as common_type_id_ord
-use Rattle.cedar_json.specs.DefinitionFormat.{common_key, common_type_of}
 use Rattle.cedar_json.proofs.DefinitionLemmas.{all_entries, entry_more, no_entry, no_key}
 use Rattle.cedar_json.proofs.FieldLemmas.{nth_member-is}
 use Rattle.cedar_json.proofs.TypeLemmas.{members_from_index}

@@ -1,8 +1,7 @@
 use Rattle.std.proofs.Common.{◌≡◌, [], drop}
-use Rattle.cedar_below.specs.Text.{text_cmp}
+use Rattle.cedar_json.specs.Words.{common_key, common_type_of, entries_of, text_cmp, written_common_types}
 use Rattle.json.specs.Value.{members_view}
 use Rattle.cedar_json.proofs.definition_reading.read_common_types.Given as goal
-use Rattle.cedar_json.specs.DefinitionFormat.{common_key, common_type_of, entries_of, written_common_types}
 
 abbrev pub invariant-loop-index : goal.invariant-loop-index
 invariant-loop-index l =

@@ -2,11 +2,8 @@ use Rattle.std.proofs.Common.{refl, rules}
 use Rattle.std.proofs.lemmas.Result.{err_from_is_err_and}
 use Rattle.json.specs.Json.{object}
 use Rattle.json.specs.Value.{members_view, value_view}
-use Rattle.cedar_below.specs.Text.{text_cmp}
-use Rattle.cedar_below.specs.UnreservedId.{unreserved_id_text}
+use Rattle.cedar_json.specs.Words.{entity_of, id_key, text_cmp, unreserved_id_text, written_entity}
 use Rattle.cedar_below.specs.contracts.unreserved_id.UnreservedIdOrd.TheImpl as unreserved_id_ord
-use Rattle.cedar_json.specs.DefinitionFormat.{id_key}
-use Rattle.cedar_json.specs.EntityFormat.{entity_of, written_entity}
 use Rattle.cedar_json.proofs.DefinitionLemmas.{all_entries, entry_more, no_entry, no_key}
 use Rattle.cedar_json.proofs.FieldLemmas.{nth_member-is}
 use Rattle.cedar_json.proofs.TypeLemmas.{members_from_index}

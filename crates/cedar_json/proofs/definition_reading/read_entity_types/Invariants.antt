@@ -1,9 +1,7 @@
 use Rattle.std.proofs.Common.{◌≡◌, [], drop}
-use Rattle.cedar_below.specs.Text.{text_cmp}
+use Rattle.cedar_json.specs.Words.{entity_of, entries_of, id_key, text_cmp, written_entity_types}
 use Rattle.json.specs.Value.{members_view}
 use Rattle.cedar_json.proofs.definition_reading.read_entity_types.Given as goal
-use Rattle.cedar_json.specs.DefinitionFormat.{entries_of, id_key, written_entity_types}
-use Rattle.cedar_json.specs.EntityFormat.{entity_of}
 
 abbrev pub invariant-loop-index : goal.invariant-loop-index
 invariant-loop-index l =

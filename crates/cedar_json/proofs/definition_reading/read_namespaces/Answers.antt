@@ -3,11 +3,9 @@ use Rattle.std.proofs.lemmas.Result.{err_from_is_err_and}
 use Rattle.json.specs.Json.{object}
 use Rattle.json.specs.Value.{members_view, value_view}
 use Rattle.std.specs.Option.{option_cmp}
-use Rattle.cedar_below.specs.Name.{plain_name}
-use Rattle.cedar_below.specs.PlainName.{name_cmp}
+use Rattle.cedar_json.specs.Words.{definition_of, name_cmp, namespace_key, plain_name, written_definition}
 use Rattle.cedar_below.specs.contracts.name.NameOrd.TheImpl as name_ord
 use Rattle.cedar_json.proofs.NameLemmas.{namespace_order}
-use Rattle.cedar_json.specs.DefinitionFormat.{definition_of, namespace_key, written_definition}
 use Rattle.cedar_json.proofs.DefinitionLemmas.{all_entries, entry_more, no_entry, no_key}
 use Rattle.cedar_json.proofs.FieldLemmas.{nth_member-is}
 use Rattle.cedar_json.proofs.TypeLemmas.{members_from_index}

@@ -1,9 +1,8 @@
 use Rattle.std.proofs.Common.{◌≡◌, [], drop}
 use Rattle.std.specs.Option.{option_cmp}
-use Rattle.cedar_below.specs.PlainName.{name_cmp}
+use Rattle.cedar_json.specs.Words.{definition_of, entries_of, name_cmp, namespace_key, written_namespaces}
 use Rattle.json.specs.Value.{members_view}
 use Rattle.cedar_json.proofs.definition_reading.read_namespaces.Given as goal
-use Rattle.cedar_json.specs.DefinitionFormat.{definition_of, entries_of, namespace_key, written_namespaces}
 
 abbrev pub invariant-loop-index : goal.invariant-loop-index
 invariant-loop-index l =

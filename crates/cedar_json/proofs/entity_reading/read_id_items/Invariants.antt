@@ -1,9 +1,8 @@
 use Rattle.std.proofs.Common.{◌≡◌, ◌++◌, drop, map, option_map}
 use Rattle.json.specs.Find.{as_str}
 use Rattle.json.specs.Value.{items_view}
-use Rattle.cedar_below.specs.Eid.{eid_text}
+use Rattle.cedar_json.specs.Words.{all_of, eid_text}
 use Rattle.cedar_json.proofs.entity_reading.read_id_items.Given as goal
-use Rattle.cedar_json.specs.Lists.{all_of}
 
 abbrev pub invariant-loop-index : goal.invariant-loop-index
 invariant-loop-index l =

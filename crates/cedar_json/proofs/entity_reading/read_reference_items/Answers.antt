@@ -1,9 +1,7 @@
 use Rattle.std.proofs.Common.{None, rules}
 use Rattle.json.specs.Json.{array}
 use Rattle.json.specs.Value.{items_view, value_view}
-use Rattle.cedar_names.specs.RawExpr.{raw_reference}
-use Rattle.cedar_names.specs.declared.json_schema.reference_type.ReferenceType.TheVariants.{Entity}
-use Rattle.cedar_json.specs.EntityFormat.{entity_reference}
+use Rattle.cedar_json.specs.Words.{Entity, entity_reference, raw_reference}
 use Rattle.cedar_json.proofs.ListLemmas.{all_made, get_item-is, item_more, items_from_index, no_item}
 use Rattle.cedar_json.proofs.entity_reading.read_reference_items.Goals as goal
 

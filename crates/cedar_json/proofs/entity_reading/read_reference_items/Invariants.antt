@@ -1,10 +1,7 @@
 use Rattle.std.proofs.Common.{◌≡◌, ◌++◌, None, drop, map, option_map}
 use Rattle.json.specs.Value.{items_view}
-use Rattle.cedar_names.specs.RawExpr.{raw_reference}
-use Rattle.cedar_names.specs.declared.json_schema.reference_type.ReferenceType.TheVariants.{Entity}
+use Rattle.cedar_json.specs.Words.{Entity, all_of, entity_reference, raw_reference}
 use Rattle.cedar_json.proofs.entity_reading.read_reference_items.Given as goal
-use Rattle.cedar_json.specs.EntityFormat.{entity_reference}
-use Rattle.cedar_json.specs.Lists.{all_of}
 
 abbrev pub invariant-loop-index : goal.invariant-loop-index
 invariant-loop-index l =

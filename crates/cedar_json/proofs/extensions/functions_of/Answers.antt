@@ -1,8 +1,7 @@
 use Rattle.std.proofs.Common.{[], rules}
 use Rattle.cedar_json.proofs.ExtensionLemmas.{all_put, row_at, row_more}
 use Rattle.cedar_json.proofs.extensions.functions_of.Goals as goal
-use Rattle.cedar_json.specs.declared.extensions.Kind.TheVariants.{Truth}
-use Rattle.cedar_json.specs.declared.extensions.Row.{Row}
+use Rattle.cedar_json.specs.Words.{Row, Truth}
 
 abbrev blank : Row
 blank = record { name = record { ref_ptr = (0, 0); now = [] }; arguments = record { ref_ptr = (0, 0); now = [] }; result = Truth }

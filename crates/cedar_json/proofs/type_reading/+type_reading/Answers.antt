@@ -6,16 +6,10 @@ use Rattle.json.specs.Json.{object}
 use Rattle.json.specs.Tree.{json_tokens, members_tokens}
 use Rattle.json.specs.Value.{value_view, members_view}
 use Rattle.cedar_names.proofs.VariantLemmas.{variant-Boolean, variant-Long, variant-Record, variant-Set, variant-String}
-use Rattle.cedar_names.specs.Expr.{members_from, record_expr, set_expr}
-use Rattle.cedar_names.specs.PlainMembers.{plain_members}
-use Rattle.cedar_names.specs.RawExpr.{raw_expr, raw_reference}
-use Rattle.cedar_names.specs.declared.json_schema.raw_name.RawName.{RawName}
-use Rattle.cedar_names.specs.declared.json_schema.type_of.RecordType.{roll-RecordType}
+use Rattle.cedar_json.specs.Words.{RawName, additional_field, attributes_field, element_field, members_from, plain_members, raw_expr, raw_reference, record_expr, record_of, roll-RecordType, set_expr, text_held, type_by_word}
 use Rattle.cedar_json.proofs.FieldLemmas.{get-smaller, nth_member-is, object_field-smaller, object_held}
 use Rattle.cedar_json.proofs.TypeLemmas.{all_read, attribute_read, attributes_field-held, attributes_field-none, described_too, element_field-held, members_from_index, no_annotations, no_attribute, no_required, no_type, one_more, raw_attribute-made, raw_record-made, type_by_word-other, type_with-known}
 use Rattle.cedar_json.proofs.type_reading.+type_reading.Goals as goal
-use Rattle.cedar_json.specs.Fields.{text_held}
-use Rattle.cedar_json.specs.TypeFormat.{additional_field, attributes_field, element_field, record_of, type_by_word}
 
 pub read_attribute-returns-in_err-required-clause-value : goal.read_attribute-returns-in_err-required-clause-value
 read_attribute-returns-in_err-required-clause-value t c =

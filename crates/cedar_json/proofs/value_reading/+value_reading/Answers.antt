@@ -5,14 +5,12 @@ use Rattle.json.specs.Json.{array, object}
 use Rattle.json.specs.Tree.{items_tokens, json_tokens, members_tokens}
 use Rattle.json.specs.Value.{items_view, members_view, value_view}
 use Rattle.cedar_below.proofs.TreeLemmas.{tree_of-set, tree_of-uid}
-use Rattle.cedar_below.specs.RestrictedExpr.{tree_of}
-use Rattle.cedar_below.specs.Tree.{number_value, set_value, uid_value}
+use Rattle.cedar_json.specs.Words.{number_value, record_of_pairs, set_value, tree_of, uid_value, value_of}
 use Rattle.cedar_json.proofs.FieldLemmas.{get-smaller, nth_member-is}
 use Rattle.cedar_json.proofs.ListLemmas.{get_item-is, items_from_index}
 use Rattle.cedar_json.proofs.TypeLemmas.{members_from_index}
 use Rattle.cedar_json.proofs.ValueLemmas.{all_pairs, all_values, array_row, call_no_argument, call_no_function, call_other, call_read, no_pair, no_value, null_row, number_read, number_row, pair_more, record_read, sole_held-get, sole_held-smaller, text_row, truth_row, value_more, value_of-call, value_of-entity, value_of-record}
 use Rattle.cedar_json.proofs.value_reading.+value_reading.Goals as goal
-use Rattle.cedar_json.specs.ValueFormat.{record_of_pairs, value_of}
 
 pub read_call-returns-in_err-check_fields-clause-value : goal.read_call-returns-in_err-check_fields-clause-value
 read_call-returns-in_err-check_fields-clause-value t c =

@@ -1,16 +1,9 @@
 use Rattle.std.proofs.Common.{◌≡◌, subst, ⊎_elim}
 use Rattle.cedar_declaration_laws.proofs.ComeBack.{declared_schemas_come_back}
-use Rattle.cedar_declarations.specs.Bag.{Bag}
-use Rattle.cedar_json.specs.DefinitionFormat.{written_fragment}
+use Rattle.cedar_json_laws.specs.Words.{Bag, Fragment, IsConvertedBack, IsRewritten, RawName, raw_fragment, schema_of, written_fragment}
 use Rattle.cedar_json_laws.proofs.Declared.{declares_alike}
-use Rattle.cedar_json_laws.specs.Rewritten.{IsRewritten}
 use Rattle.cedar_json_writer.proofs.WrittenTwice.{described_once}
-use Rattle.cedar_names.specs.Declaration.{raw_fragment}
-use Rattle.cedar_names.specs.declared.json_schema.fragment.Fragment.{Fragment}
-use Rattle.cedar_names.specs.declared.json_schema.raw_name.RawName.{RawName}
-use Rattle.cedar_declarations.specs.ConvertedBack.{IsConvertedBack}
 use Rattle.cedar_schema.proofs.SchemaEquality.{schemas-Same}
-use Rattle.cedar_schema.specs.ValidatorSchema.{schema_of}
 use Rattle.cedar_json_laws.proofs.theorems.written_schemas_are_built_again.Goals as goal
 
 -- what is read declares what was written

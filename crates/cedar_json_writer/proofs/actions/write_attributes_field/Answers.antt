@@ -1,10 +1,7 @@
 use Rattle.std.proofs.Common.{Global, Option, String, codes, option_map, subst, sym}
 use Rattle.std.specs.BTreeMap.{BTreeMap}
-use Rattle.cedar_below.specs.declared.value.Value.{Value}
-use Rattle.cedar_json.specs.ActionFormat.{written_pairs}
+use Rattle.cedar_json_writer.specs.Words.{AddsField, Value, pairs_document, written_pairs}
 use Rattle.cedar_json_writer.proofs.WritingLemmas.{field_added}
-use Rattle.cedar_json_writer.specs.FragmentDocument.{pairs_document}
-use Rattle.cedar_json_writer.specs.Writing.{AddsField}
 use Rattle.cedar_json_writer.proofs.actions.write_attributes_field.Goals as goal
 
 pub returns-clause-written : goal.returns-clause-written

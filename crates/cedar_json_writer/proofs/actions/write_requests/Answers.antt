@@ -1,9 +1,6 @@
 use Rattle.std.proofs.Common.{None, map}
-use Rattle.cedar_names.specs.RawExpr.{raw_expr, raw_reference}
-use Rattle.cedar_names.specs.declared.json_schema.reference_type.ReferenceType.TheVariants.{Entity}
+use Rattle.cedar_json_writer.specs.Words.{Entity, raw_expr, raw_reference, reference_array, shape_held}
 use Rattle.cedar_json_writer.proofs.WrittenActions.{requests_added, requests_free}
-use Rattle.cedar_json_writer.specs.FragmentDocument.{reference_array}
-use Rattle.cedar_json_writer.specs.TypeDocument.{shape_held}
 use Rattle.cedar_json_writer.proofs.actions.write_requests.Goals as goal
 
 pub returns-clause-written : goal.returns-clause-written

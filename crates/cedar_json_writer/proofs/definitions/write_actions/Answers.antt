@@ -3,11 +3,7 @@ use Rattle.std.proofs.lemmas.Result.{err_from_is_err_and}
 use Rattle.json.specs.Token.{key}
 use Rattle.cedar_json_writer.proofs.WrittenDefinitions.{declarations_free, declared_shape}
 use Rattle.std.proofs.Common.{Global, Some as some, String, string_bytes, string_cmp}
-use Rattle.cedar_below.specs.Text.{Text}
-use Rattle.cedar_json.specs.ActionFormat.{written_action}
-use Rattle.cedar_json_writer.specs.Flaws.{action_flaws}
-use Rattle.cedar_json_writer.specs.FragmentDocument.{action_document}
-use Rattle.cedar_json_writer.specs.Sound.{SoundAction}
+use Rattle.cedar_json_writer.specs.Words.{SoundAction, Text, action_document, action_flaws, written_action}
 use Rattle.cedar_json_writer.proofs.WritingLemmas.{member_flaw, members_added, members_free, turn}
 use Rattle.cedar_json_writer.proofs.definitions.write_actions.Goals as goal
 

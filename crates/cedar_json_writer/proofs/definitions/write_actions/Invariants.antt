@@ -1,10 +1,6 @@
 use Rattle.cedar_json_writer.proofs.WrittenDefinitions.{declared_shape}
 use Rattle.std.proofs.Common.{Global, String, string_bytes}
-use Rattle.cedar_below.specs.Text.{Text}
-use Rattle.cedar_json.specs.ActionFormat.{written_action}
-use Rattle.cedar_json_writer.specs.Flaws.{action_flaws}
-use Rattle.cedar_json_writer.specs.FragmentDocument.{action_document}
-use Rattle.cedar_json_writer.specs.Sound.{SoundAction}
+use Rattle.cedar_json_writer.specs.Words.{SoundAction, Text, action_document, action_flaws, written_action}
 use Rattle.cedar_json_writer.proofs.WritingLemmas.{SoFar}
 use Rattle.cedar_json_writer.proofs.definitions.write_actions.Given as goal
 

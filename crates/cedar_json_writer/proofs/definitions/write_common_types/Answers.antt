@@ -2,18 +2,10 @@ use Rattle.std.proofs.Common.{◌++◌, ◌∷◌, [], List, ℕ, ap, refl, ◌�
 use Rattle.std.proofs.lemmas.Result.{err_from_is_err_and}
 use Rattle.json.specs.Token.{key}
 use Rattle.cedar_json_writer.proofs.WrittenDefinitions.{declarations_free, declared_shape}
-use Rattle.cedar_names.specs.CommonTypeId.{common_type_text}
-use Rattle.cedar_names.specs.RawExpr.{raw_expr}
+use Rattle.cedar_json_writer.specs.Words.{CommonType, RawName, SoundType, Text, common_key, common_type_text, raw_expr, type_document, type_flaws}
 use Rattle.cedar_names.specs.contracts.json_schema.common_type_id.CommonTypeIdOrd.TheImpl as common_type_ord
-use Rattle.cedar_names.specs.declared.json_schema.fragment.CommonType.{CommonType}
-use Rattle.cedar_names.specs.declared.json_schema.raw_name.RawName.{RawName}
 use Rattle.cedar_json.proofs.NameLemmas.{common_key-read}
-use Rattle.cedar_json.specs.DefinitionFormat.{common_key}
-use Rattle.cedar_json_writer.specs.Flaws.{type_flaws}
-use Rattle.cedar_json_writer.specs.Sound.{SoundType}
-use Rattle.cedar_json_writer.specs.TypeDocument.{type_document}
 use Rattle.std.proofs.Common.{None as nothing}
-use Rattle.cedar_below.specs.Text.{Text}
 use Rattle.cedar_json_writer.proofs.WritingLemmas.{member_flaw, members_added, members_free, turn}
 use Rattle.cedar_json_writer.proofs.definitions.write_common_types.Goals as goal
 

@@ -1,13 +1,6 @@
 use Rattle.cedar_json_writer.proofs.WrittenDefinitions.{declared_shape}
-use Rattle.cedar_names.specs.CommonTypeId.{common_type_text}
-use Rattle.cedar_names.specs.RawExpr.{raw_expr}
-use Rattle.cedar_names.specs.declared.json_schema.fragment.CommonType.{CommonType}
-use Rattle.cedar_names.specs.declared.json_schema.raw_name.RawName.{RawName}
-use Rattle.cedar_json_writer.specs.Flaws.{type_flaws}
-use Rattle.cedar_json_writer.specs.Sound.{SoundType}
-use Rattle.cedar_json_writer.specs.TypeDocument.{type_document}
+use Rattle.cedar_json_writer.specs.Words.{CommonType, RawName, SoundType, Text, common_type_text, raw_expr, type_document, type_flaws}
 use Rattle.std.proofs.Common.{None as nothing}
-use Rattle.cedar_below.specs.Text.{Text}
 use Rattle.cedar_json_writer.proofs.WritingLemmas.{SoFar}
 use Rattle.cedar_json_writer.proofs.definitions.write_common_types.Given as goal
 

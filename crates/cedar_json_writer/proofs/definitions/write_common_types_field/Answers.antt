@@ -1,11 +1,9 @@
 use Rattle.std.proofs.Common.{codes, sym, ◌∙◌}
 use Rattle.std.proofs.lemmas.Bool.{false≢true}
 use Rattle.json.specs.Json.{object}
-use Rattle.cedar_json.specs.DefinitionFormat.{written_common_types}
+use Rattle.cedar_json_writer.specs.Words.{declared_members, type_document, written_common_types}
 use Rattle.cedar_json_writer.proofs.WritingLemmas.{field_added}
 use Rattle.cedar_json_writer.proofs.WrittenDefinitions.{no_common_types, none_free, some_common_types}
-use Rattle.cedar_json_writer.specs.FragmentDocument.{declared_members}
-use Rattle.cedar_json_writer.specs.TypeDocument.{type_document}
 use Rattle.cedar_json_writer.proofs.definitions.write_common_types_field.Goals as goal
 
 pub returns-then-is_empty-clause-checked : goal.returns-then-is_empty-clause-checked

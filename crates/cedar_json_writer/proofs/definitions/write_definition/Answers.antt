@@ -1,8 +1,7 @@
 use Rattle.std.proofs.lemmas.Result.{err_from_is_err_and}
 use Rattle.json.specs.Json.{object}
-use Rattle.cedar_json.specs.DefinitionFormat.{written_actions, written_common_types, written_definition, written_entity_types}
+use Rattle.cedar_json_writer.specs.Words.{action_document, common_types_held, declared_members, entity_type_document, written_actions, written_common_types, written_definition, written_entity_types}
 use Rattle.cedar_json_writer.proofs.WrittenDefinitions.{action_flaw, definition_added, entity_type_flaw}
-use Rattle.cedar_json_writer.specs.FragmentDocument.{action_document, common_types_held, declared_members, entity_type_document}
 use Rattle.cedar_json_writer.proofs.definitions.write_definition.Goals as goal
 
 pub returns-in_err-write_entity_types-clause-checked : goal.returns-in_err-write_entity_types-clause-checked

@@ -2,15 +2,9 @@ use Rattle.std.proofs.Common.{◌++◌, ◌∷◌, [], List, ℕ, ap, refl, ◌�
 use Rattle.std.proofs.lemmas.Result.{err_from_is_err_and}
 use Rattle.json.specs.Token.{key}
 use Rattle.cedar_json_writer.proofs.WrittenDefinitions.{declarations_free, declared_shape}
-use Rattle.cedar_below.specs.Text.{Text}
-use Rattle.cedar_below.specs.UnreservedId.{unreserved_id_text}
+use Rattle.cedar_json_writer.specs.Words.{SoundBody, Text, WrittenEntity, body_flaws, entity_type_document, id_key, unreserved_id_text, written_entity}
 use Rattle.cedar_below.specs.contracts.unreserved_id.UnreservedIdOrd.TheImpl as unreserved_id_ord
-use Rattle.cedar_json.specs.DefinitionFormat.{id_key}
-use Rattle.cedar_json.specs.EntityFormat.{WrittenEntity, written_entity}
 use Rattle.cedar_json_writer.proofs.WrittenTypes.{id_key-read}
-use Rattle.cedar_json_writer.specs.Flaws.{body_flaws}
-use Rattle.cedar_json_writer.specs.FragmentDocument.{entity_type_document}
-use Rattle.cedar_json_writer.specs.Sound.{SoundBody}
 use Rattle.cedar_json_writer.proofs.WritingLemmas.{member_flaw, members_added, members_free, turn}
 use Rattle.cedar_json_writer.proofs.definitions.write_entity_types.Goals as goal
 

@@ -1,10 +1,5 @@
 use Rattle.cedar_json_writer.proofs.WrittenDefinitions.{declared_shape}
-use Rattle.cedar_below.specs.Text.{Text}
-use Rattle.cedar_below.specs.UnreservedId.{unreserved_id_text}
-use Rattle.cedar_json.specs.EntityFormat.{WrittenEntity, written_entity}
-use Rattle.cedar_json_writer.specs.Flaws.{body_flaws}
-use Rattle.cedar_json_writer.specs.FragmentDocument.{entity_type_document}
-use Rattle.cedar_json_writer.specs.Sound.{SoundBody}
+use Rattle.cedar_json_writer.specs.Words.{SoundBody, Text, WrittenEntity, body_flaws, entity_type_document, unreserved_id_text, written_entity}
 use Rattle.cedar_json_writer.proofs.WritingLemmas.{SoFar}
 use Rattle.cedar_json_writer.proofs.definitions.write_entity_types.Given as goal
 

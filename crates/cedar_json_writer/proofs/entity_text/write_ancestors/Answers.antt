@@ -1,9 +1,7 @@
 use Rattle.std.proofs.Common.{ap, map}
-use Rattle.cedar_below.specs.Entity.{entity_ancestors}
-use Rattle.cedar_below.specs.EntityUID.{uid_of}
+use Rattle.cedar_json_writer.specs.Words.{entity_ancestors, uid_document, uid_of}
 use Rattle.cedar_json_writer.proofs.WritingLemmas.{array_added, item_turn}
 use Rattle.cedar_json_writer.proofs.WrittenEntityData.{uids_added}
-use Rattle.cedar_json_writer.specs.ValueDocument.{uid_document}
 use Rattle.cedar_json_writer.proofs.entity_text.write_ancestors.Goals as goal
 
 pub loop-uid-preserved : goal.loop-uid-preserved

@@ -1,9 +1,7 @@
 use Rattle.std.proofs.Common.{◌≡◌, ◌++◌, map}
 use Rattle.json.specs.Tree.{items_tokens}
-use Rattle.cedar_below.specs.Entity.{entity_ancestors}
-use Rattle.cedar_below.specs.EntityUID.{uid_of}
+use Rattle.cedar_json_writer.specs.Words.{entity_ancestors, uid_document, uid_of}
 use Rattle.cedar_json_writer.proofs.WritingLemmas.{items_from}
-use Rattle.cedar_json_writer.specs.ValueDocument.{uid_document}
 use Rattle.cedar_json_writer.proofs.entity_text.write_ancestors.Given as goal
 
 abbrev pub invariant-loop-uid : goal.invariant-loop-uid

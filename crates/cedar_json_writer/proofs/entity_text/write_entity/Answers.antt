@@ -1,17 +1,9 @@
 use Rattle.std.proofs.Common.{◌≡◌, [], Global, String, codes, subst}
 use Rattle.std.proofs.lemmas.Result.{err_from_is_err_and}
 use Rattle.std.specs.BTreeMap.{BTreeMap}
-use Rattle.cedar_below.specs.Entity.{entity_ancestors, entity_attrs, entity_tags, entity_uid}
-use Rattle.cedar_below.specs.PlainUid.{PlainUid}
-use Rattle.cedar_below.specs.declared.value.Value.{Value}
-use Rattle.cedar_json.specs.ActionFormat.{written_pairs}
+use Rattle.cedar_json_writer.specs.Words.{AddsField, AddsValue, IsFlawOf, PlainUid, Value, entity_ancestors, entity_attrs, entity_tags, entity_uid, pairs_document, pairs_flaws, tags_held, uid_array, uid_document, written_pairs}
 use Rattle.cedar_json_writer.proofs.WritingLemmas.{flaw_left, flaw_right, none_both}
 use Rattle.cedar_json_writer.proofs.WrittenEntityData.{entity_added}
-use Rattle.cedar_json_writer.specs.EntityDocument.{tags_held, uid_array}
-use Rattle.cedar_json_writer.specs.Flaws.{pairs_flaws}
-use Rattle.cedar_json_writer.specs.FragmentDocument.{pairs_document}
-use Rattle.cedar_json_writer.specs.ValueDocument.{uid_document}
-use Rattle.cedar_json_writer.specs.Writing.{AddsField, AddsValue, IsFlawOf}
 use Rattle.cedar_json_writer.proofs.entity_text.write_entity.Goals as goal
 
 -- values by text, as an entity holds them

@@ -1,9 +1,8 @@
 use Rattle.std.proofs.Common.{codes, refl, sym, ◌∙◌}
 use Rattle.std.proofs.lemmas.Bool.{false≢true}
-use Rattle.cedar_json.specs.ActionFormat.{written_pairs}
+use Rattle.cedar_json_writer.specs.Words.{pairs_document, written_pairs}
 use Rattle.cedar_json_writer.proofs.WritingLemmas.{field_added}
 use Rattle.cedar_json_writer.proofs.WrittenEntityData.{some_tags, tags_absent, tags_free}
-use Rattle.cedar_json_writer.specs.FragmentDocument.{pairs_document}
 use Rattle.cedar_json_writer.proofs.entity_text.write_tags.Goals as goal
 
 pub returns-then-is_empty-clause-written : goal.returns-then-is_empty-clause-written

@@ -1,10 +1,8 @@
 use Rattle.std.proofs.Common.{◌≡◌, ◌==◌, ℕ, None, ap, arith, codes, map, sym, vec_len, ◌∙◌}
 use Rattle.std.proofs.lemmas.Bool.{false≢true}
-use Rattle.cedar_names.specs.RawExpr.{raw_reference}
-use Rattle.cedar_names.specs.declared.json_schema.reference_type.ReferenceType.TheVariants.{Entity}
+use Rattle.cedar_json_writer.specs.Words.{Entity, raw_reference, reference_array}
 use Rattle.cedar_json_writer.proofs.WritingLemmas.{field_added}
 use Rattle.cedar_json_writer.proofs.WrittenEntities.{some_parents}
-use Rattle.cedar_json_writer.specs.FragmentDocument.{reference_array}
 use Rattle.cedar_json_writer.proofs.entity_types.write_parents_field.Goals as goal
 
 pub returns : goal.returns

@@ -1,10 +1,9 @@
 use Rattle.std.proofs.Common.{◌≡◌, ◌+◌, ◌∷◌, drop, drop_of_length-le, subst}
 use Rattle.json.specs.Json.{string}
 use Rattle.cedar_below.proofs.TreeLemmas.{drop-at}
-use Rattle.cedar_below.specs.PlainName.{PlainName, name_text}
+use Rattle.cedar_json_writer.specs.Words.{AddsValue, PlainName, name_text}
 use Rattle.cedar_json_writer.proofs.WritingLemmas.{array_added, item_turn}
 use Rattle.cedar_json_writer.proofs.WrittenNames.{name_item, names_added}
-use Rattle.cedar_json_writer.specs.Writing.{AddsValue}
 use Rattle.cedar_json_writer.proofs.fields.write_names.Goals as goal
 
 pub loop-name-preserved : goal.loop-name-preserved

@@ -1,9 +1,6 @@
 use Rattle.json.specs.Json.{string}
-use Rattle.cedar_below.specs.EntityUID.{uid_of}
-use Rattle.cedar_below.specs.UidText.{uid_text}
-use Rattle.cedar_json.specs.ActionFormat.{written_pairs}
+use Rattle.cedar_json_writer.specs.Words.{pairs_document, uid_of, uid_text, written_pairs}
 use Rattle.cedar_json_writer.proofs.WrittenEntityData.{request_added}
-use Rattle.cedar_json_writer.specs.FragmentDocument.{pairs_document}
 use Rattle.cedar_json_writer.proofs.request_text.write_request.Goals as goal
 
 pub returns-clause-written : goal.returns-clause-written

@@ -4,9 +4,8 @@ use Rattle.std.specs.Str.{IsUtf8}
 use Rattle.json.specs.Json.{document}
 use Rattle.json.specs.Lex.{tokens}
 use Rattle.json.specs.Tree.{json_tokens}
-use Rattle.cedar_json.specs.DefinitionFormat.{written_fragment}
+use Rattle.cedar_json_writer.specs.Words.{fragment_document, written_fragment}
 use Rattle.cedar_json_writer.proofs.WrittenText.{deep_text, described_text, writable_text}
-use Rattle.cedar_json_writer.specs.FragmentDocument.{fragment_document}
 use Rattle.cedar_json_writer.proofs.text.fragment_to_json.Goals as goal
 
 pub returns-then-branch-clause-writable : goal.returns-then-branch-clause-writable

@@ -4,16 +4,9 @@ use Rattle.json.specs.Json.{object}
 use Rattle.json.specs.Token.{key}
 use Rattle.cedar_names.proofs.ExprLemmas.{raw_record-entries}
 use Rattle.cedar_names.proofs.VariantLemmas.{raw_variant-Boolean, raw_variant-Entity, raw_variant-Long, raw_variant-String, type-CommonTypeRef, variant-EntityOrCommon, variant-Extension}
-use Rattle.cedar_names.specs.Expr.{Expr, record_expr}
-use Rattle.cedar_names.specs.RawExpr.{raw_expr, raw_record, raw_reference, raw_variant}
-use Rattle.cedar_names.specs.declared.json_schema.raw_name.RawName.{RawName}
-use Rattle.cedar_names.specs.declared.json_schema.type_of.RecordType.{out-RecordType}
+use Rattle.cedar_json_writer.specs.Words.{AddsFields, AddsValue, Expr, IsChecked, IsFlawOf, RawName, SoundType, attribute_members, attributes_of, out-RecordType, raw_expr, raw_record, raw_reference, raw_variant, record_expr, type_flaws, type_members}
 use Rattle.cedar_json_writer.proofs.WritingLemmas.{begun, member_flaw, members_added, members_free, turn}
 use Rattle.cedar_json_writer.proofs.WrittenTypes.{FreeType, attributes_shape, either_fields, either_free, entity_fields, entity_free, extension_free, listed, long_fields, long_free, record_fields, record_flaw, record_free, set_fields, set_flaw, set_free, text_fields, text_free, truth_fields, truth_free}
-use Rattle.cedar_json_writer.specs.Flaws.{type_flaws}
-use Rattle.cedar_json_writer.specs.Sound.{SoundType}
-use Rattle.cedar_json_writer.specs.TypeDocument.{attribute_members, attributes_of, type_members}
-use Rattle.cedar_json_writer.specs.Writing.{AddsFields, AddsValue, IsChecked, IsFlawOf}
 use Rattle.cedar_json_writer.proofs.types.+type_writing.Goals as goal
 
 pub write_variant-returns-in_ok-write_text_field-in-String-clause-written : goal.write_variant-returns-in_ok-write_text_field-in-String-clause-written

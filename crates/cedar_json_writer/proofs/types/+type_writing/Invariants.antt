@@ -1,5 +1,4 @@
-use Rattle.cedar_names.specs.declared.json_schema.raw_name.RawName.{RawName}
-use Rattle.cedar_names.specs.declared.json_schema.type_of.RecordType.{out-RecordType}
+use Rattle.cedar_json_writer.specs.Words.{RawName, out-RecordType}
 use Rattle.cedar_json_writer.proofs.WritingLemmas.{SoFar}
 use Rattle.cedar_json_writer.proofs.WrittenTypes.{attributes_shape}
 use Rattle.cedar_json_writer.proofs.types.+type_writing.Given as goal

@@ -1,8 +1,7 @@
 use Rattle.std.proofs.Common.{Some, codes, subst}
 use Rattle.json.specs.Json.{string}
-use Rattle.cedar_below.specs.PlainName.{PlainName, name_text}
+use Rattle.cedar_json_writer.specs.Words.{AddsField, PlainName, name_text}
 use Rattle.cedar_json_writer.proofs.WrittenTypes.{common_fields, common_flaw, common_free}
-use Rattle.cedar_json_writer.specs.Writing.{AddsField}
 use Rattle.cedar_json_writer.proofs.types.write_common.Goals as goal
 
 pub returns-in-Some-clause-checked : goal.returns-in-Some-clause-checked

@@ -1,10 +1,7 @@
 use Rattle.std.proofs.Common.{Some, codes, subst}
 use Rattle.json.specs.Json.{string}
-use Rattle.cedar_below.specs.PlainName.{PlainName, name_text}
-use Rattle.cedar_names.specs.RawName.{raw_name}
+use Rattle.cedar_json_writer.specs.Words.{AddsField, PlainName, name_text, optional_member, raw_name}
 use Rattle.cedar_json_writer.proofs.WritingLemmas.{fields_after}
-use Rattle.cedar_json_writer.specs.Writing.{AddsField}
-use Rattle.cedar_json_writer.specs.WrittenFields.{optional_member}
 use Rattle.cedar_json_writer.proofs.types.write_named.Goals as goal
 
 pub returns : goal.returns

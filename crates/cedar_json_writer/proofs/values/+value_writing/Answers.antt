@@ -4,17 +4,9 @@ use Rattle.json.specs.Json.{string as text}
 use Rattle.json.specs.Token.{key, string}
 use Rattle.cedar_below.proofs.TreeLemmas.{drop-at, tree_of-call, tree_of-record, tree_of-uid}
 use Rattle.cedar_below.proofs.ValueCopies.{tree_of-text, tree_of-truth}
-use Rattle.cedar_below.specs.Name.{plain_name}
-use Rattle.cedar_below.specs.PlainName.{PlainName, name_text}
-use Rattle.cedar_below.specs.RestrictedExpr.{entries_of, tree_of, trees_of}
-use Rattle.cedar_below.specs.Tree.{Tree, call_value, set_value}
-use Rattle.cedar_below.specs.declared.value.RestrictedExpr.{RestrictedExpr}
+use Rattle.cedar_json_writer.specs.Words.{AddsField, AddsValue, IsChecked, IsFlawOf, PlainName, RestrictedExpr, SoundValue, Tree, call_value, entries_of, name_text, plain_name, set_value, tree_of, trees_of, value_document, value_flaws}
 use Rattle.cedar_json_writer.proofs.WritingLemmas.{member_flaw, members_added, members_free, turn}
 use Rattle.cedar_json_writer.proofs.WrittenValues.{FreeValue, argument_flaw, arity_flaw, call_added, call_free, long_added, long_free, one_item, pairs_free, pairs_shape, record_document, record_free, record_key_flaw, record_value_flaw, text_added, text_free, tree_of-long, truth_added, truth_free, uid_free, values_added, values_flaw, values_free, values_turn}
-use Rattle.cedar_json_writer.specs.Flaws.{value_flaws}
-use Rattle.cedar_json_writer.specs.Sound.{SoundValue}
-use Rattle.cedar_json_writer.specs.ValueDocument.{value_document}
-use Rattle.cedar_json_writer.specs.Writing.{AddsField, AddsValue, IsChecked, IsFlawOf}
 use Rattle.cedar_json_writer.proofs.values.+value_writing.Goals as goal
 
 pub write_values-loop-value-preserved : goal.write_values-loop-value-preserved

@@ -1,7 +1,6 @@
 use Rattle.std.proofs.Common.{List, ℕ, ap, sym, ◌∙◌}
-use Rattle.cedar_json.specs.Fields.{is_among}
+use Rattle.cedar_json_writer.specs.Words.{is_among, value_keys}
 use Rattle.cedar_json_writer.proofs.WrittenValues.{keys_many, lone_flaw, lone_free}
-use Rattle.cedar_json_writer.specs.Flaws.{value_keys}
 use Rattle.cedar_json_writer.proofs.values.check_keys.Goals as goal
 
 pub returns-then-len-ne1 : goal.returns-then-len-ne1

@@ -1,16 +1,9 @@
 use Rattle.std.proofs.Common.{◌++◌, ◌∷◌, [], List, ℕ, ap, subst, ◌∙◌}
 use Rattle.std.proofs.lemmas.Result.{err_from_is_err_and}
 use Rattle.json.specs.Token.{key}
-use Rattle.cedar_below.specs.RestrictedExpr.{tree_of}
-use Rattle.cedar_below.specs.Tree.{Tree}
-use Rattle.cedar_below.specs.Value.{value_expr}
-use Rattle.cedar_below.specs.declared.value.RestrictedExpr.{RestrictedExpr}
-use Rattle.cedar_below.specs.declared.value.Value.{Value}
+use Rattle.cedar_json_writer.specs.Words.{AddsValue, IsFlawOf, RestrictedExpr, Tree, Value, tree_of, value_document, value_expr, value_flaws}
 use Rattle.cedar_json_writer.proofs.WritingLemmas.{member_flaw, members_added, members_free, turn}
 use Rattle.cedar_json_writer.proofs.WrittenValues.{FreeValue, pairs_free, pairs_shape}
-use Rattle.cedar_json_writer.specs.Flaws.{value_flaws}
-use Rattle.cedar_json_writer.specs.ValueDocument.{value_document}
-use Rattle.cedar_json_writer.specs.Writing.{AddsValue, IsFlawOf}
 use Rattle.cedar_json_writer.proofs.values.write_attribute_values.Goals as goal
 
 -- the tree that a value stands for

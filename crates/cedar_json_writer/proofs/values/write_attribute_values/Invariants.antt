@@ -1,5 +1,4 @@
-use Rattle.cedar_below.specs.RestrictedExpr.{tree_of}
-use Rattle.cedar_below.specs.Value.{value_expr}
+use Rattle.cedar_json_writer.specs.Words.{tree_of, value_expr}
 use Rattle.cedar_json_writer.proofs.WritingLemmas.{SoFar}
 use Rattle.cedar_json_writer.proofs.WrittenValues.{pairs_shape}
 use Rattle.cedar_json_writer.proofs.values.write_attribute_values.Given as goal

@@ -1,9 +1,7 @@
 use Rattle.std.proofs.Common.{List, ℕ, Some, codes, subst, ◌∙◌}
 use Rattle.json.specs.Json.{string}
-use Rattle.cedar_below.specs.EntityUID.{uid_of}
-use Rattle.cedar_below.specs.PlainName.{PlainName, name_text}
+use Rattle.cedar_json_writer.specs.Words.{AddsField, PlainName, name_text, uid_of}
 use Rattle.cedar_json_writer.proofs.WrittenValues.{uid_fields_added}
-use Rattle.cedar_json_writer.specs.Writing.{AddsField}
 use Rattle.cedar_json_writer.proofs.values.write_uid.Goals as goal
 
 pub returns : goal.returns

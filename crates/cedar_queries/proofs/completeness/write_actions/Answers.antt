@@ -1,9 +1,7 @@
 use Rattle.std.proofs.Common.{◌++◌, ◌∷◌, ◌∙◌, [], List, ap, flat_map, map, refl, sym, take}
 use Rattle.std.proofs.lemmas.Grind.{put_two}
 use Rattle.std.proofs.lemmas.List.{flat_map_more, map-append, take_more}
-use Rattle.cedar_below.specs.EntityUID.{uid_of}
-use Rattle.cedar_below.specs.declared.entity_uid.EntityUID.{EntityUID}
-use Rattle.cedar_queries.specs.IncompleteText.{external_action_text}
+use Rattle.cedar_queries.specs.Words.{EntityUID, external_action_text, uid_of}
 use Rattle.cedar_queries.proofs.completeness.write_actions.Goals as goal
 
 pub loop-uid-preserved : goal.loop-uid-preserved

@@ -1,8 +1,7 @@
 use Rattle.std.proofs.Common.{map, take}
 use Rattle.std.specs.Fmt.{HasWritten, IsPlainFormatter}
 use Rattle.std.specs.List.{flat_map}
-use Rattle.cedar_below.specs.EntityUID.{uid_of}
-use Rattle.cedar_queries.specs.IncompleteText.{external_action_text}
+use Rattle.cedar_queries.specs.Words.{external_action_text, uid_of}
 use Rattle.cedar_queries.proofs.completeness.write_actions.Given as goal
 
 abbrev pub invariant-loop-uid : goal.invariant-loop-uid

@@ -1,9 +1,7 @@
 use Rattle.std.proofs.Common.{◌++◌, ◌∷◌, ◌∙◌, [], List, ap, flat_map, map, refl, sym, take}
 use Rattle.std.proofs.lemmas.Grind.{put_two}
 use Rattle.std.proofs.lemmas.List.{flat_map_more, map-append, take_more}
-use Rattle.cedar_below.specs.EntityType.{type_name}
-use Rattle.cedar_below.specs.declared.entity_type.EntityType.{EntityType}
-use Rattle.cedar_queries.specs.IncompleteText.{external_type_text}
+use Rattle.cedar_queries.specs.Words.{EntityType, external_type_text, type_name}
 use Rattle.cedar_queries.proofs.completeness.write_types.Goals as goal
 
 pub loop-ty-preserved : goal.loop-ty-preserved

@@ -1,8 +1,7 @@
 use Rattle.std.proofs.Common.{map, take}
 use Rattle.std.specs.Fmt.{HasWritten, IsPlainFormatter}
 use Rattle.std.specs.List.{flat_map}
-use Rattle.cedar_below.specs.EntityType.{type_name}
-use Rattle.cedar_queries.specs.IncompleteText.{external_type_text}
+use Rattle.cedar_queries.specs.Words.{external_type_text, type_name}
 use Rattle.cedar_queries.proofs.completeness.write_types.Given as goal
 
 abbrev pub invariant-loop-ty : goal.invariant-loop-ty

@@ -1,8 +1,6 @@
 use Rattle.std.proofs.Common.{◌≡◌, ◌++◌, ◌∷◌, [], All, Contains, map, take}
 use Rattle.std.specs.List.{flat_map}
-use Rattle.cedar_schema_elements.specs.ValidatorActionId.{plain_action_entry}
-use Rattle.cedar_below.specs.EntityUID.{uid_of}
-use Rattle.cedar_queries.specs.Hierarchy.{action_descendants}
+use Rattle.cedar_queries.specs.Words.{action_descendants, plain_action_entry, uid_of}
 use Rattle.cedar_queries.proofs.descent.actions_in_set.Given as goal
 
 abbrev pub invariant-loop-uid : goal.invariant-loop-uid

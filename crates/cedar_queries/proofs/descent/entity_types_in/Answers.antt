@@ -1,13 +1,9 @@
 use Rattle.std.proofs.Common.{◌≡◌, ◌++◌, ◌∷◌, [], Bor, List, map, ap, arith, sym, ◌∙◌}
 use Rattle.std.proofs.lemmas.List.{map-append}
-use Rattle.cedar_below.specs.EntityType.{type_name}
-use Rattle.cedar_below.specs.PlainName.{PlainName}
-use Rattle.cedar_below.specs.declared.entity_type.EntityType.{EntityType}
+use Rattle.cedar_queries.specs.Words.{EntityType, PlainName, descendant_names, descendants_of, plain_entry, type_name}
 use Rattle.std.specs.Global.{Vec}
-use Rattle.cedar_schema_elements.specs.ValidatorEntityType.{descendant_names, plain_entry}
 use Rattle.cedar_queries.proofs.BorrowedLemmas.{borrowed}
 use Rattle.cedar_queries.proofs.LookupLemmas.{descendants_found, descendants_none}
-use Rattle.cedar_queries.specs.Hierarchy.{descendants_of}
 use Rattle.cedar_queries.proofs.descent.entity_types_in.Goals as goal
 use Rattle.cedar_queries.proofs.descent.entity_types_in.Goals.{in-Some+in_ok-add_descendants, in_default}
 

@@ -1,7 +1,5 @@
 use Rattle.std.proofs.Common.{◌↔◌, map}
-use Rattle.cedar_schema_elements.specs.ValidatorActionId.{plain_action_entry}
-use Rattle.cedar_below.specs.EntityType.{type_name}
-use Rattle.cedar_queries.specs.Hierarchy.{HasActionBelow}
+use Rattle.cedar_queries.specs.Words.{HasActionBelow, plain_action_entry, type_name}
 use Rattle.cedar_queries.proofs.descent.has_action_below.Given as goal
 
 abbrev pub invariant-loop-uid : goal.invariant-loop-uid

@@ -1,7 +1,5 @@
 use Rattle.std.proofs.Common.{◌≡◌, ◌↔◌, Any, map}
-use Rattle.cedar_schema_elements.specs.ValidatorActionId.{action_of}
-use Rattle.cedar_below.specs.EntityType.{type_name}
-use Rattle.cedar_below.specs.EntityUID.{uid_of}
+use Rattle.cedar_queries.specs.Words.{action_of, type_name, uid_of}
 use Rattle.cedar_queries.proofs.descent.has_descendant_of.Given as goal
 
 abbrev pub invariant-loop-below : goal.invariant-loop-below

@@ -1,11 +1,8 @@
 use Rattle.std.proofs.Common.{map, sym, refl, ◌∙◌}
 use Rattle.std.proofs.lemmas.Bool.{false≢true}
 use Rattle.std.proofs.lemmas.List.{take_all}
-use Rattle.cedar_schema_elements.specs.ValidatorActionId.{plain_action_entry}
-use Rattle.cedar_below.specs.EntityType.{type_name}
-use Rattle.cedar_schema_elements.specs.ValidatorEntityType.{plain_entry}
+use Rattle.cedar_queries.specs.Words.{MayBeIn, plain_action_entry, plain_entry, type_name}
 use Rattle.cedar_queries.proofs.AnyLemmas.{any_more}
-use Rattle.cedar_queries.specs.Hierarchy.{MayBeIn}
 use Rattle.cedar_queries.proofs.descent.may_be_in_any.Goals as goal
 
 pub returns-then-may_be_in : goal.returns-then-may_be_in

@@ -1,10 +1,7 @@
 use Rattle.std.proofs.Common.{None, Some, map, sym, ◌≡◌, ◌∙◌}
 use Rattle.std.proofs.lemmas.Result.{IfOk-weaker}
-use Rattle.cedar_below.specs.EntityType.{type_name}
-use Rattle.cedar_schema_elements.specs.ValidatorEntityType.{plain_entry}
+use Rattle.cedar_queries.specs.Words.{declared_fields, fields_of, plain_entry, type_name}
 use Rattle.cedar_queries.proofs.DeclaredLemmas.{fields_found}
-use Rattle.cedar_queries.specs.KnownAttributes.{declared_fields}
-use Rattle.cedar_types.specs.Meaning.{fields_of}
 use Rattle.cedar_queries.proofs.known.declared_attributes.Goals as goal
 
 pub returns-in-Some : goal.returns-in-Some

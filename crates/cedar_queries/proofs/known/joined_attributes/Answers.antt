@@ -1,10 +1,7 @@
 use Rattle.std.proofs.Common.{◌≡◌, Err, map, ap, sym, ◌∙◌}
 use Rattle.std.proofs.lemmas.Result.{IfOk-weaker}
-use Rattle.cedar_schema_elements.specs.ValidatorEntityType.{plain_entry}
+use Rattle.cedar_queries.specs.Words.{AreKnownOfAll, fields_of, lub_names, plain_entry, ty_of}
 use Rattle.cedar_queries.proofs.JoinedLemmas.{fields_in, joined_open, joined_type}
-use Rattle.cedar_queries.specs.KnownAttributes.{AreKnownOfAll}
-use Rattle.cedar_types.specs.EntityLUB.{lub_names}
-use Rattle.cedar_types.specs.Meaning.{fields_of, ty_of}
 use Rattle.cedar_queries.proofs.known.joined_attributes.Goals as goal
 
 pub attributes_of-requires : goal.attributes_of-requires

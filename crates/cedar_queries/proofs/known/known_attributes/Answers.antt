@@ -1,20 +1,7 @@
 use Rattle.std.proofs.Common.{◌∷◌, [], List, map, sym, subst}
 use Rattle.std.proofs.lemmas.Result.{IfOk-weaker}
-use Rattle.cedar_below.specs.EntityType.{type_name}
-use Rattle.cedar_below.specs.PlainName.{PlainName}
-use Rattle.cedar_schema_elements.specs.ValidatorEntityType.{plain_entry}
+use Rattle.cedar_queries.specs.Words.{AreAttributesOf, AreKnownOfAll, AreTexts-fields, AreWellFormed-fields, Attributes, EntityKind, Fields, IsSortedByName-fields, IsWellFormed, OpenAttributes, PlainName, fields_of, kind_ty, lub_names, plain_entry, record_of, type_name}
 use Rattle.cedar_queries.proofs.JoinedLemmas.{known_alone, only_is}
-use Rattle.cedar_queries.specs.KnownAttributes.{AreAttributesOf, AreKnownOfAll}
-use Rattle.cedar_type_rules.specs.Ty.{Fields, record_of}
-use Rattle.cedar_type_rules.specs.WellFormed.{IsWellFormed}
-use Rattle.cedar_type_rules.specs.declared.open_tag.OpenTag.TheVariants.{OpenAttributes}
-use Rattle.cedar_types.specs.EntityKind.{kind_ty}
-use Rattle.cedar_types.specs.EntityLUB.{lub_names}
-use Rattle.cedar_types.specs.Layers.{IsSortedByName-fields}
-use Rattle.cedar_types.specs.Meaning.{fields_of}
-use Rattle.cedar_types.specs.WellFormedTypes.{AreTexts-fields, AreWellFormed-fields}
-use Rattle.cedar_types.specs.declared.attributes.Attributes.{Attributes}
-use Rattle.cedar_types.specs.declared.entity_kind.EntityKind.{EntityKind}
 use Rattle.cedar_queries.proofs.known.known_attributes.Goals as goal
 
 -- attributes stand for an open record that is well formed

@@ -1,16 +1,8 @@
 use Rattle.std.proofs.Common.{◌++◌, ◌∷◌, [], List, ap, append_assoc, map, sym, ◌∙◌}
 use Rattle.std.proofs.lemmas.List.{map-append}
 use Rattle.std.specs.Slice.Iter.{iter_rest}
-use Rattle.cedar_below.specs.EntityType.{type_name}
-use Rattle.cedar_below.specs.PlainName.{PlainName}
-use Rattle.cedar_below.specs.declared.entity_type.EntityType.{EntityType}
-use Rattle.cedar_schema_elements.specs.ValidatorEntityType.{plain_entry}
-use Rattle.cedar_queries.specs.KnownAttributes.{open_record}
-use Rattle.cedar_type_rules.specs.Ty.{Fields, Ty, record_of}
-use Rattle.cedar_type_rules.specs.declared.open_tag.OpenTag.TheVariants.{OpenAttributes}
+use Rattle.cedar_queries.specs.Words.{EntityType, Fields, OpenAttributes, PlainName, Ty, «Type», open_record, plain_entry, record_of, ty_of, type_name}
 use Rattle.cedar_types.proofs.MemberParts.{ty_of-record}
-use Rattle.cedar_types.specs.Meaning.{ty_of}
-use Rattle.cedar_types.specs.declared.types.«Type».{«Type»}
 use Rattle.cedar_types.specs.declared.types.«Type».TheVariants as variant
 use Rattle.cedar_queries.proofs.known.open_records.Goals as goal
 

@@ -1,10 +1,6 @@
 use Rattle.std.proofs.Common.{◌≡◌, ◌++◌, map}
 use Rattle.std.specs.Slice.Iter.{iter_rest}
-use Rattle.cedar_below.specs.EntityType.{type_name}
-use Rattle.cedar_schema_elements.specs.ValidatorEntityType.{plain_entry}
-use Rattle.cedar_queries.specs.KnownAttributes.{open_record}
-use Rattle.cedar_types.specs.EntityLUB.{lub_names}
-use Rattle.cedar_types.specs.Meaning.{ty_of}
+use Rattle.cedar_queries.specs.Words.{lub_names, open_record, plain_entry, ty_of, type_name}
 use Rattle.cedar_queries.proofs.known.open_records.Given as goal
 
 abbrev pub invariant-loop-ty : goal.invariant-loop-ty

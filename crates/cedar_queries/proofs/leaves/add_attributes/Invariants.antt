@@ -1,7 +1,5 @@
 use Rattle.std.proofs.Common.{◌≡◌, ◌++◌}
-use Rattle.cedar_queries.specs.Leaves.{field_types, shown_types}
-use Rattle.cedar_type_rules.specs.Ty.{fields_from}
-use Rattle.cedar_types.specs.Attributes.{plain_attributes}
+use Rattle.cedar_queries.specs.Words.{field_types, fields_from, plain_attributes, shown_types}
 use Rattle.cedar_queries.proofs.leaves.add_attributes.Given as goal
 
 abbrev pub invariant-loop-attribute : goal.invariant-loop-attribute

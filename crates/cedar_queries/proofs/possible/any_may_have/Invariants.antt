@@ -1,9 +1,6 @@
 use Rattle.std.proofs.Common.{◌↔◌, Any, map}
 use Rattle.std.specs.Slice.Iter.{iter_rest}
-use Rattle.cedar_below.specs.EntityType.{type_name}
-use Rattle.cedar_schema_elements.specs.ValidatorEntityType.{plain_entry}
-use Rattle.cedar_queries.specs.Possible.{MemberMayHave}
-use Rattle.cedar_types.specs.EntityLUB.{lub_names}
+use Rattle.cedar_queries.specs.Words.{MemberMayHave, lub_names, plain_entry, type_name}
 use Rattle.cedar_queries.proofs.possible.any_may_have.Given as goal
 
 abbrev pub invariant-loop-member : goal.invariant-loop-member

@@ -1,7 +1,6 @@
 use Rattle.std.proofs.Common.{inl, inr, subst, sym, ◌∙◌}
 use Rattle.std.proofs.lemmas.Bool.{false≢true}
-use Rattle.cedar_below.specs.EntityUID.{uid_of}
-use Rattle.cedar_below.specs.PlainName.{IsActionType, PlainName}
+use Rattle.cedar_queries.specs.Words.{IsActionType, PlainName, uid_of}
 use Rattle.cedar_queries.proofs.LookupLemmas.{action_known, type_known}
 use Rattle.cedar_queries.proofs.possible.is_known_uid.Goals as goal
 

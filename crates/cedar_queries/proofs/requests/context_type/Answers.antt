@@ -1,7 +1,6 @@
 use Rattle.std.proofs.Common.{None, Some, ap, sym, ◌∙◌}
 use Rattle.std.specs.Option.{option_and_then}
-use Rattle.cedar_schema_elements.specs.ActionKind.{kind_context}
-use Rattle.cedar_declarations.specs.PlainSchema.{SchemaAction}
+use Rattle.cedar_queries.specs.Words.{SchemaAction, kind_context}
 use Rattle.cedar_queries.proofs.LookupLemmas.{action_shown}
 use Rattle.cedar_queries.proofs.requests.context_type.Goals as goal
 

@@ -1,7 +1,6 @@
 use Rattle.std.proofs.Common.{None, Some, ap, sym, ◌∙◌}
 use Rattle.std.specs.Option.{option_map}
-use Rattle.cedar_schema_elements.specs.ActionKind.{kind_resources}
-use Rattle.cedar_declarations.specs.PlainSchema.{SchemaAction}
+use Rattle.cedar_queries.specs.Words.{SchemaAction, kind_resources}
 use Rattle.cedar_queries.proofs.LookupLemmas.{action_shown}
 use Rattle.cedar_queries.proofs.requests.resources_for_action.Goals as goal
 

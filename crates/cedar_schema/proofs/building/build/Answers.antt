@@ -1,14 +1,10 @@
 use Rattle.std.proofs.Common.{Err, inl, inr, ⊎_elim}
 use Rattle.std.proofs.lemmas.Result.{err_from_is_err_and, IfErr-weaker, IfOk-weaker, on_ok_weaker}
-use Rattle.cedar_declarations.specs.SchemaError.{fault_of}
-use Rattle.cedar_fragments.specs.FragmentDeclarations.{conditional_bag}
-use Rattle.cedar_fragments.specs.HeldNames.{held_names}
-use Rattle.cedar_resolution.specs.Collected.{collected_common, resolved_bag}
+use Rattle.cedar_schema.specs.Words.{collected_common, conditional_bag, fault_of, held_names, parts_schema, resolved_bag}
 use Rattle.cedar_declaration_laws.proofs.BuiltFrom.{built_from}
 use Rattle.cedar_declaration_laws.proofs.ResolutionLaws.{resolution}
 use Rattle.cedar_schema.proofs.Mapped.{IfErr-mapped, IfOk-mapped, OnOk-mapped}
 use Rattle.cedar_schema.proofs.ResolvedOver.{resolved_over}
-use Rattle.cedar_schema.specs.SchemaParts.{parts_schema}
 use Rattle.cedar_schema.proofs.building.build.Goals as goal
 
 pub returns-in_err-fragments-clause-built : goal.returns-in_err-fragments-clause-built

@@ -1,30 +1,10 @@
 use Rattle.std.proofs.Common.{◌≡◌, ◌⊎◌, map, refl}
-use Rattle.cedar_table.specs.Entries.{Entries}
+use Rattle.cedar_schema.specs.Words.{AreActionsOf, AreDeclaredEntityTypes, AreElaborated, AreTypesOf, CommonTypesAreSound, EntityType, Entries, InternalName, IsFault, IsReady, IsResolvedOver, TypeScope, ValidatorEntityType, collected_common, elaborated_types, entities_of, fault_of, held_names, out_of_memory, plain_entry, resolved_action_type, resolved_bag, resolved_reference}
 use Rattle.std.proofs.lemmas.Result.{err_from_is_err_and}
-use Rattle.cedar_below.specs.Entities.{entities_of}
-use Rattle.cedar_below.specs.declared.entity_type.EntityType.{EntityType}
-use Rattle.cedar_below.specs.declared.internal_name.InternalName.{InternalName}
-use Rattle.cedar_builder.specs.DeclaredEntityTypes.{AreDeclaredEntityTypes}
-use Rattle.cedar_builder.specs.EntityTypesReady.{IsReady}
-use Rattle.cedar_builder.specs.ActionsReady.{AreActionsOf}
-use Rattle.cedar_elaboration.specs.DeclaredTypes.{AreTypesOf, AreElaborated}
-use Rattle.cedar_elaboration.specs.SoundTypes.{CommonTypesAreSound}
-use Rattle.cedar_declarations.specs.Fault.{out_of_memory}
-use Rattle.cedar_declarations.specs.IllFormed.{IsFault}
-use Rattle.cedar_declarations.specs.SchemaError.{fault_of}
-use Rattle.cedar_declarations.specs.ResolvedExpr.{resolved_reference}
-use Rattle.cedar_schema_elements.specs.ValidatorEntityType.{plain_entry}
-use Rattle.cedar_schema_elements.specs.declared.entity_type.ValidatorEntityType.{ValidatorEntityType}
 use Rattle.cedar_fragments.proofs.SoundFragments.{fragments_have_no_fault}
-use Rattle.cedar_fragments.specs.FragmentDeclarations.{resolved_action_type}
-use Rattle.cedar_fragments.specs.HeldNames.{held_names}
-use Rattle.cedar_resolution.specs.Collected.{collected_common, resolved_bag}
 use Rattle.cedar_schema.proofs.DeclaredParts.{declared_parts}
 use Rattle.cedar_schema.proofs.ReadySteps.{actions_of, ready, types_of}
 use Rattle.cedar_schema.proofs.SurePieces.{pieces_well}
-use Rattle.cedar_schema.specs.ResolvedBag.{IsResolvedOver}
-use Rattle.cedar_elaboration.specs.Scope.{elaborated_types}
-use Rattle.cedar_elaboration.specs.declared.type_scope.TypeScope.{TypeScope}
 use Rattle.cedar_schema.proofs.building.build_resolved.Goals as goal
 use Rattle.cedar_schema.proofs.building.build_resolved.Goals.{After-entity_type_names-names}
 

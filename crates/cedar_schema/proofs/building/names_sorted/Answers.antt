@@ -1,8 +1,7 @@
 use Rattle.std.specs.Map.{keys_of}
 use Rattle.cedar_below.proofs.Names.{entity_type_ord-name_cmp}
 use Rattle.cedar_below.proofs.Ordered.{IsStrictlySortedBy-map}
-use Rattle.cedar_below.specs.EntityType.{type_name}
-use Rattle.cedar_below.specs.PlainName.{name_cmp}
+use Rattle.cedar_schema.specs.Words.{name_cmp, type_name}
 use Rattle.cedar_below.specs.contracts.entity_type.EntityTypeOrd.TheImpl as entity_type_ord
 use Rattle.cedar_schema.proofs.building.names_sorted.Goals as goal
 

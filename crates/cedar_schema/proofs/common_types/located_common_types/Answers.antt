@@ -1,11 +1,8 @@
 use Rattle.std.proofs.Common.{[], ◌++◌, List, sym, ◌∙◌}
 use Rattle.std.specs.List.{flat_map}
-use Rattle.cedar_fragments.specs.Located.{definition_common_types}
-use Rattle.cedar_fragments.specs.declared.namespace.fragment.ValidatorSchemaFragment.{ValidatorSchemaFragment}
+use Rattle.cedar_schema.specs.Words.{ConditionalName, ShownCommonType, ValidatorSchemaFragment, common_types_to_show, definition_common_types, fragment_common_types}
 use Rattle.cedar_schema.proofs.InOrder.{flat_map_next, flat_map_whole}
 use Rattle.cedar_schema.proofs.ShownLemmas.{to_show-flat}
-use Rattle.cedar_schema.specs.ShownCommonTypes.{ShownCommonType, common_types_to_show, fragment_common_types}
-use Rattle.cedar_names.specs.declared.json_schema.conditional_name.ConditionalName.{ConditionalName}
 use Rattle.cedar_schema.proofs.common_types.located_common_types.Goals as goal
 
 pub loop-fragment-preserved : goal.loop-fragment-preserved

@@ -1,7 +1,6 @@
 use Rattle.std.proofs.Common.{◌≡◌, map, take}
 use Rattle.std.specs.List.{flat_map}
-use Rattle.cedar_schema.specs.ShownCommonTypes.{common_types_to_show, fragment_common_types, shown_common_type}
-use Rattle.cedar_names.specs.declared.json_schema.conditional_name.ConditionalName.{ConditionalName}
+use Rattle.cedar_schema.specs.Words.{ConditionalName, common_types_to_show, fragment_common_types, shown_common_type}
 use Rattle.cedar_schema.proofs.common_types.located_common_types.Given as goal
 
 abbrev pub invariant-loop-fragment : goal.invariant-loop-fragment

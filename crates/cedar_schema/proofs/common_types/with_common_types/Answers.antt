@@ -1,8 +1,7 @@
 use Rattle.std.proofs.Common.{◌++◌, ap, map, sym, ◌∙◌}
 use Rattle.cedar_schema.proofs.InOrder.{flat_map_whole}
 use Rattle.cedar_schema.proofs.ShownLemmas.{each_to_show, one_to_show}
-use Rattle.cedar_schema.specs.ShownCommonTypes.{shown_common_type}
-use Rattle.cedar_names.specs.declared.json_schema.conditional_name.ConditionalName.{ConditionalName}
+use Rattle.cedar_schema.specs.Words.{ConditionalName, shown_common_type}
 use Rattle.cedar_schema.proofs.common_types.with_common_types.Goals as goal
 
 pub returns : goal.returns

@@ -1,8 +1,7 @@
 use Rattle.std.proofs.Common.{◌≡◌, ◌++◌, map, take}
 use Rattle.std.specs.List.{flat_map}
 use Rattle.cedar_schema.proofs.ShownLemmas.{one_to_show}
-use Rattle.cedar_schema.specs.ShownCommonTypes.{shown_common_type}
-use Rattle.cedar_names.specs.declared.json_schema.conditional_name.ConditionalName.{ConditionalName}
+use Rattle.cedar_schema.specs.Words.{ConditionalName, shown_common_type}
 use Rattle.cedar_schema.proofs.common_types.with_common_types.Given as goal
 
 abbrev pub invariant-loop-def : goal.invariant-loop-def

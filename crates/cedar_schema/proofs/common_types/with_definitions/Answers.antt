@@ -1,10 +1,7 @@
 use Rattle.std.proofs.Common.{◌++◌, List, ap, map, sym, ◌∙◌}
-use Rattle.cedar_fragments.specs.Located.{definition_common_types}
-use Rattle.cedar_fragments.specs.declared.namespace.definition.ValidatorNamespaceDef.{ValidatorNamespaceDef}
+use Rattle.cedar_schema.specs.Words.{ConditionalName, ShownCommonType, ValidatorNamespaceDef, common_types_to_show, definition_common_types, shown_common_type}
 use Rattle.cedar_schema.proofs.InOrder.{flat_map_next, flat_map_whole}
 use Rattle.cedar_schema.proofs.ShownLemmas.{to_show-flat}
-use Rattle.cedar_schema.specs.ShownCommonTypes.{ShownCommonType, common_types_to_show, shown_common_type}
-use Rattle.cedar_names.specs.declared.json_schema.conditional_name.ConditionalName.{ConditionalName}
 use Rattle.cedar_schema.proofs.common_types.with_definitions.Goals as goal
 
 pub loop-definition-preserved : goal.loop-definition-preserved

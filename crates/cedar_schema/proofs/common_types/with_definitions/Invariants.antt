@@ -1,8 +1,6 @@
 use Rattle.std.proofs.Common.{◌≡◌, ◌++◌, map, take}
 use Rattle.std.specs.List.{flat_map}
-use Rattle.cedar_fragments.specs.Located.{definition_common_types}
-use Rattle.cedar_schema.specs.ShownCommonTypes.{common_types_to_show, shown_common_type}
-use Rattle.cedar_names.specs.declared.json_schema.conditional_name.ConditionalName.{ConditionalName}
+use Rattle.cedar_schema.specs.Words.{ConditionalName, common_types_to_show, definition_common_types, shown_common_type}
 use Rattle.cedar_schema.proofs.common_types.with_definitions.Given as goal
 
 abbrev pub invariant-loop-definition : goal.invariant-loop-definition

@@ -1,9 +1,7 @@
 use Rattle.std.proofs.Common.{[], ◌∷◌, ◌++◌, List, ap, subst, take, ◌∙◌}
 use Rattle.std.specs.List.{flat_map}
-use Rattle.cedar_fragments.specs.Located.{DefinedNamespace, definition_namespaces, named_namespaces}
+use Rattle.cedar_schema.specs.Words.{ConditionalName, DefinedNamespace, HoldsNamespaces, built_in_namespace, definition_namespaces, named_namespaces}
 use Rattle.cedar_schema.proofs.InOrder.{flat_map_next, flat_map_whole}
-use Rattle.cedar_schema.specs.ShownNamespaces.{HoldsNamespaces, built_in_namespace}
-use Rattle.cedar_names.specs.declared.json_schema.conditional_name.ConditionalName.{ConditionalName}
 use Rattle.cedar_schema.proofs.namespaces.located_namespaces.Goals as goal
 
 pub loop-fragment-preserved : goal.loop-fragment-preserved

@@ -1,8 +1,6 @@
 use Rattle.std.proofs.Common.{◌∷◌, take}
 use Rattle.std.specs.List.{flat_map}
-use Rattle.cedar_fragments.specs.Located.{named_namespaces}
-use Rattle.cedar_schema.specs.ShownNamespaces.{HoldsNamespaces, built_in_namespace}
-use Rattle.cedar_names.specs.declared.json_schema.conditional_name.ConditionalName.{ConditionalName}
+use Rattle.cedar_schema.specs.Words.{ConditionalName, HoldsNamespaces, built_in_namespace, named_namespaces}
 use Rattle.cedar_schema.proofs.namespaces.located_namespaces.Given as goal
 
 abbrev pub invariant-loop-fragment : goal.invariant-loop-fragment

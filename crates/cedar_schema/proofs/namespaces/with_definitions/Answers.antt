@@ -1,10 +1,8 @@
 use Rattle.std.proofs.Common.{◌++◌, List, sym, subst, take}
 use Rattle.std.proofs.lemmas.List.{append-nil}
 use Rattle.std.specs.List.{flat_map}
-use Rattle.cedar_fragments.specs.Located.{DefinedNamespace, definition_namespaces}
+use Rattle.cedar_schema.specs.Words.{ConditionalName, DefinedNamespace, HoldsNamespaces, definition_namespaces}
 use Rattle.cedar_schema.proofs.InOrder.{flat_map_next, flat_map_whole}
-use Rattle.cedar_schema.specs.ShownNamespaces.{HoldsNamespaces}
-use Rattle.cedar_names.specs.declared.json_schema.conditional_name.ConditionalName.{ConditionalName}
 use Rattle.cedar_schema.proofs.namespaces.with_definitions.Goals as goal
 
 pub loop-definition-init : goal.loop-definition-init

@@ -1,8 +1,6 @@
 use Rattle.std.proofs.Common.{◌++◌, List, take}
 use Rattle.std.specs.List.{flat_map}
-use Rattle.cedar_fragments.specs.Located.{DefinedNamespace, definition_namespaces}
-use Rattle.cedar_schema.specs.ShownNamespaces.{HoldsNamespaces}
-use Rattle.cedar_names.specs.declared.json_schema.conditional_name.ConditionalName.{ConditionalName}
+use Rattle.cedar_schema.specs.Words.{ConditionalName, DefinedNamespace, HoldsNamespaces, definition_namespaces}
 use Rattle.cedar_schema.proofs.namespaces.with_definitions.Given as goal
 
 abbrev pub invariant-loop-definition : goal.invariant-loop-definition

@@ -1,9 +1,6 @@
 use Rattle.std.proofs.Common.{◌≡◌, ◌∷◌, ◌++◌, [], List, sym, subst}
-use Rattle.cedar_below.specs.InternalName.{name_of, name_loc}
-use Rattle.cedar_fragments.specs.Located.{DefinedNamespace, definition_namespaces, named_namespace}
+use Rattle.cedar_schema.specs.Words.{ConditionalName, DefinedNamespace, HoldsNamespaces, definition_namespaces, name_loc, name_of, named_namespace}
 use Rattle.cedar_schema.proofs.NamespaceLemmas.{namespace_put}
-use Rattle.cedar_schema.specs.ShownNamespaces.{HoldsNamespaces}
-use Rattle.cedar_names.specs.declared.json_schema.conditional_name.ConditionalName.{ConditionalName}
 use Rattle.cedar_schema.proofs.namespaces.with_namespace.Goals as goal
 
 pub returns : goal.returns

@@ -1,21 +1,11 @@
 use Rattle.std.proofs.Common.{List, Err, inl, inr, subst, ⊎_elim}
 use Rattle.std.proofs.lemmas.Result.{err_from_is_err_and, IfErr-weaker, IfOk-weaker}
 use Rattle.std.specs.Result.{result_map_both}
-use Rattle.cedar_declarations.specs.Bag.{Bag}
-use Rattle.cedar_declarations.specs.SchemaError.{fault_of}
+use Rattle.cedar_schema.specs.Words.{Bag, DefinedNamespace, IsBuiltFrom, Located, LocatedName, NamesAllOfADefinition, Shows, conditional_bag, fault_of, parts_schema, positional_reference, raw_bag}
 use Rattle.cedar_fragments.proofs.NamedOfDefinition.{none_named}
 use Rattle.cedar_fragments.proofs.SoundFragments.{fragments_have_no_fault}
-use Rattle.cedar_fragments.specs.FragmentDeclarations.{conditional_bag}
-use Rattle.cedar_fragments.specs.FragmentFault.{NamesAllOfADefinition}
-use Rattle.cedar_fragments.specs.Located.{DefinedNamespace, LocatedName}
 use Rattle.cedar_declaration_laws.proofs.BuiltFrom.{built_from}
-use Rattle.cedar_declaration_laws.specs.EndToEnd.{IsBuiltFrom}
-use Rattle.cedar_schema.specs.Located.{Shows}
-use Rattle.cedar_schema.specs.declared.collecting.Located.{Located}
-use Rattle.cedar_names.specs.ConditionalExpr.{positional_reference}
-use Rattle.cedar_names.specs.Declaration.{raw_bag}
 use Rattle.cedar_schema.proofs.Mapped.{IfErr-unmapped}
-use Rattle.cedar_schema.specs.SchemaParts.{parts_schema}
 use Rattle.cedar_schema.proofs.raw.build_raw.Goals as goal
 
 pub returns-in_err-fragments-clause-built : goal.returns-in_err-fragments-clause-built

@@ -3,18 +3,11 @@ use Rattle.std.proofs.lemmas.List.{nil_from_length}
 use Rattle.std.proofs.lemmas.List.Elements.{Contains-append_right}
 use Rattle.std.proofs.lemmas.Result.{err_from_is_err_and}
 use Rattle.std.specs.List.{flat_map}
-use Rattle.cedar_declarations.specs.Fault.{out_of_memory}
-use Rattle.cedar_declarations.specs.SchemaError.{fault_of}
+use Rattle.cedar_schema.specs.Words.{ConditionalName, IsDefinitionFault, NamesAllOfADefinition, conditional_fragment, fault_of, fragment_common_names, named_namespaces, out_of_memory, raw_bag, raw_fragment}
 use Rattle.cedar_fragments.proofs.FragmentLemmas.{flat_map-included, flat_map-same, refusal_included}
 use Rattle.cedar_fragments.proofs.ListedSoFar.{ListedSoFar, ListedSoFar-none, ListedSoFar-more, listed_same}
 use Rattle.cedar_fragments.proofs.NamedOfDefinition.{named_among}
 use Rattle.cedar_fragments.proofs.OneMore.{flat_one_more}
-use Rattle.cedar_fragments.specs.DefinitionFault.{IsDefinitionFault}
-use Rattle.cedar_fragments.specs.FragmentDeclarations.{conditional_fragment}
-use Rattle.cedar_fragments.specs.FragmentFault.{NamesAllOfADefinition}
-use Rattle.cedar_fragments.specs.Located.{fragment_common_names, named_namespaces}
-use Rattle.cedar_names.specs.Declaration.{raw_bag, raw_fragment}
-use Rattle.cedar_names.specs.declared.json_schema.conditional_name.ConditionalName.{ConditionalName}
 use Rattle.cedar_schema.proofs.raw.conditional_fragments.Goals as goal
 
 -- the next item is among all

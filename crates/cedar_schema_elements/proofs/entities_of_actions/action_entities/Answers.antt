@@ -1,10 +1,8 @@
 use Rattle.std.proofs.Common.{refl, sym, ◌∙◌}
 use Rattle.std.proofs.lemmas.Bool.{false≢true}
-use Rattle.cedar_below.specs.EntityUID.{uid_of}
+use Rattle.cedar_schema_elements.specs.Words.{IsUpper, Lists, plain_action_entity, uid_of}
 use Rattle.cedar_schema_elements.proofs.EntityLemmas.{EntitiesSoFar, UppersLeft, entities_all, entities_none, entities_passed, entities_put, left_all, left_here, left_rest, same_entity}
 use Rattle.cedar_schema_elements.proofs.KeyLemmas.{cmp, uids_once}
-use Rattle.cedar_schema_elements.specs.ActionEntities.{Lists, plain_action_entity}
-use Rattle.cedar_schema_elements.specs.Uppers.{IsUpper}
 use Rattle.cedar_schema_elements.proofs.entities_of_actions.action_entities.Goals as goal
 use Rattle.cedar_schema_elements.proofs.entities_of_actions.action_entities.Goals.{In_ok-insert}
 

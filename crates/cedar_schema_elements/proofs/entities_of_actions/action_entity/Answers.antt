@@ -1,14 +1,10 @@
 use Rattle.std.proofs.Common.{◌↔◌, map, ap, sym, ◌∙◌, Contains}
 use Rattle.std.specs.BTreeSet.{BTreeSet}
 use Rattle.cedar_below.proofs.Uids.{entity_uid_ord-Equal}
-use Rattle.cedar_below.specs.EntityUID.{uid_of}
-use Rattle.cedar_below.specs.PlainUid.{PlainUid}
-use Rattle.cedar_below.specs.declared.entity_uid.EntityUID.{EntityUID}
+use Rattle.cedar_schema_elements.specs.Words.{EntityUID, IsUpper, PlainUid, named_values, uid_of, upper_set}
 use Rattle.cedar_schema_elements.proofs.EntityLemmas.{no_values}
 use Rattle.cedar_schema_elements.proofs.KeyLemmas.{cmp}
 use Rattle.cedar_schema_elements.proofs.UpperLemmas.{none_above, others_stay, some_above}
-use Rattle.cedar_schema_elements.specs.ActionEntities.{named_values}
-use Rattle.cedar_schema_elements.specs.Uppers.{IsUpper, upper_set}
 use Rattle.cedar_schema_elements.proofs.entities_of_actions.action_entity.Goals as goal
 use Rattle.cedar_schema_elements.proofs.entities_of_actions.action_entity.Goals.{in-Some, in-None}
 

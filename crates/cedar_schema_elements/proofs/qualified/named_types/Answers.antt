@@ -1,15 +1,10 @@
 use Rattle.std.proofs.Common.{Contains, ap, map, subst, sym}
 use Rattle.std.proofs.lemmas.Result.{err_from_is_err_and}
 use Rattle.cedar_schema_elements.proofs.NamedTypes.{all_named, all_resolved, named_here, named_more}
-use Rattle.cedar_below.specs.EntityType.{type_name}
-use Rattle.cedar_below.specs.InternalName.{name_of}
-use Rattle.cedar_below.specs.PlainName.{IsReserved}
+use Rattle.cedar_schema_elements.specs.Words.{IsReserved, ResolvesTo, conditional_reference, held_names, name_of, type_name}
 use Rattle.cedar_declarations.proofs.OccurrenceLemmas.{Contains-image}
-use Rattle.cedar_declarations.specs.Names.{ResolvesTo}
 use Rattle.cedar_fragments.proofs.QualifiedLemmas.{refused_one}
 use Rattle.cedar_fragments.proofs.UnresolvableLemmas.{refused_unresolvable}
-use Rattle.cedar_fragments.specs.HeldNames.{held_names}
-use Rattle.cedar_names.specs.ConditionalName.{conditional_reference}
 use Rattle.cedar_schema_elements.proofs.qualified.named_types.Goals as goal
 
 -- a reference that names nothing is the fault

@@ -1,7 +1,6 @@
 use Rattle.std.proofs.Common.{map}
 use Rattle.cedar_schema_elements.proofs.NamedTypes.{NamedSoFar}
-use Rattle.cedar_below.specs.EntityType.{type_name}
-use Rattle.cedar_fragments.specs.HeldNames.{held_names}
+use Rattle.cedar_schema_elements.specs.Words.{held_names, type_name}
 use Rattle.cedar_schema_elements.proofs.qualified.named_types.Given as goal
 
 abbrev pub invariant-loop-reference : goal.invariant-loop-reference

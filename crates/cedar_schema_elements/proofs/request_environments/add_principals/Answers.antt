@@ -1,12 +1,6 @@
 use Rattle.std.proofs.Common.{◌++◌, List, map, ap, ◌∙◌}
-use Rattle.cedar_below.specs.EntityType.{type_name}
-use Rattle.cedar_below.specs.EntityUID.{uid_of}
-use Rattle.cedar_below.specs.PlainName.{PlainName}
-use Rattle.cedar_declarations.specs.Environments.{Environment}
+use Rattle.cedar_schema_elements.specs.Words.{Environment, PlainName, owned_environment, shared_name, ty_of, type_name, uid_of, with_principals, with_resources}
 use Rattle.cedar_schema_elements.proofs.GivenLemmas.{rest_more, rest_none}
-use Rattle.cedar_schema_elements.specs.RequestEnvironments.{with_principals, with_resources}
-use Rattle.cedar_schema_elements.specs.RequestEnv.{owned_environment, shared_name}
-use Rattle.cedar_types.specs.Meaning.{ty_of}
 use Rattle.cedar_schema_elements.proofs.request_environments.add_principals.Goals as goal
 
 pub loop-principal-init : goal.loop-principal-init

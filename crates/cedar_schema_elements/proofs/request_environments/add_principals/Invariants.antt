@@ -1,11 +1,5 @@
 use Rattle.std.proofs.Common.{◌≡◌, ◌++◌, List, map}
-use Rattle.cedar_below.specs.EntityType.{type_name}
-use Rattle.cedar_below.specs.EntityUID.{uid_of}
-use Rattle.cedar_below.specs.PlainName.{PlainName}
-use Rattle.cedar_declarations.specs.Environments.{Environment}
-use Rattle.cedar_schema_elements.specs.RequestEnvironments.{with_principals}
-use Rattle.cedar_schema_elements.specs.RequestEnv.{owned_environment, shared_name}
-use Rattle.cedar_types.specs.Meaning.{ty_of}
+use Rattle.cedar_schema_elements.specs.Words.{Environment, PlainName, owned_environment, shared_name, ty_of, type_name, uid_of, with_principals}
 use Rattle.cedar_schema_elements.proofs.request_environments.add_principals.Given as goal
 
 abbrev pub invariant-loop-principal : goal.invariant-loop-principal

@@ -1,10 +1,7 @@
 use Rattle.std.proofs.Common.{map, sym}
 use Rattle.std.proofs.lemmas.List.{append-nil}
-use Rattle.cedar_below.specs.EntityType.{type_name}
-use Rattle.cedar_below.specs.EntityUID.{uid_of}
+use Rattle.cedar_schema_elements.specs.Words.{owned_environment, shared_name, ty_of, type_name, uid_of}
 use Rattle.cedar_schema_elements.proofs.EnvironmentLemmas.{environment, one_more_shown, resources_more}
-use Rattle.cedar_schema_elements.specs.RequestEnv.{owned_environment, shared_name}
-use Rattle.cedar_types.specs.Meaning.{ty_of}
 use Rattle.cedar_schema_elements.proofs.request_environments.add_resources.Goals as goal
 
 pub loop-resource-init : goal.loop-resource-init

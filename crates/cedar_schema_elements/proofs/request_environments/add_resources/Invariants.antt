@@ -1,8 +1,5 @@
 use Rattle.std.proofs.Common.{◌≡◌, ◌++◌, map, take}
-use Rattle.cedar_below.specs.EntityUID.{uid_of}
-use Rattle.cedar_schema_elements.specs.RequestEnvironments.{with_resources}
-use Rattle.cedar_schema_elements.specs.RequestEnv.{owned_environment, shared_name}
-use Rattle.cedar_types.specs.Meaning.{ty_of}
+use Rattle.cedar_schema_elements.specs.Words.{owned_environment, shared_name, ty_of, uid_of, with_resources}
 use Rattle.cedar_schema_elements.proofs.request_environments.add_resources.Given as goal
 
 abbrev pub invariant-loop-resource : goal.invariant-loop-resource

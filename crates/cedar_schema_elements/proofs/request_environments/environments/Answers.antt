@@ -1,16 +1,8 @@
 use Rattle.std.proofs.Common.{◌≡◌, ◌++◌, List, [], map, ap, sym, subst, ◌∙◌}
-use Rattle.cedar_schema_elements.specs.ActionKind.{kind_principals, kind_resources}
-use Rattle.cedar_schema_elements.specs.RequestEnvironments.{with_principals}
-use Rattle.cedar_schema_elements.specs.ValidatorActionId.{action_of, plain_action_entry}
-use Rattle.cedar_below.specs.EntityType.{type_name}
-use Rattle.cedar_below.specs.EntityUID.{uid_of}
-use Rattle.cedar_declarations.specs.Environments.{Environment}
-use Rattle.cedar_below.specs.Lists.{Twice}
+use Rattle.cedar_schema_elements.specs.Words.{Environment, Twice, action_of, kind_principals, kind_resources, owned_environment, plain_action_entry, shared_name, ty_of, type_name, uid_of, with_principals}
 use Rattle.cedar_schema_elements.proofs.EnvironmentLemmas.{are_environments, environments_under, of_action, pairs_once, with_context, without_context}
 use Rattle.cedar_schema_elements.proofs.GivenLemmas.{given_all, given_more, given_none, given_nothing, given_once}
 use Rattle.cedar_schema_elements.proofs.KeyLemmas.{uids_once, under}
-use Rattle.cedar_schema_elements.specs.RequestEnv.{owned_environment, shared_name}
-use Rattle.cedar_types.specs.Meaning.{ty_of}
 use Rattle.cedar_schema_elements.proofs.request_environments.environments.Goals as goal
 
 -- at first no environment is given, and all actions are left

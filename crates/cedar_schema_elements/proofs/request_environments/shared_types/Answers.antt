@@ -1,7 +1,6 @@
 use Rattle.std.proofs.Common.{◌++◌, map, ap, ◌∙◌}
-use Rattle.cedar_below.specs.EntityType.{type_name}
+use Rattle.cedar_schema_elements.specs.Words.{shared_name, type_name}
 use Rattle.cedar_schema_elements.proofs.EnvironmentLemmas.{shared_all, shared_more}
-use Rattle.cedar_schema_elements.specs.RequestEnv.{shared_name}
 use Rattle.cedar_schema_elements.proofs.request_environments.shared_types.Goals as goal
 
 pub loop-ty-init : goal.loop-ty-init

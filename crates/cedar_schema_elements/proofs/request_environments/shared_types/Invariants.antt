@@ -1,6 +1,5 @@
 use Rattle.std.proofs.Common.{◌≡◌, ◌++◌, map}
-use Rattle.cedar_below.specs.EntityType.{type_name}
-use Rattle.cedar_schema_elements.specs.RequestEnv.{shared_name}
+use Rattle.cedar_schema_elements.specs.Words.{shared_name, type_name}
 use Rattle.cedar_schema_elements.proofs.request_environments.shared_types.Given as goal
 
 abbrev pub invariant-loop-ty : goal.invariant-loop-ty

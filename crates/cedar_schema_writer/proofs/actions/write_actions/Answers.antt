@@ -1,26 +1,11 @@
 use Rattle.std.proofs.Common.{◌≡◌, ◌↔◌, Bool, List, ap, map, refl, string_bytes, sym, ◌∙◌, Contains}
 use Rattle.std.proofs.lemmas.Bool.{false≢true}
-use Rattle.cedar_schema_elements.specs.ValidatorActionId.{plain_action_entry}
-use Rattle.cedar_below.specs.EntityUID.{uid_of}
-use Rattle.cedar_below.specs.PlainName.{PlainName, action_word}
-use Rattle.cedar_below.specs.PlainUid.{PlainUid}
-use Rattle.cedar_below.specs.Text.{Text}
-use Rattle.cedar_declarations.specs.PlainSchema.{SchemaAction}
-use Rattle.cedar_declarations.specs.ValidSchema.{ListsDescendantAction}
-use Rattle.cedar_declarations.specs.ConvertedBack.{IsActionDeclaration, IsPathOf, NamesNoOtherAction, full_uid}
-use Rattle.cedar_names.specs.ActionBody.{action_body}
-use Rattle.cedar_names.specs.Declaration.{action}
-use Rattle.cedar_names.specs.RawExpr.{raw_reference}
-use Rattle.cedar_names.specs.Reference.{name_within}
-use Rattle.cedar_names.specs.declared.json_schema.raw_name.RawName.{RawName}
+use Rattle.cedar_schema_writer.specs.Words.{IsActionDeclaration, IsPathOf, IsSoundAction, IsSoundActionEntry, ListsDescendantAction, NamesNoOtherAction, PlainName, PlainUid, RawName, SchemaAction, Text, action, action_body, action_declared, action_word, definitions_bag, full_uid, known_names, known_schema, name_within, plain_action_entry, plain_namespace, raw_reference, uid_of, written_uid}
 use Rattle.cedar_schema_elements.proofs.KeyLemmas.{names_of_keys, uids_once}
 use Rattle.cedar_schema_writer.proofs.KindLemmas.{images, images-same}
 use Rattle.cedar_schema_writer.proofs.NameLemmas.{in_each_namespace}
 use Rattle.cedar_schema_writer.proofs.Put.{put_here, put_more, put_none, put_other, put_sound}
 use Rattle.cedar_schema_writer.proofs.Refusals.{refusal_passed}
-use Rattle.cedar_schema_writer.specs.Definitions.{action_declared, definitions_bag}
-use Rattle.cedar_schema_writer.specs.Parts.{known_names, known_schema, plain_namespace, written_uid}
-use Rattle.cedar_schema_writer.specs.Sound.{IsSoundAction, IsSoundActionEntry}
 use Rattle.cedar_schema_writer.proofs.actions.write_actions.Goals as goal
 use Rattle.cedar_schema_writer.proofs.actions.write_actions.Goals.{In_ok-parents, In-Some}
 

@@ -8,17 +8,10 @@ use Rattle.std.specs.declared.string.String.{String}
 use Rattle.cedar_below.proofs.Texts.{text_cmp-Equal}
 use Rattle.cedar_below.specs.contracts.name.NameOrd.TheImpl as name_ord
 use Rattle.cedar_declarations.proofs.OccurrenceLemmas.{Contains-image}
-use Rattle.cedar_names.specs.Declaration.{Declaration, common_declarations, entity_declarations}
-use Rattle.cedar_names.specs.RawExpr.{raw_reference}
-use Rattle.cedar_names.specs.declared.json_schema.fragment.NamespaceDefinition.{NamespaceDefinition}
-use Rattle.cedar_names.specs.declared.json_schema.raw_name.RawName.{RawName}
+use Rattle.cedar_schema_writer.specs.Words.{ActionType, AppliesIfDefined, Declaration, IsProper, NamespaceDefinition, RawName, action_body, action_declared, common_declarations, entity_declarations, plain_namespace, raw_reference}
 use Rattle.cedar_schema_writer.proofs.Answered.{on_to}
 use Rattle.cedar_schema_writer.proofs.DefinitionLemmas.{absent_key, end-some, inserted-some, one_more_end, put_again, shown_inserted, tied, was_declared}
-use Rattle.cedar_schema_writer.specs.Definitions.{AppliesIfDefined, IsProper, action_declared}
-use Rattle.cedar_schema_writer.specs.Parts.{plain_namespace}
 use Rattle.std.specs.String.{string_cmp}
-use Rattle.cedar_names.specs.ActionBody.{action_body}
-use Rattle.cedar_names.specs.declared.json_schema.action_type.ActionType.{ActionType}
 use Rattle.cedar_schema_writer.proofs.definitions.put_action.Goals as goal
 
 -- the action is new in its namespace, so just one more is declared

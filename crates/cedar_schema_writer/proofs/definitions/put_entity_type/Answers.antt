@@ -7,20 +7,11 @@ use Rattle.std.specs.Option.{option_cmp}
 use Rattle.cedar_below.proofs.Texts.{text_cmp-Equal}
 use Rattle.cedar_below.specs.contracts.name.NameOrd.TheImpl as name_ord
 use Rattle.cedar_declarations.proofs.OccurrenceLemmas.{Contains-image}
-use Rattle.cedar_names.specs.Declaration.{Declaration, common_declarations, action_declarations}
-use Rattle.cedar_names.specs.RawExpr.{raw_reference}
-use Rattle.cedar_names.specs.declared.json_schema.fragment.NamespaceDefinition.{NamespaceDefinition}
-use Rattle.cedar_names.specs.declared.json_schema.raw_name.RawName.{RawName}
+use Rattle.cedar_schema_writer.specs.Words.{Declaration, EntityType, IsProper, NamespaceDefinition, RawName, UnreservedId, action_declarations, common_declarations, plain_namespace, raw_entity_body, raw_reference, type_declared, unreserved_id_text}
 use Rattle.cedar_schema_writer.proofs.Answered.{on_to}
 use Rattle.cedar_schema_writer.proofs.DefinitionLemmas.{absent_key, inserted-some, middle-some, one_more, put_again, shown_inserted, tied, was_declared}
-use Rattle.cedar_schema_writer.specs.Definitions.{IsProper, type_declared}
-use Rattle.cedar_schema_writer.specs.Parts.{plain_namespace}
 use Rattle.cedar_below.proofs.Ids.{unreserved_id_ord-text_cmp}
-use Rattle.cedar_below.specs.UnreservedId.{unreserved_id_text}
 use Rattle.cedar_below.specs.contracts.unreserved_id.UnreservedIdOrd.TheImpl as id_ord
-use Rattle.cedar_below.specs.declared.unreserved_id.UnreservedId.{UnreservedId}
-use Rattle.cedar_names.specs.EntityBody.{raw_entity_body}
-use Rattle.cedar_names.specs.declared.json_schema.entity_type.EntityType.{EntityType}
 use Rattle.cedar_schema_writer.proofs.definitions.put_entity_type.Goals as goal
 
 -- the entity type is new in its namespace, so just one more is declared

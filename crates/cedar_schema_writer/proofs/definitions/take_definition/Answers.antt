@@ -3,13 +3,8 @@ use Rattle.std.specs.BTreeMap.{is_at}
 use Rattle.std.proofs.lemmas.List.Elements.{All-nil}
 use Rattle.std.specs.Option.{option_cmp}
 use Rattle.cedar_below.specs.contracts.name.NameOrd.TheImpl as name_ord
-use Rattle.cedar_below.specs.declared.name.Name.{Name}
-use Rattle.cedar_names.specs.Declaration.{raw_declarations}
-use Rattle.cedar_names.specs.declared.json_schema.fragment.NamespaceDefinition.{NamespaceDefinition}
-use Rattle.cedar_names.specs.declared.json_schema.raw_name.RawName.{RawName}
+use Rattle.cedar_schema_writer.specs.Words.{AppliesIfDefined, IsProper, Name, NamespaceDefinition, RawName, plain_namespace, raw_declarations}
 use Rattle.cedar_schema_writer.proofs.DefinitionLemmas.{given_removed, namespace_tie, value_found, values_left}
-use Rattle.cedar_schema_writer.specs.Definitions.{AppliesIfDefined, IsProper}
-use Rattle.cedar_schema_writer.specs.Parts.{plain_namespace}
 use Rattle.cedar_schema_writer.proofs.definitions.take_definition.Goals as goal
 
 -- the definition of the namespace is taken from the others

@@ -1,9 +1,6 @@
 use Rattle.std.proofs.Common.{ap, map, Contains}
-use Rattle.cedar_schema_elements.specs.EntityTypeKind.{plain_kind}
-use Rattle.cedar_schema_elements.specs.ValidatorEntityType.{entity_type_of}
-use Rattle.cedar_names.specs.RawName.{raw_name}
+use Rattle.cedar_schema_writer.specs.Words.{entity_type_of, known_names, plain_kind, plain_namespace, raw_name}
 use Rattle.cedar_schema_writer.proofs.Refusals.{refusal_passed, refusal_weaker}
-use Rattle.cedar_schema_writer.specs.Parts.{known_names, plain_namespace}
 use Rattle.cedar_schema_writer.proofs.KindLemmas.{enumerated_alone, shows_none, standard-parts, written_names}
 use Rattle.cedar_schema_writer.proofs.entity_types.write_entity_type.Goals as goal
 

@@ -1,24 +1,11 @@
 use Rattle.std.proofs.Common.{◌≡◌, ◌↔◌, List, ap, map, refl, sym, ◌∙◌, Contains}
-use Rattle.cedar_below.specs.EntityType.{type_name}
-use Rattle.cedar_below.specs.PlainName.{PlainName}
-use Rattle.cedar_below.specs.Text.{Text}
-use Rattle.cedar_below.specs.UnreservedId.{unreserved_id_text}
-use Rattle.cedar_declarations.specs.PlainSchema.{SchemaEntityType}
-use Rattle.cedar_declarations.specs.ValidSchema.{ListsDescendant}
-use Rattle.cedar_declarations.specs.ConvertedBack.{IsPathOf, IsTypeDeclaration, NamesNoOther}
-use Rattle.cedar_schema_elements.specs.ValidatorEntityType.{plain_entry}
-use Rattle.cedar_names.specs.EntityBody.{raw_entity_body}
-use Rattle.cedar_names.specs.RawName.{raw_name}
-use Rattle.cedar_names.specs.Reference.{name_within}
+use Rattle.cedar_schema_writer.specs.Words.{IsPathOf, IsSoundEntityType, IsSoundKind, IsTypeDeclaration, ListsDescendant, NamesNoOther, PlainName, SchemaEntityType, Text, definitions_bag, known_names, known_schema, name_within, plain_entry, plain_namespace, raw_entity_body, raw_name, type_declared, type_name, unreserved_id_text}
 use Rattle.cedar_schema_elements.proofs.KeyLemmas.{names_of_keys, names_once}
 use Rattle.cedar_schema_writer.proofs.KindLemmas.{kind-same, sound_kind-same}
 use Rattle.cedar_schema_writer.proofs.NameLemmas.{in_each_namespace}
 use Rattle.cedar_schema_writer.proofs.Put.{put_here, put_more, put_none, put_other}
 use Rattle.cedar_schema_writer.proofs.Refusals.{refusal_passed}
 use Rattle.cedar_schema_writer.proofs.Written.{none_there}
-use Rattle.cedar_schema_writer.specs.Definitions.{definitions_bag, type_declared}
-use Rattle.cedar_schema_writer.specs.Parts.{known_names, known_schema, plain_namespace}
-use Rattle.cedar_schema_writer.specs.Sound.{IsSoundEntityType, IsSoundKind}
 use Rattle.cedar_schema_writer.proofs.entity_types.write_entity_types.Goals as goal
 use Rattle.cedar_schema_writer.proofs.entity_types.write_entity_types.Goals.{In_ok-parents, In-Some}
 

@@ -1,12 +1,6 @@
 use Rattle.std.proofs.Common.{map}
-use Rattle.cedar_below.specs.PlainName.{PlainName}
-use Rattle.cedar_declarations.specs.PlainSchema.{SchemaEntityType}
-use Rattle.cedar_declarations.specs.ConvertedBack.{IsTypeDeclaration}
-use Rattle.cedar_schema_elements.specs.ValidatorEntityType.{plain_entry}
+use Rattle.cedar_schema_writer.specs.Words.{AreProper, IsSoundEntityType, IsTypeDeclaration, PlainName, SchemaEntityType, definitions_bag, known_schema, plain_entry}
 use Rattle.cedar_schema_writer.proofs.Put.{PutSoFar}
-use Rattle.cedar_schema_writer.specs.Definitions.{AreProper, definitions_bag}
-use Rattle.cedar_schema_writer.specs.Parts.{known_schema}
-use Rattle.cedar_schema_writer.specs.Sound.{IsSoundEntityType}
 use Rattle.cedar_schema_writer.proofs.entity_types.write_entity_types.Given as goal
 
 abbrev pub invariant-loop-name : goal.invariant-loop-name

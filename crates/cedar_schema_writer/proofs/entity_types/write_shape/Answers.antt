@@ -1,7 +1,5 @@
 use Rattle.std.proofs.Common.{Some, ap, sym, ◌∙◌}
-use Rattle.cedar_declarations.specs.ConvertedBack.{type_written}
-use Rattle.cedar_type_rules.specs.Ty.{record_of}
-use Rattle.cedar_schema_writer.specs.Parts.{plain_namespace}
+use Rattle.cedar_schema_writer.specs.Words.{plain_namespace, record_of, type_written}
 use Rattle.cedar_schema_writer.proofs.entity_types.write_shape.Goals as goal
 
 pub returns-in_ok-write_record-in-ClosedAttributes-clause-written : goal.returns-in_ok-write_record-in-ClosedAttributes-clause-written

@@ -1,9 +1,6 @@
 use Rattle.std.proofs.Common.{inl, refl}
-use Rattle.cedar_declarations.specs.EntityTypeKind.{kind_fields, kind_openness}
-use Rattle.cedar_schema_elements.specs.ValidatorEntityType.{entity_type_of}
-use Rattle.cedar_type_rules.specs.Ty.{record_of}
+use Rattle.cedar_schema_writer.specs.Words.{entity_type_of, kind_fields, kind_openness, plain_namespace, record_of}
 use Rattle.cedar_schema_writer.proofs.Refusals.{refusal_passed}
-use Rattle.cedar_schema_writer.specs.Parts.{plain_namespace}
 use Rattle.cedar_schema_writer.proofs.KindLemmas.{written_names}
 use Rattle.cedar_schema_writer.proofs.entity_types.write_standard.Goals as goal
 

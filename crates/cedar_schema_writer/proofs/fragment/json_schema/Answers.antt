@@ -1,18 +1,9 @@
 use Rattle.std.proofs.Common.{Contains, ap, refl}
 use Rattle.std.proofs.lemmas.List.Elements.{All-nil}
-use Rattle.cedar_below.specs.EntityType.{type_name}
-use Rattle.cedar_below.specs.EntityUID.{uid_of}
-use Rattle.cedar_declarations.specs.PlainSchema.{SchemaAction, SchemaEntityType}
+use Rattle.cedar_schema_writer.specs.Words.{IsProper, Known, SchemaAction, SchemaEntityType, ValidatorActionId, ValidatorEntityType, action_of, definitions_bag, descendant_names, known_schema, plain_action_entry, plain_entry, type_name, uid_of}
 use Rattle.cedar_schema_elements.proofs.UpperLemmas.{node_plain}
-use Rattle.cedar_schema_elements.specs.ValidatorActionId.{action_of, plain_action_entry}
-use Rattle.cedar_schema_elements.specs.ValidatorEntityType.{descendant_names, plain_entry}
-use Rattle.cedar_schema_elements.specs.declared.action_id.ValidatorActionId.{ValidatorActionId}
-use Rattle.cedar_schema_elements.specs.declared.entity_type.ValidatorEntityType.{ValidatorEntityType}
 use Rattle.cedar_schema_writer.proofs.Refusals.{refusal_passed}
 use Rattle.cedar_schema_writer.proofs.Whole.{action_writable, no_action, parts_writable, parts_written, type_writable}
-use Rattle.cedar_schema_writer.specs.Definitions.{IsProper, definitions_bag}
-use Rattle.cedar_schema_writer.specs.Parts.{known_schema}
-use Rattle.cedar_schema_writer.specs.declared.known.Known.{Known}
 use Rattle.cedar_schema_writer.proofs.fragment.json_schema.Goals as goal
 use Rattle.cedar_schema_writer.proofs.fragment.json_schema.Goals.{In_ok-action_types}
 

@@ -3,14 +3,9 @@ use Rattle.std.proofs.lemmas.List.{map-append}
 use Rattle.std.proofs.lemmas.Map.Iter.{iter_end}
 use Rattle.std.specs.Map.{keys_of}
 use Rattle.std.specs.Map.Iter.{deref}
-use Rattle.cedar_schema_elements.specs.ValidatorActionId.{plain_action_entry}
-use Rattle.cedar_schema_elements.specs.declared.action_id.ValidatorActionId.{ValidatorActionId}
+use Rattle.cedar_schema_writer.specs.Words.{EntityUID, PlainUid, SchemaAction, ValidatorActionId, plain_action_entry, type_name}
 use Rattle.cedar_below.proofs.Names.{entity_type_eq-same}
-use Rattle.cedar_below.specs.EntityType.{type_name}
 use Rattle.cedar_below.specs.contracts.entity_type.EntityTypeEq.TheImpl as entity_type_equal
-use Rattle.cedar_below.specs.PlainUid.{PlainUid}
-use Rattle.cedar_below.specs.declared.entity_uid.EntityUID.{EntityUID}
-use Rattle.cedar_declarations.specs.PlainSchema.{SchemaAction}
 use Rattle.cedar_schema_elements.proofs.SetLemmas.{AnswersAlike-insert, SameItems-types}
 use Rattle.cedar_schema_writer.proofs.known.action_types.Goals as goal
 

@@ -1,9 +1,5 @@
 use Rattle.std.proofs.Common.{◌≡◌, ◌++◌, ◌-◌, length, List, [], ◌∷◌, sym, subst, ◌∙◌, map, take}
-use Rattle.cedar_below.specs.Id.{id_text}
-use Rattle.cedar_below.specs.InternalName.{name_of}
-use Rattle.cedar_below.specs.Name.{plain_name}
-use Rattle.cedar_below.specs.PlainName.{PlainName, IsReserved}
-use Rattle.cedar_below.specs.Text.{Text}
+use Rattle.cedar_schema_writer.specs.Words.{IsReserved, PlainName, Text, id_text, name_of, plain_name}
 use Rattle.cedar_schema_writer.proofs.NameLemmas.{found_path, front_and_last, path-unreserved}
 use Rattle.cedar_schema_writer.proofs.names.namespace_of.Goals as goal
 

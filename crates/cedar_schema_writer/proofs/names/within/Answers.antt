@@ -1,12 +1,7 @@
 use Rattle.std.proofs.Common.{◌≡◌, ◌++◌, List, [], ◌∷◌, Some, ap, sym, subst, ◌∙◌, map}
 use Rattle.std.proofs.lemmas.Bool.{false≢true}
 use Rattle.std.proofs.lemmas.List.{map-append}
-use Rattle.cedar_below.specs.Id.{id_text}
-use Rattle.cedar_below.specs.InternalName.{name_of}
-use Rattle.cedar_below.specs.Name.{plain_name}
-use Rattle.cedar_below.specs.PlainName.{PlainName, IsReserved}
-use Rattle.cedar_below.specs.Text.{Text}
-use Rattle.cedar_names.specs.Reference.{name_within}
+use Rattle.cedar_schema_writer.specs.Words.{IsReserved, PlainName, Text, id_text, name_of, name_within, plain_name}
 use Rattle.cedar_schema_writer.proofs.NameLemmas.{within-unreserved}
 use Rattle.cedar_schema_writer.proofs.names.within.Goals as goal
 

@@ -1,9 +1,5 @@
-use Rattle.cedar_names.specs.PlainMembers.{plain_members}
-use Rattle.cedar_type_rules.specs.Ty.{fields_from}
-use Rattle.cedar_types.specs.Attributes.{plain_attributes}
-use Rattle.cedar_types.specs.Meaning.{fields_of, ty_of}
+use Rattle.cedar_schema_writer.specs.Words.{fields_from, fields_of, known_names, plain_attributes, plain_members, plain_namespace, ty_of}
 use Rattle.cedar_schema_writer.proofs.TypeLemmas.{AttributesSoFar, fields_size, ty_size}
-use Rattle.cedar_schema_writer.specs.Parts.{known_names, plain_namespace}
 use Rattle.cedar_schema_writer.proofs.types.+written.Given as goal
 
 abbrev pub decreases-to_json_type : goal.decreases-to_json_type

@@ -1,11 +1,7 @@
 use Rattle.std.proofs.Common.{◌≡◌, Some, ap, sym}
-use Rattle.cedar_below.specs.EntityType.{type_name}
-use Rattle.cedar_type_rules.specs.EntityUnion.{only_name}
-use Rattle.cedar_types.specs.EntityKind.{kind_ty}
-use Rattle.cedar_types.specs.EntityLUB.{lub_names}
+use Rattle.cedar_schema_writer.specs.Words.{kind_ty, known_names, lub_names, only_name, plain_namespace, type_name}
 use Rattle.cedar_schema_writer.proofs.Refusals.{refusal_passed}
 use Rattle.cedar_schema_writer.proofs.TypeLemmas.{sound-union}
-use Rattle.cedar_schema_writer.specs.Parts.{known_names, plain_namespace}
 use Rattle.cedar_schema_writer.proofs.types.write_kind.Goals as goal
 
 pub returns-in_err-write_name-in-Some-clause-refusal : goal.returns-in_err-write_name-in-Some-clause-refusal

@@ -1,9 +1,7 @@
 use Rattle.std.proofs.Common.{Some, ap, sym, ◌∙◌}
 use Rattle.std.specs.Option.{option_map}
 use Rattle.cedar_names.proofs.VariantLemmas.{variant-Set}
-use Rattle.cedar_names.specs.Expr.{set_expr}
-use Rattle.cedar_names.specs.RawExpr.{raw_expr, raw_reference}
-use Rattle.cedar_names.specs.declared.json_schema.raw_name.RawName.{RawName}
+use Rattle.cedar_schema_writer.specs.Words.{RawName, raw_expr, raw_reference, set_expr}
 use Rattle.cedar_schema_writer.proofs.types.write_set.Goals as goal
 
 pub returns : goal.returns

@@ -1,23 +1,8 @@
 use Rattle.std.proofs.Common.{◌≡◌, ◌↔◌, List, true, ap, inl, inr, refl, subst, sym}
-use Rattle.cedar_below.specs.Chain.{Chain}
-use Rattle.cedar_below.specs.EntityUID.{uid_of}
-use Rattle.cedar_below.specs.PlainUid.{PlainUid}
-use Rattle.cedar_below.specs.declared.entity.Entity.{Entity}
-use Rattle.cedar_below.specs.declared.entity_type.EntityType.{EntityType}
-use Rattle.cedar_below.specs.declared.entity_uid.EntityUID.{EntityUID}
-use Rattle.cedar_declarations.specs.ClosedSchema.{ClosesAction}
-use Rattle.cedar_declarations.specs.Fault.{Fault, action_cycle, undeclared_action_descendant}
-use Rattle.cedar_declarations.specs.SchemaError.{fault_of}
-use Rattle.cedar_declarations.specs.ValidSchema.{IsSchemaFault, ListsDescendantAction}
-use Rattle.cedar_graph.specs.declared.table_fault.TableFault.{TableFault}
+use Rattle.cedar_validation.specs.Words.{Chain, ClosesAction, Entity, EntityType, EntityUID, Fault, IsListFault, IsRefusal, IsSchemaFault, LeadsTo, ListsDescendantAction, PlainUid, TableFault, ValidatorActionId, ValidatorEntityType, action_cycle, action_graph_fault, action_of, fault_of, plain_action_entry, plain_schema, uid_of, undeclared_action_descendant}
 use Rattle.cedar_graph.specs.declared.table_fault.TableFault.TheVariants as refused
 use Rattle.cedar_schema_elements.specs.ActionKind.{plain_kind}
-use Rattle.cedar_schema_elements.specs.ValidatorActionId.{action_of, plain_action_entry}
-use Rattle.cedar_schema_elements.specs.declared.action_id.ValidatorActionId.{ValidatorActionId}
-use Rattle.cedar_schema_elements.specs.declared.entity_type.ValidatorEntityType.{ValidatorEntityType}
 use Rattle.cedar_validation.proofs.ListedEntries.{closed_plain, leads_alike, lists_plain, none_plain}
-use Rattle.cedar_validation.specs.Listed.{IsListFault, LeadsTo}
-use Rattle.cedar_validation.specs.Parts.{IsRefusal, action_graph_fault, plain_schema}
 use Rattle.cedar_validation.proofs.closing.closed_actions.Goals as goal
 
 module _ (types : List (EntityType × ValidatorEntityType)) (actions : List (EntityUID × ValidatorActionId)) (entities : List Entity) where

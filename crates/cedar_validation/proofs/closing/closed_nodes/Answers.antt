@@ -1,11 +1,9 @@
 use Rattle.std.proofs.Common.{Contains, sym}
 use Rattle.std.proofs.lemmas.Result.{IfErr-weaker, IfOk-weaker, on_ok_weaker}
 use Rattle.cedar_below.proofs.TurnLemmas.{turn_weaker}
-use Rattle.cedar_below.specs.Lists.{HoldsPairwise}
-use Rattle.cedar_graph.specs.Tables.{HasEntry, IsClosedTo, IsTableFault, StepsTo}
+use Rattle.cedar_validation.specs.Words.{HasEntry, HoldsPairwise, IsClosedOf, IsClosedTo, IsListFault, IsTableFault, StepsTo}
 use Rattle.cedar_validation.proofs.Graphs.{Graph, closed_by_name, none_on_cycle, refused_by_name}
 use Rattle.cedar_validation.proofs.Pairwise.{pairwise_back}
-use Rattle.cedar_validation.specs.Listed.{IsClosedOf, IsListFault}
 use Rattle.cedar_validation.proofs.closing.closed_nodes.Given.{Over}
 use Rattle.cedar_validation.proofs.closing.closed_nodes.Goals as goal
 

@@ -1,19 +1,9 @@
 use Rattle.std.proofs.Common.{◌≡◌, false, ap, inl, inr, refl, subst, sym}
 use Rattle.std.proofs.lemmas.Bool.{false≢true}
-use Rattle.cedar_below.specs.EntityType.{type_name}
-use Rattle.cedar_below.specs.declared.entity_type.EntityType.{EntityType}
-use Rattle.cedar_declarations.specs.ClosedSchema.{ClosesType}
-use Rattle.cedar_declarations.specs.Fault.{Fault}
-use Rattle.cedar_declarations.specs.SchemaError.{fault_of}
-use Rattle.cedar_declarations.specs.ValidSchema.{IsSchemaFault}
-use Rattle.cedar_graph.specs.declared.table_fault.TableFault.{TableFault}
+use Rattle.cedar_validation.specs.Words.{ClosesType, EntityType, Fault, IsListFault, IsRefusal, IsSchemaFault, TableFault, descendant_names, fault_of, plain_entry, plain_kind, plain_schema, type_graph_fault, type_name}
 use Rattle.cedar_graph.specs.declared.table_fault.TableFault.TheVariants as refused
-use Rattle.cedar_schema_elements.specs.EntityTypeKind.{plain_kind}
-use Rattle.cedar_schema_elements.specs.ValidatorEntityType.{descendant_names, plain_entry}
 use Rattle.cedar_validation.proofs.ListedEntries.{closed_plain, lists_plain, none_plain}
 use Rattle.cedar_validation.proofs.RequestTypeLemmas.{one_unknown}
-use Rattle.cedar_validation.specs.Listed.{IsListFault}
-use Rattle.cedar_validation.specs.Parts.{IsRefusal, plain_schema, type_graph_fault}
 use Rattle.cedar_validation.proofs.closing.closed_types.Goals as goal
 
 -- why the closure of entity types is refused is why the schema is

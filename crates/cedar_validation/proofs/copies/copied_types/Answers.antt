@@ -1,13 +1,10 @@
 use Rattle.std.proofs.Common.{ap, ◌∙◌}
 use Rattle.std.proofs.lemmas.Result.{IfOk-weaker}
 use Rattle.cedar_below.proofs.Names.{entity_type_ord-Equal}
-use Rattle.cedar_below.specs.EntityType.{type_loc, type_name}
+use Rattle.cedar_validation.specs.Words.{IsTypeCopied, PlainEntityType, attributes_of, entity_type_of, located_at, name_loc, type_loc, type_name}
 use Rattle.cedar_below.specs.contracts.entity_type.EntityTypeOrd.TheImpl as entity_type_ord
 use Rattle.cedar_below.proofs.ShownLemmas.{copy_ties}
 use Rattle.cedar_below.proofs.TurnLemmas.{turn_weaker}
-use Rattle.cedar_schema_elements.specs.ValidatorEntityType.{PlainEntityType, attributes_of, entity_type_of, name_loc}
-use Rattle.cedar_types.specs.Located.{located_at}
-use Rattle.cedar_validation.specs.Copies.{IsTypeCopied}
 use Rattle.cedar_validation.proofs.copies.copied_types.Goals as goal
 
 pub copied_table-requires-clause-ties : goal.copied_table-requires-clause-ties

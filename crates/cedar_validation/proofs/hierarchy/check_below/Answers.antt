@@ -1,16 +1,8 @@
 use Rattle.std.proofs.Common.{◌≡◌, ◌⊎◌, sym, ◌∙◌, None, Some, inl, inr}
 use Rattle.std.proofs.lemmas.Result.{err_from_is_err_and}
-use Rattle.cedar_below.specs.EntityType.{type_name}
+use Rattle.cedar_validation.specs.Words.{EntityType, IsBelowFault, IsKindSound, Parts, StandsAt, ValidatorEntityType, entity_type_of, fault_of, get_by, out_of_memory, type_name}
 use Rattle.cedar_below.specs.contracts.entity_type.EntityTypeOrd.TheImpl as entity_type_ord
-use Rattle.cedar_below.specs.declared.entity_type.EntityType.{EntityType}
-use Rattle.cedar_declarations.specs.Fault.{out_of_memory}
-use Rattle.cedar_declarations.specs.SchemaError.{fault_of}
-use Rattle.cedar_schema_elements.specs.ValidatorEntityType.{entity_type_of}
-use Rattle.cedar_schema_elements.specs.declared.entity_type.ValidatorEntityType.{ValidatorEntityType}
-use Rattle.cedar_table.specs.Entries.{get_by}
 use Rattle.cedar_validation.proofs.Checking.{checking_all, checking_here, checking_more, checking_none}
-use Rattle.cedar_validation.specs.Hierarchy.{IsBelowFault, IsKindSound, StandsAt}
-use Rattle.cedar_validation.specs.declared.parts.Parts.{Parts}
 use Rattle.cedar_validation.proofs.hierarchy.check_below.Goals as goal
 
 -- what stands at the key is of a kind that may stand below

@@ -1,8 +1,5 @@
-use Rattle.cedar_below.specs.declared.entity_type.EntityType.{EntityType}
-use Rattle.cedar_schema_elements.specs.ValidatorEntityType.{entity_type_of}
-use Rattle.cedar_schema_elements.specs.declared.entity_type.ValidatorEntityType.{ValidatorEntityType}
+use Rattle.cedar_validation.specs.Words.{EntityType, IsKindSound, StandsAt, ValidatorEntityType, entity_type_of}
 use Rattle.cedar_validation.proofs.Checking.{Checking}
-use Rattle.cedar_validation.specs.Hierarchy.{IsKindSound, StandsAt}
 use Rattle.cedar_validation.proofs.hierarchy.check_below.Given as goal
 
 abbrev pub invariant-loop-lower : goal.invariant-loop-lower

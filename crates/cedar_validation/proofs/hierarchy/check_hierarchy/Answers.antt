@@ -1,10 +1,8 @@
 use Rattle.std.proofs.Common.{ap, map}
 use Rattle.std.proofs.lemmas.Result.{err_from_is_err_and}
-use Rattle.cedar_below.specs.EntityType.{type_name}
-use Rattle.cedar_declarations.specs.SchemaError.{fault_of}
+use Rattle.cedar_validation.specs.Words.{IsRefusal, fault_of, plain_parts, type_name}
 use Rattle.cedar_validation.proofs.Checking.{checking_all, checking_here, checking_more, checking_none}
 use Rattle.cedar_validation.proofs.HierarchyLemmas.{IsCheckedBelow, Item, below_fault, pair_sound, undeclared_fault}
-use Rattle.cedar_validation.specs.Parts.{IsRefusal, plain_parts}
 use Rattle.cedar_validation.proofs.hierarchy.check_hierarchy.Goals as goal
 
 pub loop-upper-init : goal.loop-upper-init

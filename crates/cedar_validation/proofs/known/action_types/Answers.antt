@@ -1,14 +1,9 @@
 use Rattle.std.proofs.Common.{◌≡◌, List, ap, arith, map, sym, subst, ◌∙◌, Contains}
 use Rattle.std.specs.Map.{keys_of}
-use Rattle.cedar_below.specs.EntityType.{type_name}
-use Rattle.cedar_below.specs.EntityUID.{uid_of}
-use Rattle.cedar_below.specs.PlainName.{PlainName}
-use Rattle.cedar_below.specs.PlainUid.{PlainUid}
-use Rattle.cedar_declarations.specs.ValidSchema.{HasAction}
+use Rattle.cedar_validation.specs.Words.{HasAction, PlainName, PlainUid, plain_parts, type_name, uid_of}
 use Rattle.cedar_validation.proofs.Checking.{checking_all, checking_here, checking_none}
 use Rattle.cedar_validation.proofs.Keyed.{key_of_uid, key_with_uid}
 use Rattle.cedar_validation.proofs.TypeSets.{types_more}
-use Rattle.cedar_validation.specs.Parts.{plain_parts}
 use Rattle.cedar_validation.proofs.known.action_types.Goals as goal
 
 pub loop-uid-init : goal.loop-uid-init

@@ -1,9 +1,7 @@
 use Rattle.std.proofs.Common.{map}
 use Rattle.std.specs.Map.{keys_of}
-use Rattle.cedar_below.specs.EntityType.{type_name}
-use Rattle.cedar_declarations.specs.ValidSchema.{HasAction}
+use Rattle.cedar_validation.specs.Words.{HasAction, plain_parts, type_name}
 use Rattle.cedar_validation.proofs.TypeSets.{TypesSoFar}
-use Rattle.cedar_validation.specs.Parts.{plain_parts}
 use Rattle.cedar_validation.proofs.known.action_types.Given as goal
 
 abbrev pub invariant-loop-uid : goal.invariant-loop-uid

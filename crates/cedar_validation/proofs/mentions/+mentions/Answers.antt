@@ -1,16 +1,10 @@
 use Rattle.std.proofs.Common.{◌≡◌, Bool, ap, inl, inr, string_bytes, sym, ◌∙◌}
 use Rattle.std.proofs.lemmas.Result.{err_from_is_err_and}
-use Rattle.cedar_below.specs.Name.{plain_name}
-use Rattle.cedar_declarations.specs.SchemaError.{fault_of}
-use Rattle.cedar_type_rules.specs.Ty.{Ty, extension_of, fields_from, record_of}
-use Rattle.cedar_type_rules.specs.declared.open_tag.OpenTag.TheVariants.{ClosedAttributes}
+use Rattle.cedar_validation.specs.Words.{ClosedAttributes, IsUnknownIn, Knows, KnowsExtension, Ty, attribute_of, extension_of, fault_of, fields_from, fields_of, plain_attributes, plain_name, record_of, ty_of}
 use Rattle.cedar_types.proofs.MemberParts.{attribute_of-parts, ty_of-entity, ty_of-extension}
-use Rattle.cedar_types.specs.Attributes.{plain_attributes}
-use Rattle.cedar_types.specs.Meaning.{attribute_of, fields_of, ty_of}
 use Rattle.cedar_validation.proofs.Results.{on_err, on_ok}
 use Rattle.cedar_validation.proofs.MentionLemmas.{extension_fault}
 use Rattle.cedar_validation.proofs.Walk.{walked_all, walked_entity, walked_extension, walked_more}
-use Rattle.cedar_validation.specs.Mentions.{IsUnknownIn, Knows, KnowsExtension}
 use Rattle.cedar_validation.proofs.mentions.+mentions.Goals as goal
 
 pub check_attributes-loop-name-preserved : goal.check_attributes-loop-name-preserved

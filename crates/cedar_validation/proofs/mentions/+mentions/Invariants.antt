@@ -1,8 +1,5 @@
-use Rattle.cedar_type_rules.specs.Ty.{fields_from}
-use Rattle.cedar_types.specs.Attributes.{plain_attributes}
-use Rattle.cedar_types.specs.Meaning.{fields_of, ty_of}
+use Rattle.cedar_validation.specs.Words.{Knows, KnowsExtension, fields_from, fields_of, plain_attributes, ty_of}
 use Rattle.cedar_validation.proofs.Walk.{Walked, fields_size, ty_size}
-use Rattle.cedar_validation.specs.Mentions.{Knows, KnowsExtension}
 use Rattle.cedar_validation.proofs.mentions.+mentions.Given as goal
 
 abbrev pub decreases-check_type : goal.decreases-check_type

@@ -1,10 +1,7 @@
 use Rattle.std.proofs.Common.{◌≡◌, ◌⊎◌, Contains, inl, inr}
 use Rattle.std.proofs.lemmas.Result.{err_from_is_err_and}
-use Rattle.cedar_declarations.specs.Fault.{out_of_memory}
-use Rattle.cedar_declarations.specs.SchemaError.{fault_of}
-use Rattle.cedar_type_rules.specs.Ty.{Ty}
+use Rattle.cedar_validation.specs.Words.{IsKnownThroughout, IsUnknownIn, Ty, fault_of, out_of_memory}
 use Rattle.cedar_validation.proofs.Checking.{checking_all, checking_here, checking_more, checking_none}
-use Rattle.cedar_validation.specs.Mentions.{IsKnownThroughout, IsUnknownIn}
 use Rattle.cedar_validation.proofs.mentions.check_each.Goals as goal
 
 pub loop-name-init : goal.loop-name-init

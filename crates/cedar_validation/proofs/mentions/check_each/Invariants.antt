@@ -1,6 +1,5 @@
-use Rattle.cedar_type_rules.specs.Ty.{Ty}
+use Rattle.cedar_validation.specs.Words.{IsKnownThroughout, Ty}
 use Rattle.cedar_validation.proofs.Checking.{Checking}
-use Rattle.cedar_validation.specs.Mentions.{IsKnownThroughout}
 use Rattle.cedar_validation.proofs.mentions.check_each.Given as goal
 
 abbrev pub invariant-loop-name : goal.invariant-loop-name

@@ -1,18 +1,9 @@
 use Rattle.std.proofs.Common.{◌≡◌, ◌⊎◌, subst, sym, inl, inr, ⊎_elim}
 use Rattle.std.proofs.lemmas.Result.{err_from_is_err_and}
 use Rattle.cedar_below.proofs.Lists.{Contains-preimage}
-use Rattle.cedar_below.specs.PlainName.{PlainName}
+use Rattle.cedar_validation.specs.Words.{IsTypeIn, IsTypeOfKind, IsUnknownIn, PlainName, SchemaEntityType, Ty, fault_of, out_of_memory, plain_action_entry, plain_entry, plain_parts}
 use Rattle.cedar_declarations.proofs.OccurrenceLemmas.{Contains-image}
-use Rattle.cedar_declarations.specs.Fault.{out_of_memory}
-use Rattle.cedar_declarations.specs.PlainSchema.{SchemaEntityType}
-use Rattle.cedar_declarations.specs.SchemaError.{fault_of}
-use Rattle.cedar_declarations.specs.ValidSchema.{IsTypeIn, IsTypeOfKind}
-use Rattle.cedar_schema_elements.specs.ValidatorActionId.{plain_action_entry}
-use Rattle.cedar_schema_elements.specs.ValidatorEntityType.{plain_entry}
-use Rattle.cedar_type_rules.specs.Ty.{Ty}
 use Rattle.cedar_validation.proofs.Results.{on_err, on_ok}
-use Rattle.cedar_validation.specs.Mentions.{IsUnknownIn}
-use Rattle.cedar_validation.specs.Parts.{plain_parts}
 use Rattle.cedar_validation.proofs.mentions.check_mentions.Goals as goal
 
 pub returns-clause-sound : goal.returns-clause-sound

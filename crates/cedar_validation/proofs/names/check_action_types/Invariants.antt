@@ -1,6 +1,5 @@
 use Rattle.std.specs.Map.{keys_of}
-use Rattle.cedar_below.specs.EntityUID.{uid_of}
-use Rattle.cedar_below.specs.PlainName.{IsActionType}
+use Rattle.cedar_validation.specs.Words.{IsActionType, uid_of}
 use Rattle.cedar_validation.proofs.Checking.{Checking}
 use Rattle.cedar_validation.proofs.names.check_action_types.Given as goal
 

@@ -1,15 +1,10 @@
 use Rattle.std.proofs.Common.{ap, sym, subst, ◌∙◌, inr}
 use Rattle.std.proofs.lemmas.Bool.{false≢true}
 use Rattle.std.specs.Map.{keys_of}
-use Rattle.cedar_below.specs.EntityUID.{uid_of}
-use Rattle.cedar_below.specs.PlainName.{IsUnqualified, PlainName}
-use Rattle.cedar_below.specs.PlainUid.{PlainUid}
-use Rattle.cedar_declarations.specs.Shadowing.{ShadowsAction}
-use Rattle.cedar_declarations.specs.ValidSchema.{HasAction}
+use Rattle.cedar_validation.specs.Words.{HasAction, IsUnqualified, PlainName, PlainUid, ShadowsAction, plain_parts, uid_of}
 use Rattle.cedar_validation.proofs.Checking.{checking_all, checking_here, checking_more, checking_none}
 use Rattle.cedar_validation.proofs.Keyed.{action_stands, key_of_uid, key_with_uid}
 use Rattle.cedar_validation.proofs.Shadowed.{ShadowsNoAction, no_action_shadows}
-use Rattle.cedar_validation.specs.Parts.{plain_parts}
 use Rattle.cedar_validation.proofs.names.check_shadowed_actions.Goals as goal
 
 pub loop-uid-init : goal.loop-uid-init

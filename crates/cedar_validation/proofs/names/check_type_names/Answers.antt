@@ -1,12 +1,9 @@
 use Rattle.std.proofs.Common.{sym, subst, ◌∙◌, inr}
 use Rattle.std.proofs.lemmas.Bool.{false≢true}
 use Rattle.std.specs.Map.{keys_of}
-use Rattle.cedar_below.specs.EntityType.{type_name}
-use Rattle.cedar_below.specs.PlainName.{IsActionType, PlainName}
-use Rattle.cedar_declarations.specs.ValidSchema.{HasEntityType}
+use Rattle.cedar_validation.specs.Words.{HasEntityType, IsActionType, PlainName, plain_parts, type_name}
 use Rattle.cedar_validation.proofs.Checking.{checking_all, checking_here, checking_more, checking_none}
 use Rattle.cedar_validation.proofs.Keyed.{key_named, named_key}
-use Rattle.cedar_validation.specs.Parts.{plain_parts}
 use Rattle.cedar_validation.proofs.names.check_type_names.Goals as goal
 
 pub loop-name-init : goal.loop-name-init

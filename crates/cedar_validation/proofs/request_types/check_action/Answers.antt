@@ -1,11 +1,8 @@
 use Rattle.std.proofs.Common.{sym, inl, inr}
 use Rattle.std.proofs.lemmas.Result.{err_from_is_err_and}
-use Rattle.cedar_schema_elements.specs.ValidatorActionId.{action_of}
-use Rattle.cedar_declarations.specs.SchemaError.{fault_of}
+use Rattle.cedar_validation.specs.Words.{IsMisplaced, action_of, fault_of, plain_parts}
 use Rattle.cedar_validation.proofs.RequestTypeLemmas.{for_cases, principal_of, resource_of}
 use Rattle.cedar_validation.proofs.Results.{on_ok}
-use Rattle.cedar_validation.specs.Parts.{plain_parts}
-use Rattle.cedar_validation.specs.RequestTypes.{IsMisplaced}
 use Rattle.cedar_validation.proofs.request_types.check_action.Goals as goal
 
 pub returns-in_err-check_declared-clause-fault : goal.returns-in_err-check_declared-clause-fault

@@ -1,17 +1,10 @@
 use Rattle.std.proofs.Common.{subst}
 use Rattle.std.proofs.lemmas.Result.{err_from_is_err_and}
-use Rattle.cedar_schema_elements.specs.ValidatorActionId.{action_of, plain_action_entry}
-use Rattle.cedar_schema_elements.specs.declared.action_id.ValidatorActionId.{ValidatorActionId}
+use Rattle.cedar_validation.specs.Words.{ArePlaced, EntityUID, IsRefusal, PlainUid, SchemaAction, ValidatorActionId, action_of, fault_of, plain_action_entry, plain_parts}
 use Rattle.cedar_below.proofs.Lists.{Contains-preimage}
-use Rattle.cedar_below.specs.declared.entity_uid.EntityUID.{EntityUID}
-use Rattle.cedar_below.specs.PlainUid.{PlainUid}
 use Rattle.cedar_declarations.proofs.OccurrenceLemmas.{Contains-image}
-use Rattle.cedar_declarations.specs.PlainSchema.{SchemaAction}
-use Rattle.cedar_declarations.specs.SchemaError.{fault_of}
 use Rattle.cedar_validation.proofs.Checking.{checking_all, checking_here, checking_more, checking_none}
 use Rattle.cedar_validation.proofs.RequestTypeLemmas.{misplaced_fault}
-use Rattle.cedar_validation.specs.Parts.{IsRefusal, plain_parts}
-use Rattle.cedar_validation.specs.RequestTypes.{ArePlaced}
 use Rattle.cedar_validation.proofs.request_types.check_actions.Goals as goal
 
 abbrev Item : Type 0

@@ -1,8 +1,7 @@
 use Rattle.std.proofs.Common.{ap, inr, sym}
 use Rattle.cedar_below.proofs.Lists.{Contains-preimage}
-use Rattle.cedar_below.specs.EntityUID.{uid_of}
+use Rattle.cedar_validation.specs.Words.{uid_of, undeclared_action_descendant}
 use Rattle.cedar_declarations.proofs.OccurrenceLemmas.{Contains-image}
-use Rattle.cedar_declarations.specs.Fault.{undeclared_action_descendant}
 use Rattle.cedar_validation.proofs.Keyed.{action_stands}
 use Rattle.cedar_validation.proofs.request_types.check_descendants.Goals as goal
 

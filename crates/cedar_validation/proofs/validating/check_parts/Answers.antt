@@ -1,11 +1,8 @@
 use Rattle.std.proofs.Common.{◌≡◌, ◌⊎◌, inl, inr}
 use Rattle.std.proofs.lemmas.Result.{err_from_is_err_and}
-use Rattle.cedar_declarations.specs.Fault.{out_of_memory}
-use Rattle.cedar_declarations.specs.SchemaError.{fault_of}
-use Rattle.cedar_declarations.specs.ValidSchema.{IsSchemaFault}
+use Rattle.cedar_validation.specs.Words.{IsSchemaFault, fault_of, out_of_memory, plain_parts}
 use Rattle.cedar_validation.proofs.Results.{on_err, on_ok}
 use Rattle.cedar_validation.proofs.Valid.{no_fault}
-use Rattle.cedar_validation.specs.Parts.{plain_parts}
 use Rattle.cedar_validation.proofs.validating.check_parts.Goals as goal
 
 pub returns-clause-valid : goal.returns-clause-valid

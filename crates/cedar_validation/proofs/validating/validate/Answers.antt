@@ -1,13 +1,7 @@
 use Rattle.std.proofs.Common.{◌≡◌, ◌⊎◌, List, map, inl, inr}
 use Rattle.std.proofs.lemmas.Result.{err_from_is_err_and}
-use Rattle.cedar_below.specs.Entities.{entities_of}
-use Rattle.cedar_below.specs.declared.entity.Entity.{Entity}
-use Rattle.cedar_declarations.specs.Fault.{out_of_memory}
-use Rattle.cedar_declarations.specs.SchemaError.{fault_of}
-use Rattle.cedar_declarations.specs.ValidSchema.{IsSchemaFault}
-use Rattle.cedar_schema_elements.specs.ValidatorEntityType.{plain_entry}
+use Rattle.cedar_validation.specs.Words.{Entity, IsSchemaFault, entities_of, fault_of, out_of_memory, plain_entry, plain_schema}
 use Rattle.cedar_validation.proofs.Validation.{closes_before, fault_before, valid_before}
-use Rattle.cedar_validation.specs.Parts.{plain_schema}
 use Rattle.cedar_validation.proofs.validating.validate.Goals as goal
 
 pub returns-in_err-closed_types-clause-fault : goal.returns-in_err-closed_types-clause-fault

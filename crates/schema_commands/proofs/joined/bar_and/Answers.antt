@@ -2,8 +2,7 @@ use Rattle.std.proofs.Common.{◌≡◌, ◌∷◌, ◌++◌, [], Bool, List, ap
 use Rattle.std.specs.List.{AllByRecursion}
 use Rattle.std.specs.declared.rc.Rc.{Rc}
 use Rattle.std.specs.declared.string.String.{String}
-use Rattle.cedar_type_rules.specs.Stated.{IsStatedWith}
-use Rattle.cedar_type_rules.specs.Ty.{Fields, Ty, long}
+use Rattle.cedar_type_rules.specs.Words.{Fields, IsStatedWith, Ty, long}
 use Rattle.cedar_types.specs.Meaning.{ty_of, type_step, attribute_step, attributes_step}
 use Rattle.cedar_types.specs.declared.types.Type.{«Type», roll-Type, fold-roll-Type}
 use Rattle.cedar_types.specs.declared.types.Type.TheOpen as layer

@@ -5,8 +5,7 @@ use Rattle.std.specs.declared.rc.Rc.{Rc}
 use Rattle.std.specs.declared.string.String.{String}
 use Rattle.cedar_type_rules.specs.Fields.{IsRecordOf}
 use Rattle.cedar_type_rules.specs.declared.open_tag.OpenTag.TheVariants.{ClosedAttributes}
-use Rattle.cedar_types.specs.Attributes.{plain_required}
-use Rattle.cedar_types.specs.Meaning.{ty_of}
+use Rattle.cedar_types.specs.Words.{plain_required, ty_of}
 use Rattle.cedar_types.specs.declared.types.Type.{«Type»}
 use Rattle.schema_commands.proofs.StatedRecords.{stated_record}
 use Rattle.schema_commands.specs.Samples.{IsStatedAlone}

@@ -1,6 +1,5 @@
 use Rattle.std.proofs.Common.{[], subst, sym}
-use Rattle.cedar_type_rules.specs.Stated.{IsStatedWith}
-use Rattle.cedar_type_rules.specs.Ty.{Ty, set_of}
+use Rattle.cedar_type_rules.specs.Words.{IsStatedWith, Ty, set_of}
 use Rattle.cedar_types.specs.Meaning.{ty_of}
 use Rattle.cedar_types.specs.declared.types.Type.{«Type»}
 use Rattle.schema_commands.proofs.joined.set_of.Goals as goal

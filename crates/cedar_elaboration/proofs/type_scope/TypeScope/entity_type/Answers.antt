@@ -1,11 +1,8 @@
 use Rattle.std.proofs.Common.{[], ◌∷◌, ap, sym, subst, ◌∙◌, inr}
 use Rattle.std.proofs.lemmas.Bool.{false≢true}
 use Rattle.cedar_below.proofs.Names.{internal_name_ord-Equal}
-use Rattle.cedar_below.specs.InternalName.{name_of}
-use Rattle.cedar_below.specs.PlainName.{IsReserved}
+use Rattle.cedar_elaboration.specs.Words.{IsReserved, name_of, reserved_name, union_of}
 use Rattle.cedar_below.specs.contracts.internal_name.InternalNameOrd.TheImpl as order
-use Rattle.cedar_declarations.specs.Fault.{reserved_name}
-use Rattle.cedar_type_rules.specs.Ty.{union_of}
 use Rattle.cedar_elaboration.proofs.Entries.{found-Decides}
 use Rattle.cedar_elaboration.proofs.type_scope.TypeScope.entity_type.Goals as goal
 

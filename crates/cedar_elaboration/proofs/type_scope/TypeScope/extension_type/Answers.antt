@@ -1,10 +1,6 @@
 use Rattle.std.proofs.Common.{map, ap, ◌∙◌, inr, sym}
 use Rattle.std.proofs.lemmas.Bool.{false≢true}
-use Rattle.cedar_below.specs.Id.{id_text}
-use Rattle.cedar_below.specs.InternalName.{name_of}
-use Rattle.cedar_below.specs.UnreservedId.{unreserved_id_text}
-use Rattle.cedar_declarations.specs.Fault.{unknown_extension_type}
-use Rattle.cedar_type_rules.specs.Ty.{extension_of}
+use Rattle.cedar_elaboration.specs.Words.{extension_of, id_text, name_of, unknown_extension_type, unreserved_id_text}
 use Rattle.cedar_elaboration.proofs.ScopeLemmas.{extension_name-same}
 use Rattle.cedar_elaboration.proofs.type_scope.TypeScope.extension_type.Goals as goal
 

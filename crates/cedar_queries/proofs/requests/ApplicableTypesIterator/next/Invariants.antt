@@ -1,9 +1,7 @@
 use Rattle.std.proofs.Common.{◌≡◌, ◌++◌, [], length, map}
 use Rattle.std.specs.List.{flat_map}
 use Rattle.std.specs.Option.{unwrap_or}
-use Rattle.cedar_schema_elements.specs.ValidatorActionId.{action_of}
-use Rattle.cedar_below.specs.EntityType.{type_name}
-use Rattle.cedar_queries.specs.Role.{types_in_role}
+use Rattle.cedar_queries.specs.Words.{action_of, type_name, types_in_role}
 use Rattle.cedar_queries.proofs.requests.ApplicableTypesIterator.next.Given as goal
 
 abbrev pub invariant-loop-self : goal.invariant-loop-self

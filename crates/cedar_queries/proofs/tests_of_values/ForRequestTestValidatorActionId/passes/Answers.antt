@@ -1,7 +1,5 @@
 use Rattle.std.proofs.Common.{sym, refl}
-use Rattle.cedar_schema_elements.specs.ActionKind.{kind_principals, kind_resources}
-use Rattle.cedar_schema_elements.specs.ValidatorActionId.{action_of}
-use Rattle.cedar_below.specs.EntityType.{type_name}
+use Rattle.cedar_queries.specs.Words.{action_of, kind_principals, kind_resources, type_name}
 use Rattle.cedar_queries.proofs.NameLemmas.{is_has_name}
 use Rattle.cedar_queries.proofs.tests_of_values.ForRequestTestValidatorActionId.passes.Goals as goal
 

@@ -1,5 +1,4 @@
-use Rattle.cedar_below.specs.EntityType.{type_name}
-use Rattle.cedar_schema_elements.specs.ValidatorEntityType.{descendant_names}
+use Rattle.cedar_queries.specs.Words.{descendant_names, type_name}
 use Rattle.cedar_queries.proofs.NameLemmas.{is_has_name}
 use Rattle.cedar_queries.proofs.tests_of_values.HasDescendantTestValidatorEntityType.passes.Goals as goal
 

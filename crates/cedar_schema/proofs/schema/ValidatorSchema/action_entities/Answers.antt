@@ -1,13 +1,9 @@
 use Rattle.std.proofs.Common.{map}
 use Rattle.std.proofs.lemmas.Result.{IfOk-weaker}
-use Rattle.cedar_below.specs.Entities.{entities_of}
+use Rattle.cedar_schema.specs.Words.{AreActionEntities, action_entries, entities_of, plain_action_entity, plain_entry, schema_of, schema_with}
 use Rattle.cedar_declaration_laws.proofs.MereLemmas.{known_entities}
 use Rattle.cedar_declaration_laws.proofs.SameEntities.{same_entities}
-use Rattle.cedar_declarations.specs.ActionEntities.{AreActionEntities}
-use Rattle.cedar_schema_elements.specs.ActionEntities.{plain_action_entity, schema_with}
-use Rattle.cedar_schema_elements.specs.ValidatorEntityType.{plain_entry}
 use Rattle.cedar_schema.proofs.SameParts.{entities_made}
-use Rattle.cedar_schema.specs.ValidatorSchema.{action_entries, schema_of}
 use Rattle.cedar_schema.proofs.schema.ValidatorSchema.action_entities.Goals as goal
 use Rattle.cedar_validation.proofs.CopyLemmas.{actions_same}
 

@@ -1,10 +1,8 @@
 use Rattle.std.proofs.Common.{subst, sym}
 use Rattle.std.specs.List.Sorted.{IsStrictlySortedBy}
-use Rattle.cedar_below.specs.PlainUid.{uid_cmp}
+use Rattle.cedar_schema.specs.Words.{is_nonempty, schema_of, uid_cmp}
 use Rattle.cedar_queries.proofs.SelectedLemmas.{keys_where-ascend}
-use Rattle.cedar_queries.specs.Hierarchy.{is_nonempty}
 use Rattle.cedar_schema.proofs.SchemaNames.{known_order}
-use Rattle.cedar_schema.specs.ValidatorSchema.{schema_of}
 use Rattle.cedar_schema.proofs.schema.ValidatorSchema.action_groups.Goals as goal
 
 pub returns-clause-in_order : goal.returns-clause-in_order

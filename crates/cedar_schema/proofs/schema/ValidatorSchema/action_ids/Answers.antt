@@ -1,8 +1,6 @@
 use Rattle.std.proofs.Common.{List, map, subst, sym}
 use Rattle.std.specs.List.Sorted.{IsStrictlySortedBy}
-use Rattle.cedar_schema_elements.specs.ValidatorActionId.{action_of}
-use Rattle.cedar_schema_elements.specs.declared.action_id.ValidatorActionId.{ValidatorActionId}
-use Rattle.cedar_below.specs.PlainUid.{uid_cmp}
+use Rattle.cedar_schema.specs.Words.{ValidatorActionId, action_of, uid_cmp}
 use Rattle.cedar_schema.proofs.SchemaNames.{action_uids_ascend}
 use Rattle.cedar_schema.proofs.schema.ValidatorSchema.action_ids.Goals as goal
 

@@ -1,12 +1,9 @@
 use Rattle.std.proofs.Common.{List, ap, map, subst, sym, ◌∙◌}
 use Rattle.std.specs.List.Sorted.{IsStrictlySortedBy}
-use Rattle.cedar_below.specs.EntityUID.{uid_loc, uid_of, uid_type_loc}
-use Rattle.cedar_below.specs.PlainUid.{uid_cmp}
-use Rattle.cedar_below.specs.declared.entity_uid.EntityUID.{EntityUID}
-use Rattle.cedar_schema_elements.specs.ValidatorActionId.{name_loc, name_type_loc}
+use Rattle.cedar_schema.specs.Words.{EntityUID, action_entries, name_type_loc, uid_cmp, uid_loc, uid_of, uid_type_loc}
+use Rattle.cedar_schema_elements.specs.ValidatorActionId.{name_loc}
 use Rattle.cedar_schema.proofs.SchemaKeys.{agreed_on}
 use Rattle.cedar_schema.proofs.SchemaNames.{action_keys_ascend}
-use Rattle.cedar_schema.specs.ValidatorSchema.{action_entries}
 use Rattle.cedar_schema.proofs.schema.ValidatorSchema.actions.Goals as goal
 
 pub returns-clause-in_order : goal.returns-clause-in_order

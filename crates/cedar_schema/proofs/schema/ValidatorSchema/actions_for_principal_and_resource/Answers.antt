@@ -1,12 +1,8 @@
 use Rattle.std.proofs.Common.{◌&&◌, subst, sym}
 use Rattle.std.specs.List.Sorted.{IsStrictlySortedBy}
-use Rattle.cedar_schema_elements.specs.ActionKind.{kind_principals, kind_resources}
-use Rattle.cedar_below.specs.EntityType.{type_name}
-use Rattle.cedar_below.specs.PlainUid.{uid_cmp}
+use Rattle.cedar_schema.specs.Words.{has_name, kind_principals, kind_resources, schema_of, type_name, uid_cmp}
 use Rattle.cedar_queries.proofs.SelectedLemmas.{keys_where-ascend}
-use Rattle.cedar_queries.specs.Hierarchy.{has_name}
 use Rattle.cedar_schema.proofs.SchemaNames.{known_order}
-use Rattle.cedar_schema.specs.ValidatorSchema.{schema_of}
 use Rattle.cedar_schema.proofs.schema.ValidatorSchema.actions_for_principal_and_resource.Goals as goal
 
 pub returns-clause-in_order : goal.returns-clause-in_order

@@ -1,17 +1,11 @@
 use Rattle.std.proofs.Common.{map, subst, sym}
 use Rattle.std.proofs.lemmas.Result.{IfOk-weaker}
-use Rattle.cedar_below.specs.Entities.{entities_of}
-use Rattle.cedar_declarations.specs.PlainSchema.{PlainSchema}
-use Rattle.cedar_declarations.specs.SameSchema.{SameSchema}
-use Rattle.cedar_schema_elements.specs.ActionEntities.{schema_with}
-use Rattle.cedar_schema_elements.specs.ValidatorEntityType.{plain_entry}
+use Rattle.cedar_schema.specs.Words.{PlainSchema, SameSchema, entities_of, plain_action_entry, plain_entry, schema_of, schema_with}
 use Rattle.cedar_declaration_laws.proofs.MereLemmas.{known_entities}
 use Rattle.cedar_declaration_laws.proofs.SameEntities.{same_entities}
-use Rattle.cedar_schema_elements.specs.ValidatorActionId.{plain_action_entry}
 use Rattle.cedar_schema.proofs.SchemaNames.{known_names, same_under_names}
 use Rattle.cedar_schema.proofs.SchemaKeys.{keys_given}
 use Rattle.cedar_schema.proofs.schema.ValidatorSchema.clone.Goals as goal
-use Rattle.cedar_schema.specs.ValidatorSchema.{schema_of}
 use Rattle.cedar_validation.proofs.CopyLemmas.{action_copies_located, actions_same, type_copies_located, types_same}
 
 pub from_parts-requires-clause-entities : goal.from_parts-requires-clause-entities

@@ -1,8 +1,6 @@
 use Rattle.std.proofs.Common.{List, map, subst, sym}
 use Rattle.std.specs.List.Sorted.{IsStrictlySortedBy}
-use Rattle.cedar_below.specs.PlainName.{name_cmp}
-use Rattle.cedar_schema_elements.specs.ValidatorEntityType.{entity_type_of}
-use Rattle.cedar_schema_elements.specs.declared.entity_type.ValidatorEntityType.{ValidatorEntityType}
+use Rattle.cedar_schema.specs.Words.{ValidatorEntityType, entity_type_of, name_cmp}
 use Rattle.cedar_schema.proofs.SchemaNames.{type_names_ascend}
 use Rattle.cedar_schema.proofs.schema.ValidatorSchema.entity_types.Goals as goal
 

@@ -1,12 +1,9 @@
 use Rattle.std.proofs.Common.{map, sym}
 use Rattle.std.proofs.lemmas.Grind.{merely}
-use Rattle.cedar_below.specs.Entities.{entities_of}
-use Rattle.cedar_declaration_laws.specs.EndToEnd.{StandsUnderItsNames}
-use Rattle.cedar_declarations.specs.ActionEntities.{AreActionEntities}
+use Rattle.cedar_schema.specs.Words.{AreActionEntities, StandsUnderItsNames, entities_of, plain_entry}
 use Rattle.cedar_schema.proofs.SameParts.{same_parts}
 use Rattle.cedar_schema.proofs.SchemaNames.{schema_in_order}
 use Rattle.cedar_schema.proofs.schema.ValidatorSchema.from_parts.Goals as goal
-use Rattle.cedar_schema_elements.specs.ValidatorEntityType.{plain_entry}
 
 pub invariant_of-result : goal.invariant_of-result
 invariant_of-result c =

@@ -2,14 +2,7 @@ use Rattle.std.proofs.Common.{ap, map, ◌∙◌}
 use Rattle.std.proofs.lemmas.Result.{IfOk-weaker}
 use Rattle.std.specs.BTreeMap.{is_at}
 use Rattle.std.specs.Map.{lookup}
-use Rattle.cedar_below.specs.Entities.{entities_of}
-use Rattle.cedar_below.specs.EntityType.{type_name}
-use Rattle.cedar_below.specs.EntityUID.{uid_of}
-use Rattle.cedar_below.specs.PlainName.{name_cmp}
-use Rattle.cedar_below.specs.PlainUid.{uid_cmp}
-use Rattle.cedar_schema_elements.specs.ValidatorEntityType.{plain_entry}
-use Rattle.cedar_schema.specs.Located.{common_entries, namespace_entries}
-use Rattle.cedar_validation.specs.LastNamed.{last_named, last_of_uid}
+use Rattle.cedar_schema.specs.Words.{common_entries, entities_of, last_named, last_of_uid, name_cmp, namespace_entries, plain_entry, type_name, uid_cmp, uid_of}
 use Rattle.cedar_schema.proofs.SchemaKeys.{keys_given}
 use Rattle.cedar_schema.proofs.SchemaNames.{schema_under_names}
 use Rattle.cedar_schema.proofs.schema.ValidatorSchema.new.Goals as goal

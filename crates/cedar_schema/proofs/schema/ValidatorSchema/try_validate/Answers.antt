@@ -1,9 +1,6 @@
 use Rattle.std.proofs.Common.{rules, sym, subst}
-use Rattle.cedar_below.specs.Entities.{entities_of}
-use Rattle.cedar_declarations.specs.ClosedSchema.{ClosesSchema}
-use Rattle.cedar_declarations.specs.PlainSchema.{PlainSchema}
+use Rattle.cedar_schema.specs.Words.{ClosesSchema, PlainSchema, entities_of, schema_of}
 use Rattle.cedar_schema.proofs.SchemaNames.{closed_under_names, known_names}
-use Rattle.cedar_schema.specs.ValidatorSchema.{schema_of}
 use Rattle.cedar_schema.proofs.schema.ValidatorSchema.try_validate.Goals as goal
 
 pub returns-in_err-entity_types-clause-fault : goal.returns-in_err-entity_types-clause-fault

@@ -1,8 +1,6 @@
 use Rattle.std.proofs.Common.{map}
 use Rattle.std.proofs.lemmas.Result.{IfOk-weaker}
-use Rattle.cedar_below.specs.EntityType.{type_name}
-use Rattle.cedar_below.specs.Lists.{SameItems}
-use Rattle.cedar_schema_elements.specs.ValidatorApplySpec.{principal_names, resource_names}
+use Rattle.cedar_schema_elements.specs.Words.{SameItems, principal_names, resource_names, type_name}
 use Rattle.cedar_schema_elements.proofs.action_id.ValidatorActionId.new_defined.Goals as goal
 
 pub returns-clause-principals : goal.returns-clause-principals

@@ -1,8 +1,5 @@
 use Rattle.std.proofs.Common.{◌≡◌, [], refl, ap, ◌∙◌, sym}
-use Rattle.cedar_schema_elements.specs.EntityTypeKind.{plain_kind}
-use Rattle.cedar_declarations.specs.EntityTypeKind.{kind_fields}
-use Rattle.cedar_type_rules.specs.Fields.{field_names}
-use Rattle.cedar_type_rules.specs.Ty.{Fields, end, field}
+use Rattle.cedar_schema_elements.specs.Words.{Fields, end, field, field_names, kind_fields, plain_kind}
 use Rattle.cedar_schema_elements.proofs.entity_type.ValidatorEntityType.attributes.Goals as goal
 
 -- attributes without names are none

@@ -1,9 +1,8 @@
 use Rattle.std.proofs.Common.{◌≡◌, IsTrue, IfOk, Result, Ok, Err, sym, ◌∙◌}
 use Rattle.std.proofs.lemmas.Result.{IfOk-weaker}
 use Rattle.cedar_below.proofs.Names.{entity_type_eq-same}
-use Rattle.cedar_below.specs.EntityType.{type_name}
+use Rattle.cedar_schema_elements.specs.Words.{EntityType, type_name}
 use Rattle.cedar_below.specs.contracts.entity_type.EntityTypePartialEq.TheImpl as entity_type_eq
-use Rattle.cedar_below.specs.declared.entity_type.EntityType.{EntityType}
 use Rattle.cedar_schema_elements.proofs.entity_type_node.ValidatorEntityTypeTCNodeEntityType.copy_key.Goals as goal
 
 -- a copy of the same name is equal

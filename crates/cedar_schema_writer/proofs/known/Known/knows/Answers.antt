@@ -1,11 +1,8 @@
 use Rattle.std.proofs.Common.{map, sym, ◌∙◌, inl, inr}
 use Rattle.std.proofs.lemmas.Bool.{false≢true}
 use Rattle.std.proofs.lemmas.List.Elements.{Contains-append_cases, Contains-append_left, Contains-append_right}
-use Rattle.cedar_below.specs.EntityType.{type_name}
-use Rattle.cedar_below.specs.PlainName.{PlainName}
-use Rattle.cedar_declarations.specs.PlainSchema.{SchemaEntityType}
+use Rattle.cedar_schema_writer.specs.Words.{PlainName, SchemaEntityType, known_schema, type_name}
 use Rattle.cedar_types.proofs.MemberLemmas.{list_any-names}
-use Rattle.cedar_schema_writer.specs.Parts.{known_schema}
 use Rattle.cedar_schema_writer.proofs.known.Known.knows.Goals as goal
 
 pub returns-then-has_entity_type : goal.returns-then-has_entity_type

@@ -1,11 +1,6 @@
 use Rattle.std.proofs.Common.{◌≡◌, [], Some, ap, ◌∙◌, Contains}
-use Rattle.cedar_below.specs.EntityType.{type_name}
-use Rattle.cedar_below.specs.Name.{plain_name}
-use Rattle.cedar_below.specs.PlainName.{PlainName}
-use Rattle.cedar_declarations.specs.ConvertedBack.{NamesNoOther}
-use Rattle.cedar_names.specs.Reference.{name_within}
+use Rattle.cedar_schema_writer.specs.Words.{NamesNoOther, PlainName, known_names, name_within, plain_name, plain_namespace, type_name}
 use Rattle.cedar_schema_writer.proofs.NameLemmas.{answered-not, no_other-within}
-use Rattle.cedar_schema_writer.specs.Parts.{known_names, plain_namespace}
 use Rattle.cedar_schema_writer.proofs.known.Known.names_no_other.Goals as goal
 
 pub returns-in_ok-other-in-Some : goal.returns-in_ok-other-in-Some

@@ -1,13 +1,6 @@
 use Rattle.std.proofs.Common.{◌≡◌, [], Some, ap, sym, ◌∙◌, Contains}
-use Rattle.cedar_below.specs.EntityUID.{uid_of}
-use Rattle.cedar_below.specs.Name.{plain_name}
-use Rattle.cedar_below.specs.PlainName.{PlainName}
-use Rattle.cedar_below.specs.PlainUid.{PlainUid}
-use Rattle.cedar_below.specs.Text.{Text}
-use Rattle.cedar_declarations.specs.ConvertedBack.{NamesNoOtherAction}
-use Rattle.cedar_names.specs.Reference.{name_within}
+use Rattle.cedar_schema_writer.specs.Words.{NamesNoOtherAction, PlainName, PlainUid, Text, known_names, name_within, plain_name, plain_namespace, uid_of}
 use Rattle.cedar_schema_writer.proofs.NameLemmas.{answered-not, no_other_action-within}
-use Rattle.cedar_schema_writer.specs.Parts.{known_names, plain_namespace}
 use Rattle.cedar_schema_writer.proofs.known.Known.names_no_other_action.Goals as goal
 
 pub returns-in_ok-clone-in-Some : goal.returns-in_ok-clone-in-Some

@@ -1,9 +1,6 @@
 use Rattle.std.proofs.Common.{map}
-use Rattle.cedar_below.specs.EntityType.{type_name}
-use Rattle.cedar_declarations.specs.ConvertedBack.{NamesNoOther}
-use Rattle.cedar_names.specs.RawName.{raw_name}
+use Rattle.cedar_schema_writer.specs.Words.{NamesNoOther, known_names, plain_namespace, raw_name, type_name}
 use Rattle.cedar_schema_writer.proofs.Written.{WrittenSoFar}
-use Rattle.cedar_schema_writer.specs.Parts.{known_names, plain_namespace}
 use Rattle.cedar_schema_writer.proofs.known.Known.write_names.Given as goal
 
 abbrev pub invariant-loop-name : goal.invariant-loop-name

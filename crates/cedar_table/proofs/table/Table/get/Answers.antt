@@ -3,8 +3,7 @@ use Rattle.std.specs.BTreeMap.{is_at}
 use Rattle.std.specs.Map.{lookup}
 use Rattle.cedar_table.proofs.SearchLemmas.{found_at}
 use Rattle.cedar_table.proofs.table.Table.get.Goals as goal
-use Rattle.cedar_table.specs.Entries.{Entries}
-use Rattle.cedar_table.specs.StandsAt.{StandsAt}
+use Rattle.cedar_table.specs.Words.{Entries, StandsAt}
 
 pub returns : goal.returns
 returns g c =

@@ -1,6 +1,5 @@
 use Rattle.std.proofs.Common.{ap}
-use Rattle.cedar_types.specs.EntityKind.{kind_ty}
-use Rattle.cedar_types.specs.EntityLUB.{lub_names}
+use Rattle.cedar_validation.specs.Words.{kind_ty, lub_names}
 use Rattle.cedar_validation.proofs.MentionLemmas.{union_known}
 use Rattle.cedar_validation.proofs.Results.{on_ok}
 use Rattle.cedar_validation.proofs.known.Known.check_kind.Goals as goal

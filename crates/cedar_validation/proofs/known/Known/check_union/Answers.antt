@@ -2,10 +2,8 @@ use Rattle.std.proofs.Common.{ap, map, sym, ◌∙◌, inr}
 use Rattle.std.proofs.lemmas.Bool.{false≢true}
 use Rattle.std.proofs.lemmas.List.{nil_from_length}
 use Rattle.std.specs.Slice.Iter.{iter_rest}
-use Rattle.cedar_below.specs.EntityType.{type_name}
-use Rattle.cedar_types.specs.EntityLUB.{lub_names}
+use Rattle.cedar_validation.specs.Words.{Knows, lub_names, type_name}
 use Rattle.cedar_validation.proofs.Checking.{checking_all, checking_here, checking_more, checking_none}
-use Rattle.cedar_validation.specs.Mentions.{Knows}
 use Rattle.cedar_validation.proofs.known.Known.check_union.Goals as goal
 
 pub loop-name-init : goal.loop-name-init

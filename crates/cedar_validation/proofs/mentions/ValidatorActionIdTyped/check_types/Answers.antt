@@ -1,6 +1,5 @@
 use Rattle.std.proofs.Common.{inr}
-use Rattle.cedar_schema_elements.specs.ValidatorActionId.{action_of}
-use Rattle.cedar_types.specs.Meaning.{ty_of}
+use Rattle.cedar_validation.specs.Words.{action_of, ty_of}
 use Rattle.cedar_validation.proofs.MentionLemmas.{context_is, context_of}
 use Rattle.cedar_validation.proofs.Results.{on_err, on_ok}
 use Rattle.cedar_validation.proofs.mentions.ValidatorActionIdTyped.check_types.Goals as goal

@@ -1,14 +1,8 @@
 use Rattle.std.proofs.Common.{◌≡◌, ◌⊎◌, Some, sym, ◌∙◌, inr}
 use Rattle.std.proofs.lemmas.Result.{err_from_is_err_and}
-use Rattle.cedar_declarations.specs.Fault.{out_of_memory}
-use Rattle.cedar_declarations.specs.SchemaError.{fault_of}
-use Rattle.cedar_declarations.specs.ValidSchema.{IsTypeOfKind}
-use Rattle.cedar_schema_elements.specs.ValidatorEntityType.{entity_type_of}
-use Rattle.cedar_type_rules.specs.Ty.{Ty}
-use Rattle.cedar_types.specs.Meaning.{ty_of}
+use Rattle.cedar_validation.specs.Words.{IsTypeOfKind, IsUnknownIn, Ty, entity_type_of, fault_of, out_of_memory, ty_of}
 use Rattle.cedar_validation.proofs.MentionLemmas.{attributes_fault, kind_known, tags_of_kind}
 use Rattle.cedar_validation.proofs.Results.{on_err, on_ok}
-use Rattle.cedar_validation.specs.Mentions.{IsUnknownIn}
 use Rattle.cedar_validation.proofs.mentions.ValidatorEntityTypeTyped.check_types.Goals as goal
 
 pub returns-in_err-check_attributes-clause-fault : goal.returns-in_err-check_attributes-clause-fault

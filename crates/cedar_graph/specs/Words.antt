@@ -1,0 +1,19 @@
+-- The words of clauses, from one place.
+pub use Rattle.cedar_below.specs.Words.{Chain, HoldsPairwise, more, one}
+pub use Rattle.cedar_table.specs.Words.{StandsAt}
+pub use Rattle.cedar_graph.specs.Edges.{AreAlike, HasEdge, IsEdgeIn, Reaches}
+pub use Rattle.cedar_graph.specs.Gathered.{AreClosed, AreGathered, AreReached, GathersMore, mark_of}
+pub use Rattle.cedar_graph.specs.Growth.{GrowsAt, GrowsBy}
+pub use Rattle.cedar_graph.specs.Numbered.{IsTarget}
+unfoldable pub use Rattle.cedar_graph.specs.Numbered.{items_at}
+pub use Rattle.cedar_graph.specs.Numbering.{AreNumbers, AreNumbersOf, IsNumbered, KeepsNumbers, ListHas, StandsIn}
+pub use Rattle.cedar_graph.specs.Order.{IsOrder, IsOrdered, LeadsTo}
+pub use Rattle.cedar_graph.specs.Tables.{AreInTurn, HasEntry, IsClosedTo, IsGrown, IsLack, IsTableFault, StepsTo}
+pub use Rattle.cedar_graph.specs.TcError.{IsRefusal}
+pub use Rattle.cedar_graph.specs.declared.closing.Mark.TheVariants.{Done, Fresh, Met}
+pub use Rattle.cedar_graph.specs.declared.ordering.Mark.{Mark}
+pub use Rattle.cedar_graph.specs.declared.ordering.Mark.TheVariants.{Open}
+pub use Rattle.cedar_graph.specs.declared.ordering.Step.{Step}
+pub use Rattle.cedar_graph.specs.declared.ordering.Step.TheVariants.{Enter, Leave}
+pub use Rattle.cedar_graph.specs.declared.table_fault.TableFault.{TableFault}
+pub use Rattle.cedar_graph.specs.declared.table_fault.TableFault.TheVariants.{HasCycle, Lacks, Memory}
