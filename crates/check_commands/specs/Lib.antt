@@ -1,2 +1,3 @@
 pub mod LaidOut
 pub mod Linked
+pub mod Statuses

@@ -1,5 +1,7 @@
 //! What each command gives, by its words.
 
+ghost use Rattle.std.specs.Prelude.{◌≡◌, IfOk};
+
 use crate::answers::{
     Answer, NoAnswer, Wanted, counts, environment_lines, incomplete, type_named, uid_named,
 };
@@ -63,7 +65,9 @@ fn check<F: FileAccess>(
 }
 
 /// What is told of words that don't go together or aren't what they have to be.
-fn usage(alloc: Global, why: &str) -> M<Outcome> {
+fn usage(alloc: Global, why: &str) -> M<Outcome>
+    ensures { IfOk result (λ outcome. outcome.status ≡ Status.Usage) }
+{
     let why = escaped(alloc, why)?;
     let notes = format!(in alloc; "error: {why}\n")?;
     Ok(Outcome::noted(alloc, notes, Status::Usage))
@@ -196,7 +200,9 @@ fn input_count(names: &[&str]) -> usize {
 }
 
 /// That standard input is named more than once.
-fn reads_input_twice(alloc: Global) -> M<Outcome> {
+fn reads_input_twice(alloc: Global) -> M<Outcome>
+    ensures { IfOk result (λ outcome. outcome.status ≡ Status.Usage) }
+{
     usage(alloc, "standard input (`-`) can be read only once")
 }
 

@@ -1,6 +1,8 @@
 //! Two versions of a schema, compared: what the new one takes away and what it adds.
 
-ghost use Rattle.std.specs.Prelude.{◌≡◌, ◌↔◌, [], IfOk};
+ghost use Rattle.std.specs.Prelude.{◌≡◌, ◌↔◌, ◌⊎◌, [], IfOk};
+ghost use Rattle.cedar_compare.specs.Keeps.{Keeps};
+ghost use Rattle.cedar_schema.specs.ValidatorSchema.{schema_of};
 
 use crate::building::built;
 use crate::difference_json::push_objects;
@@ -10,7 +12,7 @@ use crate::finding::Finding;
 use crate::outcome::{Manner, Outcome, Stop, refused};
 use crate::sides::Sides;
 use crate::status::Status;
-use cedar_below::{M, Memory, Name, NameFault, RestrictedExpr, Value};
+use cedar_below::{Extensions, M, Memory, Name, NameFault, RestrictedExpr, Value};
 use cedar_compare::{CompareFault, Comparison, Difference, compare};
 use cedar_json::cedar_extensions;
 use cedar_schema::ValidatorSchema;
@@ -78,8 +80,10 @@ fn compared(
     new: &ValidatorSchema,
     comparison: &Comparison,
 ) -> M<Outcome>
-    ensures { IfOk result (λ outcome.
+    ensures done { IfOk result (λ outcome.
         (outcome.status ≡ Status.Done) ↔ (comparison.now.lost.items ≡ [])) }
+    ensures told { IfOk result (λ outcome.
+        (outcome.status ≡ Status.Done) ⊎ (outcome.status ≡ Status.Lost)) }
 {
     let mut text = String::new(alloc);
     telling.push(
@@ -107,7 +111,9 @@ fn compared(
 }
 
 /// What is told of schemas that aren't compared.
-fn not_compared(alloc: Global, manner: Manner, fault: &CompareFault) -> M<Outcome> {
+fn not_compared(alloc: Global, manner: Manner, fault: &CompareFault) -> M<Outcome>
+    ensures { IfOk result (λ outcome. outcome.status ≡ Status.Refused) }
+{
     let kind = match fault {
         CompareFault::Incomplete(_) => "Incomplete",
         CompareFault::Unsampled(_, _) => "Unsampled",
@@ -117,7 +123,58 @@ fn not_compared(alloc: Global, manner: Manner, fault: &CompareFault) -> M<Outcom
     refused(alloc, manner, &[], Finding::general(kind, message))
 }
 
-/// Compares the schema that old files declare with the one that new files declare.
+/// Compares two schemas over some extensions, with a value of each of their types.
+fn compare_with(
+    alloc: Global,
+    telling: Telling,
+    old: &ValidatorSchema,
+    new: &ValidatorSchema,
+    extensions: &Extensions,
+    samples: &[Value],
+) -> M<Outcome>
+    ensures kept { IfOk result (λ outcome. outcome.status ≡ Status.Done
+        → Keeps extensions.now (schema_of old.now) (schema_of new.now)) }
+    ensures lost { IfOk result (λ outcome. outcome.status ≡ Status.Lost
+        → ¬ Keeps extensions.now (schema_of old.now) (schema_of new.now)) }
+    ensures told { IfOk result (λ outcome. (outcome.status ≡ Status.Done)
+        ⊎ ((outcome.status ≡ Status.Lost) ⊎ (outcome.status ≡ Status.Refused))) }
+{
+    match compare(alloc, old, new, extensions, samples) {
+        Ok(comparison) => compared(alloc, telling, old, new, &comparison),
+        Err(fault) => not_compared(alloc, telling.manner, &fault),
+    }
+}
+
+/// Compares two schemas, over the extensions of Cedar.
+fn compare_schemas(
+    alloc: Global,
+    telling: Telling,
+    old: &ValidatorSchema,
+    new: &ValidatorSchema,
+) -> M<Outcome> {
+    let extensions = cedar_extensions(alloc)?;
+    let samples = samples(alloc)?;
+    compare_with(alloc, telling, old, new, &extensions, &samples)
+}
+
+/// What is told where the old files are at fault: that, and behind it what is at fault in the new
+/// ones.
+fn with_new_faults<F: FileAccess>(
+    alloc: Global,
+    files: &mut F,
+    told: Outcome,
+    new: &[&str],
+    manner: Manner,
+) -> Result<Outcome, Stop> {
+    match built(alloc, files, new, manner) {
+        Ok(_) => Ok(told),
+        Err(Stop::Told(other)) => Ok(told.with(&other)?),
+        Err(Stop::Memory) => Err(Stop::Memory),
+    }
+}
+
+/// Compares the schema that old files declare with the one that new files declare. Where files of
+/// both are at fault, each of these is told.
 pub(crate) fn compare_files<F: FileAccess>(
     alloc: Global,
     files: &mut F,
@@ -125,12 +182,12 @@ pub(crate) fn compare_files<F: FileAccess>(
     new: &[&str],
     telling: Telling,
 ) -> Result<Outcome, Stop> {
-    let old = built(alloc, files, old, telling.manner)?;
-    let new = built(alloc, files, new, telling.manner)?;
-    let extensions = cedar_extensions(alloc)?;
-    let samples = samples(alloc)?;
-    match compare(alloc, &old.schema, &new.schema, &extensions, &samples) {
-        Ok(comparison) => { Ok(compared(alloc, telling, &old.schema, &new.schema, &comparison)?) }
-        Err(fault) => Ok(not_compared(alloc, telling.manner, &fault)?),
+    match built(alloc, files, old, telling.manner) {
+        Ok(old) => {
+            let new = built(alloc, files, new, telling.manner)?;
+            Ok(compare_schemas(alloc, telling, &old.schema, &new.schema)?)
+        }
+        Err(Stop::Told(told)) => with_new_faults(alloc, files, told, new, telling.manner),
+        Err(Stop::Memory) => Err(Stop::Memory),
     }
 }

@@ -1,6 +1,7 @@
 //! Differences between two versions of a schema, as objects of JSON.
 
 use crate::cause_text::cause_text;
+use crate::json_lines::push_object;
 use crate::sides::Sides;
 use crate::witness::{subject_text, witness_text};
 use cedar_below::{M, Memory};
@@ -61,8 +62,7 @@ pub(crate) fn push_objects(
 ) -> M<()> {
     for difference in differences {
         let object = difference_json(alloc, sides, difference)?;
-        text.push_str(String::from_utf8_lossy(alloc, &object)?.as_str())?;
-        text.push('\n')?;
+        push_object(alloc, text, &object)?;
     }
     Ok(())
 }

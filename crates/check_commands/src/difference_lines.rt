@@ -1,6 +1,7 @@
 //! Differences between two versions of a schema, as lines for people.
 
 use crate::cause_text::cause_text;
+use crate::json_lines::push_line;
 use crate::sides::Sides;
 use crate::witness::{subject_text, witness_text};
 use cedar_below::{EntityUID, M};
@@ -73,24 +74,10 @@ impl<'a> Run<'a> {
     }
 }
 
-/// Adds a line of JSON, with JSON's escape in the place of each character that would control a
-/// terminal.
-fn push_line(alloc: Global, text: &mut String, line: &str) -> M<()> {
-    text.push_str("  ")?;
-    for character in line.chars() {
-        if character.is_control() {
-            let escape = format!(in alloc; "\\u{:04x}", u32::from(character))?;
-            text.push_str(escape.as_str())?;
-        } else {
-            text.push(character)?;
-        }
-    }
-    Ok(text.push('\n')?)
-}
-
 /// Adds the lines of a witness.
 fn push_witness(alloc: Global, text: &mut String, witness: &str) -> M<()> {
     for line in witness.split('\n') {
+        text.push_str("  ")?;
         push_line(alloc, text, line)?;
     }
     Ok(())

@@ -1,12 +1,13 @@
 //! Files, laid out.
 
-ghost use Rattle.std.specs.Prelude.{IfOk, IfSome, string_bytes};
+ghost use Rattle.std.specs.Prelude.{◌≡◌, IfOk, IfSome, string_bytes};
 ghost use Rattle.check_commands.specs.LaidOut.{IsLayoutFile};
 
 use crate::files::FileAccess;
 use crate::finding::{Finding, Source};
 use crate::outcome::{Manner, Outcome, Stop, refused};
 use crate::reading::well_formed;
+use crate::status::Status;
 use cedar_below::{M, Memory};
 use schema_layout::{LayoutFault, laid_out};
 use std::alloc::Global;
@@ -27,7 +28,9 @@ fn laid_out_file(alloc: Global, text: &str) -> M<Option<String>>
 }
 
 /// That a file isn't laid out.
-fn differs(alloc: Global, manner: Manner, sources: &[Source]) -> M<Outcome> {
+fn differs(alloc: Global, manner: Manner, sources: &[Source]) -> M<Outcome>
+    ensures { IfOk result (λ outcome. outcome.status ≡ Status.Refused) }
+{
     let why = "the file isn't laid out as the format is; `cedar_check format` writes it so";
     let message = String::from_str(alloc, why)?;
     let finding = Finding::in_file(0, None, "Layout", message);

@@ -18,6 +18,7 @@ mod finding;
 mod first_key;
 mod graph;
 mod hierarchy;
+mod json_lines;
 mod laying_out;
 mod left_out;
 mod linking;

@@ -54,7 +54,9 @@ fn left_out_note(alloc: Global, sources: &[Source]) -> M<String> {
 }
 
 /// What is told of a schema that no fragment declares again.
-fn unwritable(alloc: Global, manner: Manner, sources: &[Source]) -> M<Outcome> {
+fn unwritable(alloc: Global, manner: Manner, sources: &[Source]) -> M<Outcome>
+    ensures { IfOk result (λ outcome. outcome.status ≡ Status.Refused) }
+{
     let why = "no file declares this schema again: a name without a namespace would be \
         another one where it has to be written, or types nest too deep";
     let message = String::from_str(alloc, why)?;

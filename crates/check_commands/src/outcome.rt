@@ -1,8 +1,9 @@
 //! What a command gives.
 
-ghost use Rattle.std.specs.Prelude.{◌≡◌, IfOk};
+ghost use Rattle.std.specs.Prelude.{◌≡◌, ◌≢◌, ◌++◌, IfOk, string_bytes};
 
 use crate::finding::{Finding, Source, finding_json, push_finding};
+use crate::json_lines::push_object;
 use crate::status::Status;
 use cedar_below::{M, Memory};
 use std::alloc::Global;
@@ -42,6 +43,26 @@ impl Outcome {
             status,
         }
     }
+
+    /// What is told of two things that are at fault, the one behind the other. Where a file of
+    /// either couldn't be read, that is the status, and else that of the first.
+    pub(crate) fn with(mut self, second: &Outcome) -> M<Outcome>
+        ensures text { IfOk result (λ both.
+            string_bytes both.text ≡ string_bytes self.text ++ string_bytes second.now.text) }
+        ensures notes { IfOk result (λ both.
+            string_bytes both.notes ≡ string_bytes self.notes ++ string_bytes second.now.notes) }
+        ensures unread { IfOk result (λ both.
+            second.now.status ≡ Status.Unread → both.status ≡ Status.Unread) }
+        ensures status { IfOk result (λ both.
+            second.now.status ≢ Status.Unread → both.status ≡ self.status) }
+    {
+        self.text.push_str(second.text.as_str())?;
+        self.notes.push_str(second.notes.as_str())?;
+        if let Status::Unread = second.status {
+            self.status = Status::Unread;
+        }
+        Ok(self)
+    }
 }
 
 /// Why a command goes no further.
@@ -71,8 +92,7 @@ pub(crate) enum Manner {
 /// Adds one object and a line end.
 fn push_json(alloc: Global, text: &mut String, sources: &[Source], finding: &Finding) -> M<()> {
     let object = finding_json(alloc, sources, finding)?;
-    text.push_str(String::from_utf8_lossy(alloc, &object)?.as_str())?;
-    Ok(text.push('\n')?)
+    push_object(alloc, text, &object)
 }
 
 /// Each finding, told in a manner.

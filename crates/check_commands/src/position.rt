@@ -40,10 +40,11 @@ pub(crate) fn position_of(text: &str, at: usize) -> Position {
 /// A character as it can be shown in one column: a sign in the place of a byte order mark, and of
 /// one that controls a terminal, but for tabs.
 fn shown(character: char) -> char {
-    match character {
-        '\t' => '\t',
-        '\u{feff}' | '\0'..='\u{1f}' | '\u{7f}'..='\u{9f}' => '\u{fffd}',
-        _ => character,
+    let is_hidden = character == '\u{feff}' || character.is_control();
+    if is_hidden && character != '\t' {
+        '\u{fffd}'
+    } else {
+        character
     }
 }
 
@@ -56,11 +57,10 @@ fn shown_part(alloc: Global, line: &str, skipped: usize) -> M<String> {
     Ok(part)
 }
 
-/// Blanks below the characters of a line up to a column, with a tab below each tab, and a `^`.
-fn caret(alloc: Global, line: &str, skipped: usize, column: usize) -> M<String> {
+/// Blanks below the first characters of a text, with a tab below each tab, and a `^`.
+fn caret(alloc: Global, above: &str, before: usize) -> M<String> {
     let mut text = String::new(alloc);
-    let before = column.saturating_sub(1).saturating_sub(skipped);
-    for character in line.chars().skip(skipped).take(before) {
+    for character in above.chars().take(before) {
         text.push(if character == '\t' { '\t' } else { ' ' })?;
     }
     text.push('^')?;
@@ -79,6 +79,7 @@ pub(crate) fn line_with_caret(alloc: Global, text: &str, position: Position) -> 
         .saturating_sub(1)
         .saturating_sub(SHOWN_BEFORE);
     let above = shown_part(alloc, line, skipped)?;
-    let below = caret(alloc, line, skipped, position.column)?;
+    let before = position.column.saturating_sub(1).saturating_sub(skipped);
+    let below = caret(alloc, above.as_str(), before)?;
     Ok(format!(in alloc; "{above}\n{below}\n")?)
 }

@@ -1,5 +1,7 @@
 //! Files, read as fragments.
 
+ghost use Rattle.std.specs.Prelude.{◌≡◌, IfOk, MatchBool};
+
 use crate::fault_text::{fault_loc, fault_text, kind_word};
 use crate::files::{FileAccess, FileFault};
 use crate::finding::{Finding, Source};
@@ -147,7 +149,10 @@ fn read_files<F: FileAccess>(alloc: Global, files: &mut F, names: &[&str]) -> M<
 }
 
 /// What is told of files that can't be read, or are at fault.
-fn told_faults(alloc: Global, manner: Manner, read: &ReadFiles) -> M<Outcome> {
+fn told_faults(alloc: Global, manner: Manner, read: &ReadFiles) -> M<Outcome>
+    ensures { IfOk result (λ outcome. MatchBool read.now.is_unread
+        (outcome.status ≡ Status.Unread) (outcome.status ≡ Status.Refused)) }
+{
     let status = if read.is_unread {
         Status::Unread
     } else {

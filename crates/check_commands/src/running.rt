@@ -31,7 +31,10 @@ fn asked<F: FileAccess>(
 }
 
 /// The outcome where the words give no command: help or the version, or why they give none.
-fn no_command(alloc: Global, error: Error) -> M<Outcome> {
+fn no_command(alloc: Global, error: Error) -> M<Outcome>
+    ensures { IfOk result (λ outcome. (outcome.status ≡ Status.Usage)
+        ⊎ (outcome.status ≡ Status.Done)) }
+{
     if error.kind() == ErrorKind::OutOfMemory {
         return Err(Memory);
     }

@@ -1,6 +1,7 @@
 //! The statuses that the program ends with.
 
-ghost use Rattle.std.specs.Prelude.{◌<◌};
+ghost use Rattle.std.specs.Prelude.{◌≡◌, ◌<◌};
+ghost use Rattle.check_commands.specs.Statuses.{code_of};
 
 /// How a run ends.
 #[derive(Clone, Copy, Drop)]
@@ -24,7 +25,8 @@ pub(crate) enum Status {
 impl Status {
     /// The status as a number: from 0 on, in the order of the variants.
     pub(crate) fn code(self) -> u8
-        ensures { result < 7 }
+        ensures code { result ≡ code_of self }
+        ensures small { result < 7 }
     {
         match self {
             Status::Done => 0,

@@ -305,71 +305,74 @@ const ROWS: &[Row] = &[
     },
 ];
 
-/// The command with the files that it reads, unless options name them.
-fn with_files<'a>(
-    alloc: Global,
-    command: Command<'a>,
-    row: &Row,
-) -> Result<Command<'a>, AllocError> {
-    let Some(help) = row.files else {
-        return Ok(command);
-    };
-    let files = Arg::new(alloc, "FILE")
+/// The files that a command reads, as an argument.
+fn files<'a>(alloc: Global, help: &'static str, action: ArgAction) -> Arg<'a> {
+    Arg::new(alloc, "FILE")
         .help(help)
-        .action(row.action)
-        .required(true);
-    command.arg(files)
+        .action(action)
+        .required(true)
 }
 
-/// An option, under its short name too if it has one.
-fn shortened<'a>(option: Arg<'a>, short: Option<char>) -> Arg<'a> {
-    match short {
-        Some(short) => option.short(short),
-        None => option,
-    }
-}
-
-/// An option that has to be there where it names files, and takes one or more of them each time.
-fn with_values<'a>(option: Arg<'a>, names_files: bool) -> Arg<'a> {
-    if names_files {
-        option.required(true).num_args(1usize..)
-    } else {
-        option
-    }
-}
-
-/// The option of a row.
-fn option<'a>(alloc: Global, choice: &Choice) -> Result<Arg<'a>, AllocError> {
-    let option = Arg::new(alloc, choice.name)
+/// An option by its name, as far as each option has it.
+fn named<'a>(alloc: Global, choice: &Choice) -> Arg<'a> {
+    Arg::new(alloc, choice.name)
         .long(choice.name)
         .action(choice.action)
         .value_names(choice.values)
-        .help(choice.help);
-    with_values(shortened(option, choice.short), choice.names_files)
+        .help(choice.help)
+}
+
+/// The option of a row. It has to be there where it names files, and takes one or more of them each
+/// time.
+fn option<'a>(alloc: Global, choice: &Choice) -> Result<Arg<'a>, AllocError> {
+    let mut option = named(alloc, choice);
+    if let Some(short) = choice.short {
+        option = option.short(short);
+    }
+    if choice.names_files {
+        option = option.required(true).num_args(1usize..);
+    }
+    option
         .required_unless_present_any(choice.unless)?
         .conflicts_with_all(choice.against)
 }
 
+/// The files and the options that a command takes.
+fn args<'a>(alloc: Global, row: &Row) -> Result<Vec<Arg<'a>>, AllocError> {
+    let mut args = Vec::new(alloc);
+    if let Some(help) = row.files {
+        args.push(files(alloc, help, row.action))?;
+    }
+    for choice in row.choices {
+        args.push(option(alloc, choice)?)?;
+    }
+    Ok(args)
+}
+
 /// The command of a row.
 fn command<'a>(alloc: Global, row: &Row) -> Result<Command<'a>, AllocError> {
-    let command = Command::new(alloc, row.name)
+    let args = args(alloc, row)?;
+    Command::new(alloc, row.name)
         .about(row.about)
-        .after_help(row.example);
-    let mut command = with_files(alloc, command, row)?;
-    for choice in row.choices {
-        command = command.arg(option(alloc, choice)?)?;
+        .after_help(row.example)
+        .args(args)
+}
+
+/// The commands.
+fn commands<'a>(alloc: Global) -> Result<Vec<Command<'a>>, AllocError> {
+    let mut commands = Vec::new(alloc);
+    for row in ROWS {
+        commands.push(command(alloc, row)?)?;
     }
-    Ok(command)
+    Ok(commands)
 }
 
 /// The program's words.
 pub(crate) fn program<'a>(alloc: Global) -> Result<Command<'a>, AllocError> {
-    let mut program = Command::new(alloc, "cedar_check")
+    let commands = commands(alloc)?;
+    Command::new(alloc, "cedar_check")
         .version("0.1.0")
         .about("Reads, builds, shows, links and compares schemas of the Cedar policy language")
-        .subcommand_required(true);
-    for row in ROWS {
-        program = program.subcommand(command(alloc, row)?)?;
-    }
-    Ok(program)
+        .subcommand_required(true)
+        .subcommands(commands)
 }
