@@ -1,4 +1,4 @@
-use Rattle.std.proofs.Common.{Err, inl, inr, ⊎_elim}
+use Rattle.std.proofs.Common.{Err, inl, inr}
 use Rattle.std.proofs.lemmas.Result.{err_from_is_err_and, IfErr-weaker, IfOk-weaker, on_ok_weaker}
 use Rattle.cedar_declarations.specs.SchemaError.{fault_of}
 use Rattle.cedar_fragments.specs.FragmentDeclarations.{conditional_bag}
