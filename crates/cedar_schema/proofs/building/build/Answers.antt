@@ -1,4 +1,4 @@
-use Rattle.std.proofs.Common.{Err, inl, inr, ⊎_elim}
+use Rattle.std.proofs.Common.{Err, inl, inr}
 use Rattle.std.proofs.lemmas.Result.{err_from_is_err_and, IfErr-weaker, IfOk-weaker, on_ok_weaker}
 use Rattle.cedar_schema.specs.Words.{collected_common, conditional_bag, fault_of, held_names, parts_schema, resolved_bag}
 use Rattle.cedar_declaration_laws.proofs.BuiltFrom.{built_from}

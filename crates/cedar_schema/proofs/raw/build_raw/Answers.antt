@@ -1,4 +1,4 @@
-use Rattle.std.proofs.Common.{List, Err, inl, inr, subst, ⊎_elim}
+use Rattle.std.proofs.Common.{List, Err, inl, inr, subst}
 use Rattle.std.proofs.lemmas.Result.{err_from_is_err_and, IfErr-weaker, IfOk-weaker}
 use Rattle.std.specs.Result.{result_map_both}
 use Rattle.cedar_schema.specs.Words.{Bag, DefinedNamespace, IsBuiltFrom, Located, LocatedName, NamesAllOfADefinition, Shows, conditional_bag, fault_of, parts_schema, positional_reference, raw_bag}

@@ -1,4 +1,4 @@
-use Rattle.std.proofs.Common.{⊎_elim, inl, inr}
+use Rattle.std.proofs.Common.{inl, inr}
 use Rattle.cedar_declaration_laws.proofs.ComeBack.{declared_schemas_come_back}
 use Rattle.cedar_schema.proofs.SchemaEquality.{schemas-Same}
 use Rattle.cedar_schema.specs.ValidatorSchema.{schema_of}

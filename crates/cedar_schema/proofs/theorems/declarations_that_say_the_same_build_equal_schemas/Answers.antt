@@ -1,4 +1,4 @@
-use Rattle.std.proofs.Common.{⊎_elim, inl, inr}
+use Rattle.std.proofs.Common.{inl, inr}
 use Rattle.cedar_declaration_laws.proofs.SameBagLaws.{same_bags}
 use Rattle.cedar_schema.proofs.SchemaEquality.{schemas-Same}
 use Rattle.cedar_schema.proofs.theorems.declarations_that_say_the_same_build_equal_schemas.Goals as goal
