@@ -5,6 +5,7 @@ use Rattle.cedar_compare.specs.Words.{AreActionUppersSoFar, ListsApart, action_o
 use Rattle.cedar_compare.proofs.ActionUpperLemmas.{IsActionLeft, action_left_first, action_left_none, action_left_past, action_past_kept, action_past_there, action_put, apart_turned, descendants_of_it, none_kept}
 use Rattle.cedar_compare.proofs.action_uppers.add_descendants.Goals as goal
 
+-- at first all descendants of the action are left
 pub loop-lower-init : goal.loop-lower-init
 loop-lower-init c =
     let one = schema_of c.args.one.now in
@@ -22,6 +23,7 @@ loop-lower-init c =
       listed = λ lower there. subst (λ xs. Contains xs lower) lowers there;
     }
 
+-- where the other schema lists the descendant below the action too, nothing is to be kept for it
 pub loop-lower-preserved-then-lists : goal.loop-lower-preserved-then-lists
 loop-lower-preserved-then-lists c =
     let one = schema_of c.args.one.now in
@@ -37,6 +39,7 @@ loop-lower-preserved-then-lists c =
       listed = λ it there. c.loop-lower.invariant.listed it (subst (λ xs. Contains xs it) (sym steps) (Contains-cons lower rest it (inr there)));
     }
 
+-- a descendant for which an action is kept needs no other one
 pub loop-lower-preserved-then-contains_key : goal.loop-lower-preserved-then-contains_key
 loop-lower-preserved-then-contains_key c =
     let one = schema_of c.args.one.now in
@@ -53,6 +56,7 @@ loop-lower-preserved-then-contains_key c =
       listed = λ it there. c.loop-lower.invariant.listed it (subst (λ xs. Contains xs it) (sym steps) (Contains-cons lower rest it (inr there)));
     }
 
+-- one schema alone lists the descendant below the action, which is kept for it
 pub loop-lower-preserved : goal.loop-lower-preserved
 loop-lower-preserved c =
     let one = schema_of c.args.one.now in
@@ -87,6 +91,7 @@ loop-lower-preserved c =
       listed = λ it there. c.loop-lower.invariant.listed it (subst (λ xs. Contains xs it) (sym steps) (Contains-cons lower rest it (inr there)));
     }
 
+-- where no descendant is left, this action is done with
 pub returns-clause-told : goal.returns-clause-told
 returns-clause-told c = λ left so_far.
     action_left_none (schema_of c.args.one.now) (schema_of c.args.other.now) (uid_of c.args.uid.now) left (map uid_of c.loop-lower.lower-iterator)

@@ -4,6 +4,7 @@ use Rattle.cedar_compare.proofs.ActionUpperLemmas.{action_past_none, actions_lef
 use Rattle.cedar_compare.proofs.FindLemmas.{plain_keys}
 use Rattle.cedar_compare.proofs.action_uppers.add_unlisted.Goals as goal
 
+-- at first all actions of the schema are left
 pub loop-uid-init : goal.loop-uid-init
 loop-uid-init c =
     let one = schema_of c.args.one.now in
@@ -15,6 +16,7 @@ loop-uid-init c =
       kept = λ before. before;
     }
 
+-- the descendants of one more action are done with
 pub loop-uid-preserved-in-Continue-1 : goal.loop-uid-preserved-in-Continue-1
 loop-uid-preserved-in-Continue-1 c =
     let one = schema_of c.args.one.now in
@@ -26,6 +28,7 @@ loop-uid-preserved-in-Continue-1 c =
       kept = λ before. c.in_ok-add_descendants.ensures.kept (c.loop-uid.invariant.kept before);
     }
 
+-- a uid under which the schema has no action has no descendants either
 pub loop-uid-preserved : goal.loop-uid-preserved
 loop-uid-preserved c =
     let one = schema_of c.args.one.now in
@@ -37,10 +40,12 @@ loop-uid-preserved c =
       kept = c.loop-uid.invariant.kept;
     }
 
+-- where no action is left, one is kept for each descendant that the other schema doesn't list
 pub returns-clause-told : goal.returns-clause-told
 returns-clause-told c = λ before.
     no_action_left (schema_of c.args.one.now) (schema_of c.args.other.now) (map uid_of c.loop-uid.uid-iterator) c.loop-uid.uppers
     (ap (map uid_of) c.in-None.ensures.steps.0) (c.loop-uid.invariant.told before)
 
+-- what is kept for each action still holds for the two schemas turned round
 pub returns-clause-kept : goal.returns-clause-kept
 returns-clause-kept c = c.loop-uid.invariant.kept

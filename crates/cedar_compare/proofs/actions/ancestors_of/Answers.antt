@@ -7,6 +7,7 @@ use Rattle.cedar_compare.proofs.ToldLemmas.{none_there}
 use Rattle.cedar_fragments.proofs.SetLemmas.{inserted, only}
 use Rattle.cedar_compare.proofs.actions.ancestors_of.Goals as goal
 
+-- at first none of the ancestors is copied, and all are left
 pub loop-uid-init : goal.loop-uid-init
 loop-uid-init c = λ uid.
     let all = ap (map uid_of) c.into_iter-uid-iterator.ensures.into_iter_gives ∙ c.ancestors-uid-items.ensures.ancestors in
@@ -15,6 +16,7 @@ loop-uid-init c = λ uid.
       λ either. ⊎_elim (λ here. absurd (none_there uid (subst (λ xs. Contains xs uid) none here))) (λ there. subst (λ xs. Contains xs uid) all there) either,
     )
 
+-- one more ancestor is copied: it is no longer left, but among the copies
 pub loop-uid-preserved : goal.loop-uid-preserved
 loop-uid-preserved c = λ uid.
     let before = c.loop-uid.ancestors.keys in
@@ -42,6 +44,7 @@ loop-uid-preserved c = λ uid.
           either),
     )
 
+-- where no ancestor is left, the copies are all of them
 pub returns : goal.returns
 returns c = λ uid.
     let none = ap (map uid_of) c.in-None.ensures.steps.0 in (

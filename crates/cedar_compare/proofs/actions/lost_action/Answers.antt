@@ -5,6 +5,7 @@ use Rattle.cedar_compare.specs.Words.{Cause, IsActionAnswer, IsActionCause, IsEn
 use Rattle.cedar_compare.proofs.ActionLemmas.{kept_defined, kept_of_type, lost_by_cause, of_type_alike}
 use Rattle.cedar_compare.proofs.actions.lost_action.Goals as goal
 
+-- an entity that is of one of the new version's entity types is kept
 pub returns-then-is_bare_of_type : goal.returns-then-is_bare_of_type
 returns-then-is_bare_of_type c =
     let versions = c.args.versions.now in
@@ -12,6 +13,7 @@ returns-then-is_bare_of_type c =
     kept_of_type extensions (old_of versions) (new_of versions) (plain_action_entity c.args.entity.now) c.requires.entity
     ((c.is_bare_of_type.ensures extensions).0 c.if-is_bare_of_type.true)
 
+-- the action is kept where the new version defines it and the same actions stand above it
 pub returns-in-None : goal.returns-in-None
 returns-in-None c =
     let versions = c.args.versions.now in
@@ -23,6 +25,7 @@ returns-in-None c =
     (subst (λ (o : Option Cause). IsActionAnswer old new (uid_of c.uid.result.now) (option_map plain_cause o)) c.in-None.is c.in_ok-cause.ensures) in
     kept_defined versions.extensions.now old new uid alike.0 alike.1 alike.2
 
+-- the entity is of no entity type of the new version, so with a true cause its copy is a witness
 pub returns-in_ok-copied-in-Some : goal.returns-in_ok-copied-in-Some
 returns-in_ok-copied-in-Some c =
     let versions = c.args.versions.now in

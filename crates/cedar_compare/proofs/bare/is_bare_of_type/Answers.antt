@@ -6,6 +6,7 @@ use Rattle.cedar_compare.proofs.NoTags.{no_tags}
 use Rattle.cedar_compare.proofs.LostLemmas.{of_parts, parts_of}
 use Rattle.cedar_compare.proofs.bare.is_bare_of_type.Goals as goal
 
+-- an entity whose entity type the schema lacks is of none
 pub returns-in_default : goal.returns-in_default
 returns-in_default c = λ extensions.
     let schema = schema_of c.args.schema.now in
@@ -14,6 +15,7 @@ returns-in_default c = λ extensions.
       λ (ty, among, of). absurd (c.in_default.ensures ty (subst (λ n. Contains schema.entity_types (n, ty)) (sym typed) among)),
     )
 
+-- no attribute is required, so the entity is of the type just where its ancestors may stand above it
 pub returns-then-requires_nothing : goal.returns-then-requires_nothing
 returns-then-requires_nothing c = λ extensions.
     let schema = schema_of c.args.schema.now in
@@ -37,6 +39,7 @@ returns-then-requires_nothing c = λ extensions.
           (parts_of extensions schema ty.kind it standard (of_its_kind extensions schema c.requires.keyed it ty there of)).2,
     )
 
+-- an attribute is required, and the entity has none, so it isn't of the type
 pub returns-else-requires_nothing : goal.returns-else-requires_nothing
 returns-else-requires_nothing c = λ extensions.
     let schema = schema_of c.args.schema.now in
@@ -53,6 +56,7 @@ returns-else-requires_nothing c = λ extensions.
           (parts_of extensions schema ty.kind it standard (of_its_kind extensions schema c.requires.keyed it ty there of)).0)),
     )
 
+-- a choice of an enumerated type is an entity of it just where it has no ancestors
 pub returns-then-has_choice : goal.returns-then-has_choice
 returns-then-has_choice c = λ extensions.
     let schema = schema_of c.args.schema.now in
@@ -73,6 +77,7 @@ returns-then-has_choice c = λ extensions.
           (subst (λ (k : EntityTypeKind). IsEntityOfKind extensions schema k it) kind (of_its_kind extensions schema c.requires.keyed it ty there of)).3,
     )
 
+-- an id that is no choice of an enumerated type is that of none of its entities
 pub returns-else-has_choice : goal.returns-else-has_choice
 returns-else-has_choice c = λ extensions.
     let schema = schema_of c.args.schema.now in
@@ -87,6 +92,7 @@ returns-else-has_choice c = λ extensions.
           (subst (λ (k : EntityTypeKind). IsEntityOfKind extensions schema k it) kind (of_its_kind extensions schema c.requires.keyed it ty there of)).0),
     )
 
+-- a type that is declared elsewhere has no entities here
 pub returns-in-External : goal.returns-in-External
 returns-in-External c = λ extensions.
     let schema = schema_of c.args.schema.now in

@@ -4,6 +4,7 @@ use Rattle.cedar_compare.specs.Words.{MayHave, Text, choice_texts, plain_type, s
 use Rattle.cedar_compare.proofs.StandLemmas.{may_stand, stands_listed, stands_with}
 use Rattle.cedar_compare.proofs.bare.may_stand_above.Goals as goal
 
+-- a uid whose entity type the schema lacks may stand above nothing
 pub returns-in_default : goal.returns-in_default
 returns-in_default c =
     let schema = schema_of c.args.schema.now in (
@@ -12,6 +13,7 @@ returns-in_default c =
           (subst (λ n. Contains schema.entity_types (n, above.0)) (sym c.entity_type.ensures.name) above.1)),
     )
 
+-- a uid whose type doesn't list the lower type may not stand above its entities
 pub returns-then-not-has_descendant_entity_type : goal.returns-then-not-has_descendant_entity_type
 returns-then-not-has_descendant_entity_type c =
     let schema = schema_of c.args.schema.now in
@@ -23,6 +25,7 @@ returns-then-not-has_descendant_entity_type c =
           ∙ c.has_descendant_entity_type.ensures.1 (stands_listed schema (type_name c.args.name.now) upper ty there c.requires above))),
     )
 
+-- a uid of an enumerated type that lists the lower type may stand there just where it is a choice
 pub returns-in-Some-choices_of : goal.returns-in-Some-choices_of
 returns-in-Some-choices_of c =
     let schema = schema_of c.args.schema.now in

@@ -7,6 +7,7 @@ use Rattle.cedar_compare.proofs.SampledLemmas.{schema_inhabited}
 use Rattle.cedar_compare.specs.Words.{GivesLeaf, IsInhabitedWith, TypeIterator, leaves_of, pending_types, schema_leaves, schema_of, ty_of, value_trees}
 use Rattle.cedar_compare.proofs.comparing.unsampled.Goals as goal
 
+-- at first all leaves of the types in the schema are left to be looked at
 pub loop-ty-init : goal.loop-ty-init
 loop-ty-init c =
     let schema = schema_of c.args.schema.now in
@@ -16,6 +17,7 @@ loop-ty-init c =
     (subst (λ (it : TypeIterator). IsPermutation all (leaves_of (pending_types it))) (sym c.into_iter-ty-iterator.ensures.into_iter_gives)
     c.in_ok-ty-items.ensures)
 
+-- a leaf that the samples don't inhabit stands in the schema, and its text is given back
 pub returns-then-not-is_sampled-clause-some : goal.returns-then-not-is_sampled-clause-some
 returns-then-not-is_sampled-clause-some c =
     let schema = schema_of c.args.schema.now in
@@ -32,6 +34,7 @@ returns-then-not-is_sampled-clause-some c =
       c.in_ok-to_string.ensures.ok,
     )
 
+-- one more leaf is inhabited by the samples
 pub loop-ty-preserved : goal.loop-ty-preserved
 loop-ty-preserved c =
     let schema = schema_of c.args.schema.now in
@@ -44,6 +47,7 @@ loop-ty-preserved c =
     leaf_next (IsInhabitedWith c.args.extensions.now (value_trees c.args.samples.now)) all (leaves_of before) (leaves_of after) ty
     leaf (c.is_sampled.ensures.sampled.0 c.if-not-is_sampled.false) c.loop-ty.invariant
 
+-- where no leaf is left, all are inhabited, and so each type in the schema is
 pub returns-clause-none : goal.returns-clause-none
 returns-clause-none c =
     let schema = schema_of c.args.schema.now in

@@ -8,12 +8,14 @@ use Rattle.cedar_compare.proofs.ToldLemmas.{none_there}
 use Rattle.cedar_declarations.proofs.OccurrenceLemmas.{Contains-image}
 use Rattle.cedar_compare.proofs.entity_types.is_kept.Goals as goal
 
+-- an entity of one of the entity types of the new version is one of the new version
 pub returns-then-is_bare_of_type : goal.returns-then-is_bare_of_type
 returns-then-is_bare_of_type c = (
   λ _. inl ((c.is_bare_of_type.ensures c.args.versions.now.extensions.now).0 c.if-is_bare_of_type.true),
   λ _. refl,
 )
 
+-- the entity is that of the action of its uid just where the action has no ancestors
 pub returns-in-Some : goal.returns-in-Some
 returns-in-Some c =
     let versions = c.args.versions.now in
@@ -44,6 +46,7 @@ returns-in-Some c =
           in_new,
     )
 
+-- an entity of no entity type and of no action is none of the new version
 pub returns-in-None : goal.returns-in-None
 returns-in-None c =
     let versions = c.args.versions.now in

@@ -4,11 +4,13 @@ use Rattle.cedar_compare.specs.Words.{ActionEntity, EntityTypeKind, IsEntityIn, 
 use Rattle.cedar_compare.proofs.EntityLemmas.{real_entity}
 use Rattle.cedar_compare.proofs.entity_types.lost_choice.Goals as goal
 
+-- the choice's entity is one of the new version
 pub returns-then-is_kept : goal.returns-then-is_kept
 returns-then-is_kept c =
     let versions = c.args.versions.now in
     subst (IsEntityIn versions.extensions.now (new_of versions)) c.in_ok-witness.ensures (c.is_kept.ensures.0 c.if-is_kept.true)
 
+-- the choice's entity is none of the new version, or it would be kept
 pub choice_cause-requires-clause-lost : goal.choice_cause-requires-clause-lost
 choice_cause-requires-clause-lost c = λ in_new.
     let versions = c.args.versions.now in
@@ -16,6 +18,7 @@ choice_cause-requires-clause-lost c = λ in_new.
     false≢true (sym c.if-is_kept.false ∙ c.is_kept.ensures.1 (subst (IsEntityIn versions.extensions.now (new_of versions)) (sym c.in_ok-witness.ensures)
     (subst (λ (u : PlainUid). IsEntityIn versions.extensions.now (new_of versions) (bare_entity u.ty u.eid)) same in_new)))
 
+-- the choice's entity is one of the old version and none of the new, so it is a witness of the loss
 pub returns : goal.returns
 returns c =
     let versions = c.args.versions.now in

@@ -9,6 +9,7 @@ use Rattle.cedar_compare.proofs.ChoiceLemmas.{each_image}
 use Rattle.cedar_declarations.proofs.OccurrenceLemmas.{Contains-image}
 use Rattle.cedar_compare.proofs.entity_types.lost_enumerated.Goals as goal
 
+-- an id of the tail is one of the choices of the type
 pub lost_choice-requires-in-loop-eid-clause-old : goal.lost_choice-requires-in-loop-eid-clause-old
 lost_choice-requires-in-loop-eid-clause-old c =
     let eid = c.eid-item.result in
@@ -27,6 +28,7 @@ lost_choice-requires-in-loop-eid-clause-old c =
       ),
     )
 
+-- the first choice was kept, and none of the others is looked at yet
 pub loop-eid-init : goal.loop-eid-init
 loop-eid-init c =
     let versions = c.args.versions.now in
@@ -37,6 +39,7 @@ loop-eid-init c =
       tail = λ k d below. absurd (omega (arith, below));
     }
 
+-- one more choice was kept
 pub loop-eid-preserved : goal.loop-eid-preserved
 loop-eid-preserved c =
     let versions = c.args.versions.now in
@@ -50,6 +53,7 @@ loop-eid-preserved c =
           (subst P c.eid-item.is here);
     }
 
+-- each choice was kept, and an entity of the type is one of its choices and nothing else
 pub returns : goal.returns
 returns c = λ it named real of.
     let versions = c.args.versions.now in

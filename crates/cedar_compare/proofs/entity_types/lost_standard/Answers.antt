@@ -6,6 +6,7 @@ use Rattle.cedar_compare.proofs.LostLemmas.{attributes_loss}
 use Rattle.cedar_compare.proofs.SampledLemmas.{attributes_sampled}
 use Rattle.cedar_compare.proofs.entity_types.lost_standard.Goals as goal
 
+-- the samples inhabit the types of the attributes, as they do all types in the old version
 pub attributes_outside-requires : goal.attributes_outside-requires
 attributes_outside-requires c =
     let versions = c.args.versions.now in
@@ -14,12 +15,14 @@ attributes_outside-requires c =
     (attributes_sampled versions.extensions.now samples (old_of versions) (type_name c.args.name.now) (plain_type c.args.old.now)
     c.requires.versions.sampled c.requires.old c.requires.standard)
 
+-- the new version has one entity type of the name, and it isn't standard
 pub gone-requires-then-not-is_standard-clause-lacking : goal.gone-requires-then-not-is_standard-clause-lacking
 gone-requires-then-not-is_standard-clause-lacking c = λ other among standard.
     let new = plain_type c.in-Some.new.now in
     let same = c.requires.versions.new_keyed.types (type_name c.args.name.now) other new among c.in-Some.ensures in
     false≢true (sym c.if-not-is_standard.true ∙ c.is_standard.ensures.1 (subst (λ (t : SchemaEntityType). IsStandard t.kind) same standard))
 
+-- an entity is lost whose attributes the old version admits and the new one doesn't
 pub returns-in-Some-found : goal.returns-in-Some-found
 returns-in-Some-found c =
     let versions = c.args.versions.now in
@@ -48,6 +51,7 @@ returns-in-Some-found c =
     (subst (λ t. IsOutsideAt extensions (steps_of found.steps) t (record_of (kind_fields new.kind) (kind_openness new.kind))) lower
     (subst (IsOutsideAt extensions (steps_of found.steps) (record_of (fields_of c.attributes.result.now) c.open_attributes.result)) upper steps))
 
+-- where the new version admits all attributes of the old one, the answer is what is found beside them
 pub returns : goal.returns
 returns c =
     let versions = c.args.versions.now in

@@ -6,6 +6,7 @@ use Rattle.cedar_compare.proofs.CompareLemmas.{entities_sorted, member_of_action
 use Rattle.cedar_compare.proofs.ToldLemmas.{told_all}
 use Rattle.cedar_compare.proofs.losses.lost_actions.Goals as goal
 
+-- at first nothing is told, and the entities of all actions are left, in the order of their uids
 pub loop-entity-init : goal.loop-entity-init
 loop-entity-init c =
     let versions = c.args.versions.now in
@@ -19,6 +20,7 @@ loop-entity-init c =
       among = λ it there. subst (λ (xs : List Entity). Contains xs it) are there;
     }
 
+-- each of the entities is that of an action of the old version
 pub lost_action-requires-clause-entity : goal.lost_action-requires-clause-entity
 lost_action-requires-clause-entity c =
     let first = c.in-Some.entity.now in
@@ -27,6 +29,7 @@ lost_action-requires-clause-entity c =
     (c.loop-entity.invariant.among first (subst (λ (xs : List Entity). Contains xs first) (sym c.in-Some.ensures.steps)
     (Contains-cons first c.next.new.self first (inl refl))))
 
+-- the entity of one more action is lost, and its difference is told
 pub loop-entity-preserved-in-Continue-branch-4 : goal.loop-entity-preserved-in-Continue-branch-4
 loop-entity-preserved-in-Continue-branch-4 c =
     let versions = c.args.versions.now in
@@ -41,6 +44,7 @@ loop-entity-preserved-in-Continue-branch-4 c =
           (Contains-cons first c.next.new.self it (inr there)));
     }
 
+-- the entity of one more action is kept, and nothing is told of it
 pub loop-entity-preserved : goal.loop-entity-preserved
 loop-entity-preserved c =
     let versions = c.args.versions.now in
@@ -54,6 +58,7 @@ loop-entity-preserved c =
           (Contains-cons first c.next.new.self it (inr there)));
     }
 
+-- where no entity is left, each is kept or told
 pub returns : goal.returns
 returns c =
     let versions = c.args.versions.now in

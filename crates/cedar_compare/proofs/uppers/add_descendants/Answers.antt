@@ -6,6 +6,7 @@ use Rattle.cedar_compare.specs.Words.{AreUppersSoFar, MayStandAbove, PlainName, 
 use Rattle.cedar_compare.proofs.UpperLemmas.{IsLeftOf, below_it, found_put, left_first, left_none, left_past, may_above, none_kept, not_above, past_kept, past_there, still_above}
 use Rattle.cedar_compare.proofs.uppers.add_descendants.Goals as goal
 
+-- at first all descendants of the entity type are left
 pub loop-lower-init : goal.loop-lower-init
 loop-lower-init c =
     let old = old_of c.args.versions.now in
@@ -23,6 +24,7 @@ loop-lower-init c =
       listed = λ lower there. subst (λ xs. Contains xs lower) lowers there;
     }
 
+-- a descendant loses nothing where each uid of the type still may stand above it in the new version
 pub loop-lower-preserved-then-is_still_above : goal.loop-lower-preserved-then-is_still_above
 loop-lower-preserved-then-is_still_above c =
     let old = old_of c.args.versions.now in
@@ -40,6 +42,7 @@ loop-lower-preserved-then-is_still_above c =
       listed = λ other there. c.loop-lower.invariant.listed other (subst (λ xs. Contains xs other) (sym steps) (Contains-cons (type_name c.in-Some.lower.now) (map type_name c.next.new.self) other (inr there)));
     }
 
+-- a descendant for which a uid is kept needs no other one
 pub loop-lower-preserved-then-contains_key : goal.loop-lower-preserved-then-contains_key
 loop-lower-preserved-then-contains_key c =
     let old = old_of c.args.versions.now in
@@ -53,6 +56,7 @@ loop-lower-preserved-then-contains_key c =
       listed = λ other there. c.loop-lower.invariant.listed other (subst (λ xs. Contains xs other) (sym steps) (Contains-cons (type_name c.in-Some.lower.now) (map type_name c.next.new.self) other (inr there)));
     }
 
+-- the uid may stand above the descendant in the old version and not in the new, and is kept for it
 pub loop-lower-preserved : goal.loop-lower-preserved
 loop-lower-preserved c =
     let steps = ap (map type_name) c.in-Some.ensures.steps in
@@ -88,6 +92,7 @@ loop-lower-preserved c =
       listed = λ other there. c.loop-lower.invariant.listed other (subst (λ xs. Contains xs other) (sym steps) (Contains-cons (type_name c.in-Some.lower.now) (map type_name c.next.new.self) other (inr there)));
     }
 
+-- where no descendant is left, the uids of this entity type are done with
 pub returns : goal.returns
 returns c = λ left so_far.
     left_none (old_of c.args.versions.now) (new_of c.args.versions.now) (type_name c.args.name.now) left (map type_name c.loop-lower.lower-iterator)

@@ -11,6 +11,7 @@ use Rattle.cedar_json.proofs.FieldLemmas.{nth_member-is}
 use Rattle.cedar_json.proofs.TypeLemmas.{members_from_index}
 use Rattle.cedar_json.proofs.definition_reading.read_namespaces.Goals as goal
 
+-- the refused key is that of the member at the index that the fault names
 pub returns-in_err-name-clause-place : goal.returns-in_err-name-clause-place
 returns-in_err-name-clause-place c =
     let x = c.member-item.result in
@@ -19,6 +20,7 @@ returns-in_err-name-clause-place c =
     let p = err_from_is_err_and c.from_residual.result c.from_residual.ensures.1 in
     rw (p.1, p.2) (c.in_err-name.ensures.place (object (members_view c.args.members.now.items)) (value_view x.1) here)
 
+-- the fault of a member's value is found in the object at the index of the member
 pub returns-in-Err-clause-place : goal.returns-in-Err-clause-place
 returns-in-Err-clause-place c =
     let x = c.member-item.result in
@@ -26,6 +28,7 @@ returns-in-Err-clause-place c =
     c.loop-index-test.true c.member-item.is in
     c.in_member.ensures.place (object (members_view c.args.members.now.items)) (x.0.now, value_view x.1) here c.in-Err.ensures.place
 
+-- one more namespace is read and put under its name
 pub loop-index-preserved : goal.loop-index-preserved
 loop-index-preserved c =
     let x = c.member-item.result in
@@ -35,6 +38,7 @@ loop-index-preserved c =
     entry_more (option_cmp ((name_ord.ghosts).cmp)) (option_cmp name_cmp) (option_map plain_name) written_definition namespace_order namespace_key definition_of all c.loop-index.index x c.loop-index.all.entries here c.loop-index.invariant
     c.in_ok-name.name c.in-Ok.it c.put.new.map.entries c.in_ok-name.ensures.value c.in-Ok.ensures.value (search rules)
 
+-- where the key of one member can name no namespace, all together describe no namespaces
 pub returns-in_err-name-clause-value : goal.returns-in_err-name-clause-value
 returns-in_err-name-clause-value c =
     let x = c.member-item.result in
@@ -44,6 +48,7 @@ returns-in_err-name-clause-value c =
     let p = err_from_is_err_and c.from_residual.result c.from_residual.ensures.1 in
     rw (p.1, p.2) (λ other. no_key (option_cmp ((name_ord.ghosts).cmp)) (option_cmp name_cmp) (option_map plain_name) written_definition namespace_order namespace_key definition_of all c.loop-index.index x c.loop-index.all.entries here c.loop-index.invariant (c.in_err-name.ensures.value other))
 
+-- where the value of one member defines no namespace, all together describe none
 pub returns-in-Err-clause-value : goal.returns-in-Err-clause-value
 returns-in-Err-clause-value c =
     let x = c.member-item.result in
@@ -53,6 +58,7 @@ returns-in-Err-clause-value c =
     λ other. no_entry (option_cmp ((name_ord.ghosts).cmp)) (option_cmp name_cmp) (option_map plain_name) written_definition namespace_order namespace_key definition_of all c.loop-index.index x c.loop-index.all.entries here c.loop-index.invariant
     (c.in-Err.ensures.value (c.in_member.ensures.memory other))
 
+-- where no member is left, all namespaces were read
 pub returns-clause-value : goal.returns-clause-value
 returns-clause-value c =
     all_entries (option_cmp ((name_ord.ghosts).cmp)) (option_cmp name_cmp) (option_map plain_name) written_definition namespace_order namespace_key definition_of c.deref-member-items.result.now c.args.members.now.items c.loop-index.index c.loop-index.all.entries

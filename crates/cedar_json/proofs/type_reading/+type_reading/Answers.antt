@@ -11,27 +11,32 @@ use Rattle.cedar_json.proofs.FieldLemmas.{get-smaller, nth_member-is, object_fie
 use Rattle.cedar_json.proofs.TypeLemmas.{all_read, attribute_read, attributes_field-held, attributes_field-none, described_too, element_field-held, members_from_index, no_annotations, no_attribute, no_required, no_type, one_more, raw_attribute-made, raw_record-made, type_by_word-other, type_with-known}
 use Rattle.cedar_json.proofs.type_reading.+type_reading.Goals as goal
 
+-- a value describes no attribute where its field `required` is no flag
 pub read_attribute-returns-in_err-required-clause-value : goal.read_attribute-returns-in_err-required-clause-value
 read_attribute-returns-in_err-required-clause-value t c =
     let p = err_from_is_err_and c.from_residual.result c.from_residual.ensures.1 in
     rw (p.1, p.2) (λ other. no_required (value_view c.args.value.now) c.in_err-required.ensures.value)
 
+-- a value describes no attribute where its field `annotations` holds no annotations
 pub read_attribute-returns-in_err-check_annotations-clause-value : goal.read_attribute-returns-in_err-check_annotations-clause-value
 read_attribute-returns-in_err-check_annotations-clause-value t c =
     let p = err_from_is_err_and c.from_residual-in_err-check_annotations.result c.from_residual-in_err-check_annotations.ensures.1 in
     rw (p.1, p.2) (λ other. no_annotations (value_view c.args.value.now) c.in_err-check_annotations.ensures.value)
 
+-- a value describes no attribute where it describes no type
 pub read_attribute-returns-in_err-ty-clause-value : goal.read_attribute-returns-in_err-ty-clause-value
 read_attribute-returns-in_err-ty-clause-value t c =
     let p = err_from_is_err_and c.from_residual-in_err-ty.result c.from_residual-in_err-ty.ensures.1 in
     rw (p.1, p.2) (λ other. no_type (value_view c.args.value.now) (c.in_err-ty.ensures.value other))
 
+-- the attribute described is the type and the flag that were read
 pub read_attribute-returns-clause-value : goal.read_attribute-returns-clause-value
 read_attribute-returns-clause-value t c =
     attribute_read (value_view c.args.value.now) c.in_ok-required.required (raw_expr None c.in_ok-ty.ty) c.in_ok-required.ensures.value
     c.in_ok-check_annotations.ensures.value c.in_ok-ty.ensures.value
     ∙ ap Some (sym (raw_attribute-made c.in_ok-ty.ty c.in_ok-required.required c.key_loc.result))
 
+-- the value of one member has fewer tokens than all members, so the reading ends
 pub read_attributes-read_attribute-requires : goal.read_attributes-read_attribute-requires
 read_attributes-read_attribute-requires t c =
     let xs = c.deref-member-items.result.now in
@@ -42,6 +47,7 @@ read_attributes-read_attribute-requires t c =
     let smaller : 4 * length (json_tokens (value_view x.1)) + 3 < 4 * length (members_tokens (members_view c.args.members.now.items)) = omega (arith, below) in
     search rules
 
+-- where one member describes no attribute, all together describe none
 pub read_attributes-returns-in-Err-clause-value : goal.read_attributes-returns-in-Err-clause-value
 read_attributes-returns-in-Err-clause-value t c =
     let x = c.member-item.result in
@@ -51,6 +57,7 @@ read_attributes-returns-in-Err-clause-value t c =
     λ other. no_attribute all c.loop-index.index x c.loop-index.attributes.entries here c.loop-index.invariant
     (c.in-Err.ensures.value (c.in_member.ensures.memory other))
 
+-- the fault of a member's value is found in the object at the index of the member
 pub read_attributes-returns-in-Err-clause-place : goal.read_attributes-returns-in-Err-clause-place
 read_attributes-returns-in-Err-clause-place t c =
     let x = c.member-item.result in
@@ -58,6 +65,7 @@ read_attributes-returns-in-Err-clause-place t c =
     c.loop-index-test.true c.member-item.is in
     c.in_member.ensures.place (object (members_view c.args.members.now.items)) (x.0.now, value_view x.1) here c.in-Err.ensures.place
 
+-- one more attribute is read and put under its name
 pub read_attributes-loop-index-preserved : goal.read_attributes-loop-index-preserved
 read_attributes-loop-index-preserved t c =
     let x = c.member-item.result in
@@ -67,11 +75,13 @@ read_attributes-loop-index-preserved t c =
     one_more all c.loop-index.index x c.loop-index.attributes.entries here c.loop-index.invariant c.in_ok-from_str-in-Ok.field-0 c.in-Ok.attribute
     c.put.new.map.entries c.in-Ok.ensures.value c.in_ok-from_str-in-Ok.ensures.ok (search rules)
 
+-- where no member is left, all attributes were read
 pub read_attributes-returns-clause-value : goal.read_attributes-returns-clause-value
 read_attributes-returns-clause-value t c =
     all_read c.deref-member-items.result.now c.args.members.now.items c.loop-index.index c.loop-index.attributes.entries
     c.deref-member-items.ensures.value c.loop-index-test.false c.loop-index.invariant
 
+-- the value of the field `element` has fewer tokens than the whole value, so the reading ends
 pub read_set-read_type_of-requires : goal.read_set-read_type_of-requires
 read_set-read_type_of-requires t c =
     let below : length (json_tokens (value_view c.in_ok-held.held.now)) < length (json_tokens (value_view c.args.value.now)) =
@@ -80,6 +90,7 @@ read_set-read_type_of-requires t c =
     omega (arith, below) in
     search rules
 
+-- the type described is that of sets of what the field `element` describes
 pub read_set-returns-in_ok-element-in-Ok-clause-value : goal.read_set-returns-in_ok-element-in-Ok-clause-value
 read_set-returns-in_ok-element-in-Ok-clause-value t c =
     let made = c.plain_type.ensures ∙ variant-Set RawName (raw_reference None) c.in_ok-element-in-Ok.element
@@ -87,57 +98,67 @@ read_set-returns-in_ok-element-in-Ok-clause-value t c =
     ap (option_map set_expr) (element_field-held (value_view c.args.value.now) (value_view c.in_ok-held.held.now) c.in_ok-held.ensures.value
     ∙ c.in-Ok.ensures.value) ∙ ap Some (sym made)
 
+-- where the field `element` describes no type, there is no type of such sets
 pub read_set-returns-in-Err-clause-value : goal.read_set-returns-in-Err-clause-value
 read_set-returns-in-Err-clause-value t c =
     λ other. ap (option_map set_expr) (element_field-held (value_view c.args.value.now) (value_view c.in_ok-held.held.now) c.in_ok-held.ensures.value
     ∙ c.in-Err.ensures.value (c.within.ensures.memory other))
 
+-- where all fields are known, the type is that of the word in the field `type`
 pub read_type_of-returns-clause-value : goal.read_type_of-returns-clause-value
 read_type_of-returns-clause-value t c =
     described_too c.read_type_by.result (raw_expr None) _ _
     (type_with-known c.args.row (value_view c.args.value.now) c.in_ok-word.word.now c.in_ok-word.ensures.value c.in_ok-check_fields.ensures.value)
     c.read_type_by.ensures.value
 
+-- the word is what the field `type` holds, so a fault of the word is true of the value
 pub read_type_of-returns-clause-place : goal.read_type_of-returns-clause-place
 read_type_of-returns-clause-place t c =
     IfErr-weaker c.read_type_by.result _ _ (λ fault true_of. true_of c.in_ok-word.ensures.value) c.read_type_by.ensures.place
 
+-- the word `String` stands for the string type
 pub read_type_by-returns-in-String-clause-value : goal.read_type_by-returns-in-String-clause-value
 read_type_by-returns-in-String-clause-value t c =
     let j = value_view c.args.value.now in
     let named = ap (λ word. type_by_word word (element_field j) (attributes_field j) (additional_field j) (text_held (codes "name") j)) c.in-String.is in
     named ∙ ap Some (sym (c.plain_type.ensures ∙ variant-String RawName (raw_reference None)))
 
+-- the word `Long` stands for the long type
 pub read_type_by-returns-in-Long-clause-value : goal.read_type_by-returns-in-Long-clause-value
 read_type_by-returns-in-Long-clause-value t c =
     let j = value_view c.args.value.now in
     let named = ap (λ word. type_by_word word (element_field j) (attributes_field j) (additional_field j) (text_held (codes "name") j)) c.in-Long.is in
     named ∙ ap Some (sym (c.plain_type-in-Long.ensures ∙ variant-Long RawName (raw_reference None)))
 
+-- the word `Boolean` stands for the boolean type
 pub read_type_by-returns-in-Boolean-clause-value : goal.read_type_by-returns-in-Boolean-clause-value
 read_type_by-returns-in-Boolean-clause-value t c =
     let j = value_view c.args.value.now in
     let named = ap (λ word. type_by_word word (element_field j) (attributes_field j) (additional_field j) (text_held (codes "name") j)) c.in-Boolean.is in
     named ∙ ap Some (sym (c.plain_type-in-Boolean.ensures ∙ variant-Boolean RawName (raw_reference None)))
 
+-- the word `Set` stands for the set type that the field `element` tells
 pub read_type_by-returns-in-Set-clause-value : goal.read_type_by-returns-in-Set-clause-value
 read_type_by-returns-in-Set-clause-value t c =
     let j = value_view c.args.value.now in
     let named = ap (λ word. type_by_word word (element_field j) (attributes_field j) (additional_field j) (text_held (codes "name") j)) c.in-Set.is in
     described_too c.read_set.result (raw_expr None) _ _ named c.read_set.ensures.value
 
+-- the word `Record` stands for the record type that the fields of the attributes tell
 pub read_type_by-returns-in-Record-clause-value : goal.read_type_by-returns-in-Record-clause-value
 read_type_by-returns-in-Record-clause-value t c =
     let j = value_view c.args.value.now in
     let named = ap (λ word. type_by_word word (element_field j) (attributes_field j) (additional_field j) (text_held (codes "name") j)) c.in-Record.is in
     described_too c.read_record.result (raw_expr None) _ _ named c.read_record.ensures.value
 
+-- the word `Extension` stands for the extension type that the field `name` tells
 pub read_type_by-returns-in-Extension-clause-value : goal.read_type_by-returns-in-Extension-clause-value
 read_type_by-returns-in-Extension-clause-value t c =
     let j = value_view c.args.value.now in
     let named = ap (λ word. type_by_word word (element_field j) (attributes_field j) (additional_field j) (text_held (codes "name") j)) c.in-Extension.is in
     described_too c.extension_type.result (raw_expr None) _ _ named c.extension_type.ensures.value
 
+-- any other word is the name of a common type
 pub read_type_by-returns-in_default-clause-value : goal.read_type_by-returns-in_default-clause-value
 read_type_by-returns-in_default-clause-value t c =
     let j = value_view c.args.value.now in
@@ -153,12 +174,14 @@ read_type_by-returns-in_default-clause-value t c =
     }) in
     described_too c.common_type.result (raw_expr None) _ _ other c.common_type.ensures.value
 
+-- a value describes no record type where its field `attributes` holds no object
 pub read_record-returns-in_err-members-clause-value : goal.read_record-returns-in_err-members-clause-value
 read_record-returns-in_err-members-clause-value t c =
     let j = value_view c.args.value.now in
     let p = err_from_is_err_and c.from_residual-in_err-members.result c.from_residual-in_err-members.ensures.1 in
     rw (p.1, p.2) (λ other. ap (record_of (additional_field j)) (attributes_field-none j c.in_err-members.ensures.value))
 
+-- the members of the field `attributes` have fewer tokens than the whole value, so the reading ends
 pub read_record-read_attributes-requires : goal.read_record-read_attributes-requires
 read_record-read_attributes-requires t c =
     let below : length (members_tokens (members_view c.in_ok-members.members.now.items)) < length (json_tokens (value_view c.args.value.now)) =
@@ -167,6 +190,7 @@ read_record-read_attributes-requires t c =
     omega (arith, below) in
     search rules
 
+-- the record type described is the attributes and the flag that were read
 pub read_record-returns-in-Ok-clause-value : goal.read_record-returns-in-Ok-clause-value
 read_record-returns-in-Ok-clause-value t c =
     let j = value_view c.args.value.now in
@@ -178,12 +202,14 @@ read_record-returns-in-Ok-clause-value t c =
     ap (record_of (additional_field j)) (attributes_field-held j _ c.in_ok-members.ensures.value ∙ c.in-Ok.ensures.value)
     ∙ ap (option_map (record_expr (members_from all))) c.in_ok-additional_attributes.ensures.value ∙ ap Some (sym made)
 
+-- a value describes no record type where the members of its field `attributes` describe no attributes
 pub read_record-returns-in-Err-clause-value : goal.read_record-returns-in-Err-clause-value
 read_record-returns-in-Err-clause-value t c =
     let j = value_view c.args.value.now in
     λ other. ap (record_of (additional_field j)) (attributes_field-held j _ c.in_ok-members.ensures.value
     ∙ c.in-Err.ensures.value (c.within.ensures.memory other))
 
+-- the fault of the attributes is found in the value under `attributes`
 pub read_record-returns-in-Err-clause-place : goal.read_record-returns-in-Err-clause-place
 read_record-returns-in-Err-clause-place t c =
     let j = value_view c.args.value.now in

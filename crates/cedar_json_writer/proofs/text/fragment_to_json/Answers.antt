@@ -8,6 +8,7 @@ use Rattle.cedar_json_writer.specs.Words.{fragment_document, written_fragment}
 use Rattle.cedar_json_writer.proofs.WrittenText.{deep_text, described_text, writable_text}
 use Rattle.cedar_json_writer.proofs.text.fragment_to_json.Goals as goal
 
+-- no part has a flaw, and as the text is valid JSON the fragment doesn't nest too deep
 pub returns-then-branch-clause-writable : goal.returns-then-branch-clause-writable
 returns-then-branch-clause-writable c =
     let it = written_fragment c.args.fragment.now in
@@ -19,6 +20,7 @@ returns-then-branch-clause-writable c =
     let valid : IsSome (document text) = subst (λ (bytes : List ℕ). IsSome (document bytes)) c.as_str.ensures.value (c.in_ok-is_valid.ensures.ok.0 c.if-branch.true) in
     writable_text text it written c.in_ok-write_fragment.ensures.checked.flawless valid
 
+-- the text is valid JSON and has the tokens of the fragment's document, so it describes the fragment
 pub returns-then-branch-clause-described : goal.returns-then-branch-clause-described
 returns-then-branch-clause-described c =
     let it = written_fragment c.args.fragment.now in
@@ -31,6 +33,7 @@ returns-then-branch-clause-described c =
     let utf8 : IsUtf8 text = subst IsUtf8 (sym same) c.into_inner.ensures.utf8 in
     described_text text it utf8 written c.in_ok-write_fragment.ensures.checked valid
 
+-- the text isn't valid JSON, so the fragment nests too deep
 pub returns-else-branch-clause-fault : goal.returns-else-branch-clause-fault
 returns-else-branch-clause-fault c =
     let it = written_fragment c.args.fragment.now in

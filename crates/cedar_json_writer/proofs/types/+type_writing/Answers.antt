@@ -9,66 +9,79 @@ use Rattle.cedar_json_writer.proofs.WritingLemmas.{begun, member_flaw, members_a
 use Rattle.cedar_json_writer.proofs.WrittenTypes.{FreeType, attributes_shape, either_fields, either_free, entity_fields, entity_free, extension_free, listed, long_fields, long_free, record_fields, record_flaw, record_free, set_fields, set_flaw, set_free, text_fields, text_free, truth_fields, truth_free}
 use Rattle.cedar_json_writer.proofs.types.+type_writing.Goals as goal
 
+-- the one field of the string type holds the word `String`
 pub write_variant-returns-in_ok-write_text_field-in-String-clause-written : goal.write_variant-returns-in_ok-write_text_field-in-String-clause-written
 write_variant-returns-in_ok-write_text_field-in-String-clause-written t c =
     subst (λ (ty : Expr). AddsFields c.args.out.now c.write_text_field.new.out (type_members ty))
     (sym (ap (raw_variant None) c.in-String.is ∙ raw_variant-String None))
     (text_fields c.args.out.now c.write_text_field.new.out c.in_ok-write_text_field-in-String.ensures)
 
+-- the string type has no flaws
 pub write_variant-returns-in_ok-write_text_field-in-String-clause-checked : goal.write_variant-returns-in_ok-write_text_field-in-String-clause-checked
 write_variant-returns-in_ok-write_text_field-in-String-clause-checked t c =
     subst FreeType (sym (ap (raw_variant None) c.in-String.is ∙ raw_variant-String None)) text_free
 
+-- the one field of the long type holds the word `Long`
 pub write_variant-returns-in_ok-write_text_field-in-Long-clause-written : goal.write_variant-returns-in_ok-write_text_field-in-Long-clause-written
 write_variant-returns-in_ok-write_text_field-in-Long-clause-written t c =
     subst (λ (ty : Expr). AddsFields c.args.out.now c.write_text_field-in-Long.new.out (type_members ty))
     (sym (ap (raw_variant None) c.in-Long.is ∙ raw_variant-Long None))
     (long_fields c.args.out.now c.write_text_field-in-Long.new.out c.in_ok-write_text_field-in-Long.ensures)
 
+-- the long type has no flaws
 pub write_variant-returns-in_ok-write_text_field-in-Long-clause-checked : goal.write_variant-returns-in_ok-write_text_field-in-Long-clause-checked
 write_variant-returns-in_ok-write_text_field-in-Long-clause-checked t c =
     subst FreeType (sym (ap (raw_variant None) c.in-Long.is ∙ raw_variant-Long None)) long_free
 
+-- the one field of the boolean type holds the word `Boolean`
 pub write_variant-returns-in_ok-write_text_field-in-Boolean-clause-written : goal.write_variant-returns-in_ok-write_text_field-in-Boolean-clause-written
 write_variant-returns-in_ok-write_text_field-in-Boolean-clause-written t c =
     subst (λ (ty : Expr). AddsFields c.args.out.now c.write_text_field-in-Boolean.new.out (type_members ty))
     (sym (ap (raw_variant None) c.in-Boolean.is ∙ raw_variant-Boolean None))
     (truth_fields c.args.out.now c.write_text_field-in-Boolean.new.out c.in_ok-write_text_field-in-Boolean.ensures)
 
+-- the boolean type has no flaws
 pub write_variant-returns-in_ok-write_text_field-in-Boolean-clause-checked : goal.write_variant-returns-in_ok-write_text_field-in-Boolean-clause-checked
 write_variant-returns-in_ok-write_text_field-in-Boolean-clause-checked t c =
     subst FreeType (sym (ap (raw_variant None) c.in-Boolean.is ∙ raw_variant-Boolean None)) truth_free
 
+-- a reference to an entity type is written as the word `Entity` and the name
 pub write_variant-returns-in_ok-write_named-in-Entity-clause-written : goal.write_variant-returns-in_ok-write_named-in-Entity-clause-written
 write_variant-returns-in_ok-write_named-in-Entity-clause-written t c =
     subst (λ (ty : Expr). AddsFields c.args.out.now c.write_named.new.out (type_members ty))
     (sym (ap (raw_variant None) c.in-Entity.is ∙ raw_variant-Entity None c.in-Entity.name))
     (entity_fields c.args.out.now c.write_named.new.out c.in-Entity.name c.in_ok-write_named-in-Entity.ensures)
 
+-- a reference to an entity type has no flaws
 pub write_variant-returns-in_ok-write_named-in-Entity-clause-checked : goal.write_variant-returns-in_ok-write_named-in-Entity-clause-checked
 write_variant-returns-in_ok-write_named-in-Entity-clause-checked t c =
     subst FreeType (sym (ap (raw_variant None) c.in-Entity.is ∙ raw_variant-Entity None c.in-Entity.name)) (entity_free c.in-Entity.name)
 
+-- a reference to an entity or common type is written as the word `EntityOrCommon` and the name
 pub write_variant-returns-in_ok-write_named-in-EntityOrCommon-clause-written : goal.write_variant-returns-in_ok-write_named-in-EntityOrCommon-clause-written
 write_variant-returns-in_ok-write_named-in-EntityOrCommon-clause-written t c =
     subst (λ (ty : Expr). AddsFields c.args.out.now c.write_named-in-EntityOrCommon.new.out (type_members ty))
     (sym (ap (raw_variant None) c.in-EntityOrCommon.is ∙ variant-EntityOrCommon RawName (raw_reference None) c.in-EntityOrCommon.type_name))
     (either_fields c.args.out.now c.write_named-in-EntityOrCommon.new.out c.in-EntityOrCommon.type_name c.in_ok-write_named-in-EntityOrCommon.ensures)
 
+-- a reference to an entity or common type has no flaws
 pub write_variant-returns-in_ok-write_named-in-EntityOrCommon-clause-checked : goal.write_variant-returns-in_ok-write_named-in-EntityOrCommon-clause-checked
 write_variant-returns-in_ok-write_named-in-EntityOrCommon-clause-checked t c =
     subst FreeType (sym (ap (raw_variant None) c.in-EntityOrCommon.is ∙ variant-EntityOrCommon RawName (raw_reference None) c.in-EntityOrCommon.type_name)) (either_free c.in-EntityOrCommon.type_name)
 
+-- an extension type has no flaws, as its name isn't reserved
 pub write_variant-returns-in_ok-write_extension-in-Extension-clause-checked : goal.write_variant-returns-in_ok-write_extension-in-Extension-clause-checked
 write_variant-returns-in_ok-write_extension-in-Extension-clause-checked t c =
     subst FreeType (sym (ap (raw_variant None) c.in-Extension.is ∙ variant-Extension RawName (raw_reference None) c.in-Extension.name))
     (extension_free c.in-Extension.name)
 
+-- a set type is written as the word `Set` and the type of its elements
 pub write_set-returns-clause-written : goal.write_set-returns-clause-written
 write_set-returns-clause-written t c =
     set_fields c.args.out.now c.write_text_field.new.out c.token.new.self c.write_type.new.out (raw_expr None c.args.element.now)
     c.in_ok-write_text_field.ensures c.in_ok-token.ensures.ok c.in_ok-write_type.ensures.written
 
+-- a record type is written as the word `Record`, the object of its attributes, and its flag if set
 pub write_record-returns-clause-written : goal.write_record-returns-clause-written
 write_record-returns-clause-written t c =
     let it = c.args.record_type.now in
@@ -81,9 +94,11 @@ write_record-returns-clause-written t c =
     (listed entries) (out-RecordType RawName it).additional_attributes c.in_ok-write_text_field.ensures c.in_ok-token.ensures.ok held
     c.in_ok-write_flag.ensures)
 
+-- at first all attributes are left, and none is written
 pub write_attributes-loop-name-init : goal.write_attributes-loop-name-init
 write_attributes-loop-name-init t c = begun attributes_shape _ _ _ _ refl c.into_iter-name-iterator.ensures.into_iter_gives.0
 
+-- one more attribute is written behind its name, and has no flaws
 pub write_attributes-loop-name-preserved : goal.write_attributes-loop-name-preserved
 write_attributes-loop-name-preserved t c =
     turn attributes_shape c.token.new.self c.loop-name.out c.token-in-loop-name.new.self c.write_attribute.new.out
@@ -92,6 +107,7 @@ write_attributes-loop-name-preserved t c =
     (c.in_ok-token-2.ensures.ok ∙ ap (λ (text : List ℕ). c.loop-name.out ++ key text ∷ []) c.as_str.ensures.value)
     c.in_ok-write_attribute.ensures.written c.in_ok-write_attribute.ensures.checked
 
+-- where no attribute is left, the object has all of them
 pub write_attributes-returns-clause-written : goal.write_attributes-returns-clause-written
 write_attributes-returns-clause-written t c =
     subst (λ (ty : Expr). AddsValue c.args.out.now c.token-2.new.self (object (attribute_members (attributes_of ty))))
@@ -100,6 +116,7 @@ write_attributes-returns-clause-written t c =
     (out-RecordType RawName c.args.record_type.now).attributes.entries c.loop-name.name-iterator c.loop-name.invariant
     c.in-None.ensures.steps.0 c.in_ok-token.ensures.ok c.in_ok-token-3.ensures.ok)
 
+-- no attribute had a flaw, and their names are in order, so the record type has none
 pub write_attributes-returns-clause-checked : goal.write_attributes-returns-clause-checked
 write_attributes-returns-clause-checked t c =
     let entries = (out-RecordType RawName c.args.record_type.now).attributes.entries in
@@ -109,6 +126,7 @@ write_attributes-returns-clause-checked t c =
     (members_free attributes_shape c.token.new.self c.loop-name.out entries c.loop-name.name-iterator c.loop-name.invariant
     c.in-None.ensures.steps.0))
 
+-- a flaw of one attribute is a flaw of the record type
 pub write_attributes-returns-in_err-write_attribute-clause-checked : goal.write_attributes-returns-in_err-write_attribute-clause-checked
 write_attributes-returns-in_err-write_attribute-clause-checked t c =
     let it = c.args.record_type.now in
@@ -120,16 +138,19 @@ write_attributes-returns-in_err-write_attribute-clause-checked t c =
     rw (p.1, p.2) (subst (λ (ty : Expr). IsFlawOf (type_flaws ty) f) (sym (raw_record-entries None it))
     (record_flaw (listed entries) (out-RecordType RawName it).additional_attributes f flawed))
 
+-- a type that refers to a common type has just the flaws of the reference
 pub write_fields-returns-in-CommonTypeRef-clause-checked : goal.write_fields-returns-in-CommonTypeRef-clause-checked
 write_fields-returns-in-CommonTypeRef-clause-checked t c =
     subst (λ (ty : Expr). IsChecked c.write_common.result (type_flaws ty) (SoundType ty))
     (sym (ap (raw_expr None) c.in-CommonTypeRef.is ∙ type-CommonTypeRef RawName (raw_reference None) c.in-CommonTypeRef.type_name _))
     c.write_common.ensures.checked
 
+-- a flaw of the element type is a flaw of the set type
 pub write_set-returns-in_err-write_type-clause-checked : goal.write_set-returns-in_err-write_type-clause-checked
 write_set-returns-in_err-write_type-clause-checked t c =
     let p = err_from_is_err_and c.from_residual-in_err-write_type.result c.from_residual-in_err-write_type.ensures.1 in
     rw (p.1, p.2) (set_flaw (raw_expr None c.args.element.now) _ c.in_err-write_type.ensures.checked)
 
+-- where the element type has no flaws, the set type has none
 pub write_set-returns-clause-checked : goal.write_set-returns-clause-checked
 write_set-returns-clause-checked t c = set_free (raw_expr None c.args.element.now) c.in_ok-write_type.ensures.checked

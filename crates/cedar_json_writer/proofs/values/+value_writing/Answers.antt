@@ -9,6 +9,7 @@ use Rattle.cedar_json_writer.proofs.WritingLemmas.{member_flaw, members_added, m
 use Rattle.cedar_json_writer.proofs.WrittenValues.{FreeValue, argument_flaw, arity_flaw, call_added, call_free, long_added, long_free, one_item, pairs_free, pairs_shape, record_document, record_free, record_key_flaw, record_value_flaw, text_added, text_free, tree_of-long, truth_added, truth_free, uid_free, values_added, values_flaw, values_free, values_turn}
 use Rattle.cedar_json_writer.proofs.values.+value_writing.Goals as goal
 
+-- one more value is written behind those before it, and has no flaws
 pub write_values-loop-value-preserved : goal.write_values-loop-value-preserved
 write_values-loop-value-preserved t c =
     let l = c.loop-value in
@@ -18,6 +19,7 @@ write_values-loop-value-preserved t c =
     values_turn c.token.new.self l.out c.write_value.new.out xs (drop l.value-index xs) (drop (l.value-index + 1) xs) x l.invariant here
     c.in_ok-write_value.ensures.written c.in_ok-write_value.ensures.checked
 
+-- where no value is left, the array has all of them
 pub write_values-returns-clause-written : goal.write_values-returns-clause-written
 write_values-returns-clause-written t c =
     let l = c.loop-value in
@@ -27,6 +29,7 @@ write_values-returns-clause-written t c =
     (values_added c.args.out.now c.token.new.self l.out c.token-2.new.self xs (drop l.value-index xs) l.invariant
     (drop_of_length-le xs c.loop-value-test.false) c.in_ok-token.ensures.ok c.in_ok-token-2.ensures.ok)
 
+-- none of the values had a flaw, so the set has none
 pub write_values-returns-clause-checked : goal.write_values-returns-clause-checked
 write_values-returns-clause-checked t c =
     let l = c.loop-value in
@@ -34,6 +37,7 @@ write_values-returns-clause-checked t c =
     subst (λ (each : List RestrictedExpr). FreeValue (set_value (trees_of each))) c.deref-value-items.ensures.value
     (values_free c.token.new.self l.out xs (drop l.value-index xs) l.invariant (drop_of_length-le xs c.loop-value-test.false))
 
+-- a flaw of one value is a flaw of the set
 pub write_values-returns-in_err-write_value-clause-checked : goal.write_values-returns-in_err-write_value-clause-checked
 write_values-returns-in_err-write_value-clause-checked t c =
     let l = c.loop-value in
@@ -46,6 +50,7 @@ write_values-returns-in_err-write_value-clause-checked t c =
     (values_flaw c.token.new.self l.out xs (drop l.value-index xs) (drop (l.value-index + 1) xs) x f l.invariant here
     c.in_err-write_value.ensures.checked))
 
+-- one more value is written behind its key, and has no flaws
 pub write_pairs-loop-name-preserved : goal.write_pairs-loop-name-preserved
 write_pairs-loop-name-preserved t c =
     turn (pairs_shape tree_of) c.token.new.self c.loop-name.out c.token-in-loop-name.new.self c.write_value.new.out
@@ -54,18 +59,21 @@ write_pairs-loop-name-preserved t c =
     (c.in_ok-token-2.ensures.ok ∙ ap (λ (text : List ℕ). c.loop-name.out ++ key text ∷ []) c.as_str.ensures.value)
     c.in_ok-write_value.ensures.written c.in_ok-write_value.ensures.checked
 
+-- where no value is left, the object has all of them
 pub write_pairs-returns-clause-written : goal.write_pairs-returns-clause-written
 write_pairs-returns-clause-written t c =
     members_added (pairs_shape tree_of) c.args.out.now c.token.new.self c.loop-name.out c.token-2.new.self
     c.args.values.now.entries c.loop-name.name-iterator c.loop-name.invariant
     c.in-None.ensures.steps.0 c.in_ok-token.ensures.ok c.in_ok-token-3.ensures.ok
 
+-- none of the values had a flaw, and their keys are in order
 pub write_pairs-returns-clause-checked : goal.write_pairs-returns-clause-checked
 write_pairs-returns-clause-checked t c =
     pairs_free tree_of c.args.values.now.entries c.into_iter-name-iterator.ensures.into_iter_gives.5
     (members_free (pairs_shape tree_of) c.token.new.self c.loop-name.out c.args.values.now.entries c.loop-name.name-iterator c.loop-name.invariant
     c.in-None.ensures.steps.0)
 
+-- a flaw of one value is a flaw of all together
 pub write_pairs-returns-in_err-write_value-clause-checked : goal.write_pairs-returns-in_err-write_value-clause-checked
 write_pairs-returns-in_err-write_value-clause-checked t c =
     let f = c.in_err-write_value.field-0.0 in
@@ -73,42 +81,51 @@ write_pairs-returns-in_err-write_value-clause-checked t c =
     rw (p.1, p.2) (member_flaw (pairs_shape tree_of) c.token.new.self c.loop-name.out c.args.values.now.entries c.loop-name.name-iterator c.next.new.self
     (c.in-Some.name.now, c.in-Some.value.now) f c.loop-name.invariant c.in-Some.ensures.steps c.in_err-write_value.ensures.checked)
 
+-- the document of a record is the object of its values
 pub write_record_value-returns-clause-written : goal.write_record_value-returns-clause-written
 write_record_value-returns-clause-written t c =
     subst (AddsValue c.args.out.now c.write_pairs.new.out) (record_document (entries_of c.args.values.now)) c.in_ok-write_pairs.ensures.written
 
+-- neither the keys nor the values have a flaw, so the record has none
 pub write_record_value-returns-clause-checked : goal.write_record_value-returns-clause-checked
 write_record_value-returns-clause-checked t c =
     record_free (entries_of c.args.values.now) c.in_ok-check_keys.ensures c.in_ok-write_pairs.ensures.checked
 
+-- a flaw of the keys is a flaw of the record
 pub write_record_value-returns-in_err-check_keys-clause-checked : goal.write_record_value-returns-in_err-check_keys-clause-checked
 write_record_value-returns-in_err-check_keys-clause-checked t c =
     let p = err_from_is_err_and c.from_residual.result c.from_residual.ensures.1 in
     rw (p.1, p.2) (record_key_flaw (entries_of c.args.values.now) _ c.in_err-check_keys.ensures)
 
+-- a flaw of the values is a flaw of the record
 pub write_record_value-returns-in_err-write_pairs-clause-checked : goal.write_record_value-returns-in_err-write_pairs-clause-checked
 write_record_value-returns-in_err-write_pairs-clause-checked t c =
     let p = err_from_is_err_and c.from_residual-in_err-write_pairs.result c.from_residual-in_err-write_pairs.ensures.1 in
     rw (p.1, p.2) (record_value_flaw (entries_of c.args.values.now) _ c.in_err-write_pairs.ensures.checked)
 
+-- a boolean is written as `true` or `false`
 pub write_value-returns-in_ok-token-in-Bool-clause-written : goal.write_value-returns-in_ok-token-in-Bool-clause-written
 write_value-returns-in_ok-token-in-Bool-clause-written t c =
     subst (λ (value : Tree). AddsValue c.args.out.now c.token.new.self (value_document value)) (sym (ap tree_of c.in-Bool.is ∙ tree_of-truth c.in-Bool.flag))
     (truth_added c.args.out.now c.token.new.self c.in-Bool.flag c.in_ok-token-in-Bool.ensures.ok)
 
+-- a boolean has no flaws
 pub write_value-returns-in_ok-token-in-Bool-clause-checked : goal.write_value-returns-in_ok-token-in-Bool-clause-checked
 write_value-returns-in_ok-token-in-Bool-clause-checked t c =
     subst FreeValue (sym (ap tree_of c.in-Bool.is ∙ tree_of-truth c.in-Bool.flag)) (truth_free c.in-Bool.flag)
 
+-- a long is written as a number
 pub write_value-returns-in_ok-write_number-in-Long-clause-written : goal.write_value-returns-in_ok-write_number-in-Long-clause-written
 write_value-returns-in_ok-write_number-in-Long-clause-written t c =
     subst (λ (value : Tree). AddsValue c.args.out.now c.write_number.new.out (value_document value)) (sym (ap tree_of c.in-Long.is ∙ tree_of-long c.in-Long.number))
     (long_added c.args.out.now c.write_number.new.out c.in-Long.number c.in_ok-write_number-in-Long.ensures.written)
 
+-- a long has no flaws, as it has 64 bits
 pub write_value-returns-in_ok-write_number-in-Long-clause-checked : goal.write_value-returns-in_ok-write_number-in-Long-clause-checked
 write_value-returns-in_ok-write_number-in-Long-clause-checked t c =
     subst FreeValue (sym (ap tree_of c.in-Long.is ∙ tree_of-long c.in-Long.number)) (long_free c.in-Long.number c.in_ok-write_number-in-Long.ensures.fits)
 
+-- a string is written as a JSON string of its text
 pub write_value-returns-in_ok-token-in-String-clause-written : goal.write_value-returns-in_ok-token-in-String-clause-written
 write_value-returns-in_ok-token-in-String-clause-written t c =
     subst (λ (value : Tree). AddsValue c.args.out.now c.token-in-String.new.self (value_document value))
@@ -116,34 +133,41 @@ write_value-returns-in_ok-token-in-String-clause-written t c =
     (text_added c.args.out.now c.token-in-String.new.self (string_bytes c.in-String.text)
     (c.in_ok-token-in-String.ensures.ok ∙ ap (λ (text : List ℕ). c.args.out.now ++ string text ∷ []) c.as_str.ensures.value))
 
+-- a string has no flaws
 pub write_value-returns-in_ok-token-in-String-clause-checked : goal.write_value-returns-in_ok-token-in-String-clause-checked
 write_value-returns-in_ok-token-in-String-clause-checked t c =
     subst FreeValue (sym (ap tree_of c.in-String.is ∙ tree_of-text c.in-String.text)) (text_free (string_bytes c.in-String.text))
 
+-- a reference to an entity has no flaws
 pub write_value-returns-in_ok-write_entity-in-EntityUid-clause-checked : goal.write_value-returns-in_ok-write_entity-in-EntityUid-clause-checked
 write_value-returns-in_ok-write_entity-in-EntityUid-clause-checked t c =
     subst FreeValue (sym (ap tree_of c.in-EntityUid.is ∙ tree_of-uid c.in-EntityUid.uid)) (uid_free c.in-EntityUid.uid)
 
+-- a record stands for the map of its values, which is written
 pub write_value-returns-in-Record-clause-written : goal.write_value-returns-in-Record-clause-written
 write_value-returns-in-Record-clause-written t c =
     subst (λ (value : Tree). OnOk c.write_record_value.result (AddsValue c.args.out.now c.write_record_value.new.out (value_document value)))
     (sym (ap tree_of c.in-Record.is ∙ tree_of-record c.in-Record.values)) c.write_record_value.ensures.written
 
+-- a record has just the flaws of the map of its values
 pub write_value-returns-in-Record-clause-checked : goal.write_value-returns-in-Record-clause-checked
 write_value-returns-in-Record-clause-checked t c =
     subst (λ (value : Tree). IsChecked c.write_record_value.result (value_flaws value) (SoundValue value))
     (sym (ap tree_of c.in-Record.is ∙ tree_of-record c.in-Record.values)) c.write_record_value.ensures.checked
 
+-- a call has just the flaws that are found of its function and its arguments
 pub write_value-returns-in-ExtensionCall-clause-checked : goal.write_value-returns-in-ExtensionCall-clause-checked
 write_value-returns-in-ExtensionCall-clause-checked t c =
     subst (λ (value : Tree). IsChecked c.write_call.result (value_flaws value) (SoundValue value))
     (sym (ap tree_of c.in-ExtensionCall.is ∙ tree_of-call c.in-ExtensionCall.function c.in-ExtensionCall.args)) c.write_call.ensures.checked
 
+-- a call with no argument or with several has their number as a flaw
 pub write_call-returns-then-len-ne1-clause-checked : goal.write_call-returns-then-len-ne1-clause-checked
 write_call-returns-then-len-ne1-clause-checked t c =
     arity_flaw c.args.function.now c.args.args.now.items c.len-then-len-ne1.result
     (λ one. c.if-len-ne1.true (omega (arith, one, c.args.args.now.ok.0))) (omega (arith, c.args.args.now.ok.0))
 
+-- a call is written as the name of its function and its one argument
 pub write_call-returns-clause-written : goal.write_call-returns-clause-written
 write_call-returns-clause-written t c =
     let argument = c.index.result.now in
@@ -158,6 +182,7 @@ write_call-returns-clause-written t c =
     c.in_ok-token-3.ensures.ok named c.in_ok-token-4.ensures.ok c.in_ok-write_value.ensures.written c.in_ok-token-5.ensures.ok
     c.in_ok-token-6.ensures.ok)
 
+-- where the one argument has no flaws, the call has none
 pub write_call-returns-clause-checked : goal.write_call-returns-clause-checked
 write_call-returns-clause-checked t c =
     let argument = c.index.result.now in
@@ -166,6 +191,7 @@ write_call-returns-clause-checked t c =
     subst (λ (each : List RestrictedExpr). FreeValue (call_value (plain_name c.args.function.now) (trees_of each))) (sym only)
     (call_free c.args.function.now argument c.in_ok-write_value.ensures.checked)
 
+-- a flaw of the one argument is a flaw of the call
 pub write_call-returns-in_err-write_value-clause-checked : goal.write_call-returns-in_err-write_value-clause-checked
 write_call-returns-in_err-write_value-clause-checked t c =
     let argument = c.index.result.now in

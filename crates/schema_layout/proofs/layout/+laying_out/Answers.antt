@@ -6,6 +6,7 @@ use Rattle.json.specs.Value.{items_view, members_view, value_view}
 use Rattle.schema_layout.proofs.Weights.{all_weighed, index_weight, item_has, item_weight, items_written, member_has, members_written}
 use Rattle.schema_layout.proofs.layout.+laying_out.Goals as goal
 
+-- one item has fewer tokens than all items, so the writing ends, and its number texts are numbers
 pub write_items-write-requires : goal.write_items-write-requires
 write_items-write-requires t c =
     let xs = c.args.items.now.items in
@@ -17,6 +18,7 @@ write_items-write-requires t c =
     let has : HasNumbers (value_view x) = subst (λ y. HasNumbers (value_view y)) (sym is) (item_has xs c.requires c.loop-item.item-index x within) in
     search rules
 
+-- where no item is left, the tokens of the whole array were written, and no others
 pub write_items-returns : goal.write_items-returns
 write_items-returns t c =
     on_ok_weaker c.token-2.result
@@ -26,6 +28,7 @@ write_items-returns t c =
     (c.loop-item.invariant weight)))
     c.token-2.ensures.ok
 
+-- one value has fewer tokens than all members, so the writing ends, and its number texts are numbers
 pub write_members-write-requires : goal.write_members-write-requires
 write_members-write-requires t c =
     let ms = c.args.members.now.items in
@@ -40,6 +43,7 @@ write_members-write-requires t c =
     let has : HasNumbers (value_view m.1) = subst (λ other. HasNumbers (value_view other.1)) (sym is) (member_has ms c.requires i m within) in
     search rules
 
+-- where no member is left, the tokens of the whole object were written, in some order, and no others
 pub write_members-returns : goal.write_members-returns
 write_members-returns t c =
     on_ok_weaker c.token-2.result
