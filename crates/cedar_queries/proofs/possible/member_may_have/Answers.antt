@@ -6,6 +6,7 @@ use Rattle.cedar_type_rules.proofs.InclusionLemmas.{found-Decides}
 use Rattle.cedar_types.specs.Meaning.{attribute_of}
 use Rattle.cedar_queries.proofs.possible.member_may_have.Goals as goal
 
+-- the type is no type of actions and is open, so its entities may have any attribute
 pub returns-then-is_open_type : goal.returns-then-is_open_type
 returns-then-is_open_type c =
     let openness = openness_found c.args.types.now c.args.member.now (Some c.in-Some.ty.now) (sym c.in-Some.ensures.value) in
@@ -14,6 +15,7 @@ returns-then-is_open_type c =
       λ _. c.if-is_open_type.true,
     )
 
+-- the type isn't open to others, so its entities may have just the attributes that it declares
 pub returns-else-is_open_type : goal.returns-else-is_open_type
 returns-else-is_open_type c =
     let openness = openness_found c.args.types.now c.args.member.now (Some c.in-Some.ty.now) (sym c.in-Some.ensures.value) in
@@ -27,6 +29,7 @@ returns-else-is_open_type c =
       ],
     )
 
+-- a type that isn't declared lists no attributes and counts as open, unless it is a type of actions
 pub returns-in-None : goal.returns-in-None
 returns-in-None c =
     let openness = openness_found c.args.types.now c.args.member.now None (sym c.in-None.ensures.value) in

@@ -6,6 +6,7 @@ use Rattle.cedar_validation.proofs.Keyed.{key_of_uid, key_with_uid}
 use Rattle.cedar_validation.proofs.TypeSets.{types_more}
 use Rattle.cedar_validation.proofs.known.action_types.Goals as goal
 
+-- the set is empty at first, and no uid has been read
 pub loop-uid-init : goal.loop-uid-init
 loop-uid-init c =
     let names = map type_name c.new-types.result.keys in
@@ -18,6 +19,7 @@ loop-uid-init c =
           (c.into_iter-uid-iterator.ensures.into_iter_gives ∙ c.keys-uid-items.ensures.rest);
     }
 
+-- the type put in is that of an action of the schema, and the types that were there stay
 pub loop-uid-preserved : goal.loop-uid-preserved
 loop-uid-preserved c =
     let actions = c.args.parts.now.actions.entries in
@@ -30,6 +32,7 @@ loop-uid-preserved c =
     c.in_ok-clone.field-0 uid c.in-Some.ensures.steps (c.in_ok-clone.ensures.name ∙ c.entity_type.ensures.name)
     (key_with_uid actions uid among) c.in_ok-insert.ensures.updates.0 c.loop-uid.invariant
 
+-- a name in the set is the type of an action, and as no uid is left, the type of each action is in it
 pub returns : goal.returns
 returns c = λ name. (
   c.loop-uid.invariant.sound name,

@@ -7,6 +7,7 @@ use Rattle.cedar_validation.proofs.MentionLemmas.{extension_fault}
 use Rattle.cedar_validation.proofs.Walk.{walked_all, walked_entity, walked_extension, walked_more}
 use Rattle.cedar_validation.proofs.mentions.+mentions.Goals as goal
 
+-- the type of one more attribute is known throughout, so what the attributes so far mention is known
 pub check_attributes-loop-name-preserved : goal.check_attributes-loop-name-preserved
 check_attributes-loop-name-preserved t c =
     let known = c.args.known.now in
@@ -18,6 +19,7 @@ check_attributes-loop-name-preserved t c =
     (attribute_of attribute).0 (attribute_of attribute).1
     (ap (λ entries. fields_from (plain_attributes entries)) c.in-Some.ensures.steps) c.loop-name.invariant sound.0 sound.1
 
+-- what is unknown in the type of one attribute is unknown in the record of all of them
 pub check_attributes-returns-in_err-check_type-clause-fault : goal.check_attributes-returns-in_err-check_type-clause-fault
 check_attributes-returns-in_err-check_type-clause-fault t c =
     let known = c.args.known.now in
@@ -50,22 +52,26 @@ check_attributes-returns-in_err-check_type-clause-fault t c =
     let p = err_from_is_err_and c.from_residual.result c.from_residual.ensures.1 in
     rw (p.1, p.2) at_fault
 
+-- where no attribute is left, all that the record mentions is known
 pub check_attributes-returns-clause-sound : goal.check_attributes-returns-clause-sound
 check_attributes-returns-clause-sound t c =
     walked_all (Knows c.args.known.now) (KnowsExtension c.args.known.now) (fields_of c.args.attrs.now) _
     (ap (λ entries. fields_from (plain_attributes entries)) c.in-None.ensures.steps.0) c.loop-name.invariant
 
+-- the type is that of its kind of entities, whose entity types are known
 pub check_type-returns-in-Entity-clause-sound : goal.check_type-returns-in-Entity-clause-sound
 check_type-returns-in-Entity-clause-sound t c =
     let kind = c.in-Entity.kind in
     on_ok c.check_kind.result c.check_kind.ensures.sound (λ sound. rw (sym (ap ty_of c.in-Entity.is ∙ ty_of-entity kind)) at sound)
 
+-- an entity type that is unknown in the kind of entities is unknown in the type
 pub check_type-returns-in-Entity-clause-fault : goal.check_type-returns-in-Entity-clause-fault
 check_type-returns-in-Entity-clause-fault t c =
     let kind = c.in-Entity.kind in
     on_err c.check_kind.result c.check_kind.ensures.fault
     (λ error why. rw (sym (ap ty_of c.in-Entity.is ∙ ty_of-entity kind)) at why)
 
+-- the type mentions only this extension type, and that is unknown
 pub check_type-returns-in-ExtensionType-clause-fault : goal.check_type-returns-in-ExtensionType-clause-fault
 check_type-returns-in-ExtensionType-clause-fault t c =
     let name = c.in-ExtensionType.name in

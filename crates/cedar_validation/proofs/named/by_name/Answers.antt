@@ -9,12 +9,14 @@ use Rattle.cedar_validation.specs.LastNamed.{last_that}
 use Rattle.cedar_validation.proofs.named.by_name.Goals as goal
 use Rattle.cedar_validation.proofs.named.by_name.Invariants.{IsPlaced}
 
+-- the map is empty at first, so it has nothing under any name
 pub loop-node-init : goal.loop-node-init
 loop-node-init g c = record {
   last = λ name. ap (lookup (is_at (g.K.Ord.cmp name))) c.new-named.ensures.empty;
   each = λ it among. empty_lacks (IsPlaced g) c.new-named.result.entries c.new-named.ensures.empty it among;
 }
 
+-- the node, under a copy of its own name, takes the place of an earlier one; other names keep theirs
 pub loop-node-preserved-in_ok-insert : goal.loop-node-preserved-in_ok-insert
 loop-node-preserved-in_ok-insert g c =
     let own = c.in_ok-name.ensures.name ∙ c.name.ensures.name in
@@ -35,6 +37,7 @@ loop-node-preserved g c =
     c.remove-earlier.ensures.updates.0 c.remove-earlier.ensures.updates.1 c.in_ok-insert.ensures.entries
     c.in_ok-insert.ensures.updates.0 c.loop-node.invariant
 
+-- all nodes are put in, so what is found under a name is the last node of that name
 pub returns-clause-last : goal.returns-clause-last
 returns-clause-last g c = λ name.
     let node = g.V.SchemaNode in
@@ -47,10 +50,12 @@ returns-clause-last g c = λ name.
     ∙ (c.loop-node.invariant.last name
     ∙ ap (last_that (λ it. is_eq (node.name_order (node.key_name name) (node.node_name it)))) all))
 
+-- the table has the entries of the map, each of which is under the name of its node
 pub returns-clause-under_names : goal.returns-clause-under_names
 returns-clause-under_names g c = λ it among.
     (c.loop-node.invariant.each it (subst (λ entries. Contains entries it) c.in_ok-from_map.ensures among)).0
 
+-- the keys of those entries are located as in their nodes
 pub returns-clause-located : goal.returns-clause-located
 returns-clause-located g c = λ it among.
     (c.loop-node.invariant.each it (subst (λ entries. Contains entries it) c.in_ok-from_map.ensures among)).1

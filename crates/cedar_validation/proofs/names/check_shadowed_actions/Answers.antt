@@ -7,11 +7,13 @@ use Rattle.cedar_validation.proofs.Keyed.{action_stands, key_of_uid, key_with_ui
 use Rattle.cedar_validation.proofs.Shadowed.{ShadowsNoAction, no_action_shadows}
 use Rattle.cedar_validation.proofs.names.check_shadowed_actions.Goals as goal
 
+-- at first no action is checked, and all are left
 pub loop-uid-init : goal.loop-uid-init
 loop-uid-init c =
     checking_none (ShadowsNoAction c.args.parts.now) (keys_of c.args.parts.now.actions.entries) _
     (c.into_iter-uid-iterator.ensures.into_iter_gives ∙ c.keys-uid-items.ensures.rest)
 
+-- the schema has no action of this id whose type has no namespace, so nothing shadows this one
 pub loop-uid-preserved : goal.loop-uid-preserved
 loop-uid-preserved c =
     let parts = c.args.parts.now in
@@ -28,6 +30,7 @@ loop-uid-preserved c =
     (ap (λ (it : PlainName). it.path) c.new-plain.ensures.ty ∙ c.in_ok-ty.ensures.path)
     (c.new-plain.ensures.eid ∙ (c.in_ok-clone.ensures ∙ c.eid.ensures)) absent)
 
+-- an action whose type has no namespace can't be shadowed
 pub loop-uid-preserved-then-is_unqualified : goal.loop-uid-preserved-then-is_unqualified
 loop-uid-preserved-then-is_unqualified c =
     let parts = c.args.parts.now in
@@ -36,6 +39,7 @@ loop-uid-preserved-then-is_unqualified c =
     (λ are plain among shadows. shadows.1 (ap (λ (it : PlainName). it.path) (sym (c.name.ensures.name ∙ c.entity_type.ensures.name))
     ∙ c.is_unqualified.ensures.0 c.if-is_unqualified.true))
 
+-- each action's uid is a key of the table, and all keys were checked
 pub returns-clause-sound : goal.returns-clause-sound
 returns-clause-sound c = λ are plain qualified among_plain among.
     let actions = c.args.parts.now.actions.entries in
@@ -45,6 +49,7 @@ returns-clause-sound c = λ are plain qualified among_plain among.
     (checking_all (ShadowsNoAction c.args.parts.now) (keys_of actions) _ c.in-None.ensures.steps.0 c.loop-uid.invariant key.0 key.1
     are plain among_plain)
 
+-- both uids are actions of the schema, and the one without a namespace shadows the other
 pub returns-then-contains_key-clause-fault : goal.returns-then-contains_key-clause-fault
 returns-then-contains_key-clause-fault c =
     let parts = c.args.parts.now in

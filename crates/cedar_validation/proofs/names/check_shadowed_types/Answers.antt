@@ -7,11 +7,13 @@ use Rattle.cedar_validation.proofs.Keyed.{key_named, named_key, type_stands}
 use Rattle.cedar_validation.proofs.Shadowed.{ShadowsNoType, no_type_shadows}
 use Rattle.cedar_validation.proofs.names.check_shadowed_types.Goals as goal
 
+-- at first no entity type is checked, and all are left
 pub loop-name-init : goal.loop-name-init
 loop-name-init c =
     checking_none (ShadowsNoType c.args.parts.now) (keys_of c.args.parts.now.entity_types.entries) _
     (c.into_iter-name-iterator.ensures.into_iter_gives ∙ c.keys-name-items.ensures.rest)
 
+-- the name without the namespace is no entity type of the schema, so nothing shadows this one
 pub loop-name-preserved : goal.loop-name-preserved
 loop-name-preserved c =
     let parts = c.args.parts.now in
@@ -22,6 +24,7 @@ loop-name-preserved c =
     c.loop-name.invariant
     (no_type_shadows parts c.in-Some.name.now (type_name c.in_ok-plain.plain) c.in_ok-plain.ensures.base c.in_ok-plain.ensures.path absent)
 
+-- a name without a namespace can't be shadowed
 pub loop-name-preserved-then-is_unqualified : goal.loop-name-preserved-then-is_unqualified
 loop-name-preserved-then-is_unqualified c =
     let parts = c.args.parts.now in
@@ -30,6 +33,7 @@ loop-name-preserved-then-is_unqualified c =
     (λ plain among shadows. shadows.1 (ap (λ (it : PlainName). it.path) (sym c.name.ensures.name)
     ∙ c.is_unqualified.ensures.0 c.if-is_unqualified.true))
 
+-- each entity type is a key of the table, and all keys were checked
 pub returns-clause-sound : goal.returns-clause-sound
 returns-clause-sound c = λ plain qualified among_plain among.
     let types = c.args.parts.now.entity_types.entries in
@@ -39,6 +43,7 @@ returns-clause-sound c = λ plain qualified among_plain among.
     (checking_all (ShadowsNoType c.args.parts.now) (keys_of types) _ c.in-None.ensures.steps.0 c.loop-name.invariant key.0 key.1
     plain among_plain)
 
+-- both names are entity types of the schema, and the one without a namespace shadows the other
 pub returns-then-contains_key-clause-fault : goal.returns-then-contains_key-clause-fault
 returns-then-contains_key-clause-fault c =
     let parts = c.args.parts.now in

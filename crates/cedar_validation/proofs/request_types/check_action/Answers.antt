@@ -5,6 +5,7 @@ use Rattle.cedar_validation.proofs.RequestTypeLemmas.{for_cases, principal_of, r
 use Rattle.cedar_validation.proofs.Results.{on_ok}
 use Rattle.cedar_validation.proofs.request_types.check_action.Goals as goal
 
+-- the type that isn't declared is one of the action's principals, so it is one that the action names
 pub returns-in_err-check_declared-clause-fault : goal.returns-in_err-check_declared-clause-fault
 returns-in_err-check_declared-clause-fault c =
     let it = action_of c.args.action.now in
@@ -17,6 +18,7 @@ returns-in_err-check_declared-clause-fault c =
     let p = err_from_is_err_and c.from_residual.result c.from_residual.ensures.1 in
     rw (p.1, p.2) at_fault
 
+-- the same with one of its resources
 pub returns-in_err-check_declared-2-clause-fault : goal.returns-in_err-check_declared-2-clause-fault
 returns-in_err-check_declared-2-clause-fault c =
     let it = action_of c.args.action.now in
@@ -29,6 +31,7 @@ returns-in_err-check_declared-2-clause-fault c =
     let p = err_from_is_err_and c.from_residual-in_err-check_declared-2.result c.from_residual-in_err-check_declared-2.ensures.1 in
     rw (p.1, p.2) at_fault
 
+-- each type that the action names is a principal or a resource, and both are declared
 pub returns-clause-sound : goal.returns-clause-sound
 returns-clause-sound c =
     let it = action_of c.args.action.now in

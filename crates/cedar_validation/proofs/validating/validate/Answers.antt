@@ -4,6 +4,7 @@ use Rattle.cedar_validation.specs.Words.{Entity, IsSchemaFault, entities_of, fau
 use Rattle.cedar_validation.proofs.Validation.{closes_before, fault_before, valid_before}
 use Rattle.cedar_validation.proofs.validating.validate.Goals as goal
 
+-- a fault met closing the entity types is one of the schema, whatever its actions, entities and extensions
 pub returns-in_err-closed_types-clause-fault : goal.returns-in_err-closed_types-clause-fault
 returns-in_err-closed_types-clause-fault c =
     let actions = c.args.actions.entries in
@@ -15,6 +16,7 @@ returns-in_err-closed_types-clause-fault c =
     let p = err_from_is_err_and c.from_residual.result c.from_residual.ensures.1 in
     rw (p.1, p.2) at_fault
 
+-- a fault met closing the actions is one of the schema, whatever its entities and extensions
 pub returns-in_err-closed_actions-clause-fault : goal.returns-in_err-closed_actions-clause-fault
 returns-in_err-closed_actions-clause-fault c =
     let types = c.args.entity_types.entries in
@@ -27,6 +29,7 @@ returns-in_err-closed_actions-clause-fault c =
     let p = err_from_is_err_and c.from_residual-in_err-closed_actions.result c.from_residual-in_err-closed_actions.ensures.1 in
     rw (p.1, p.2) at_fault
 
+-- a fault of the closed schema is one of the schema before it was closed
 pub returns-in_err-check_parts-clause-fault : goal.returns-in_err-check_parts-clause-fault
 returns-in_err-check_parts-clause-fault c =
     let types = c.args.entity_types.entries in
@@ -41,6 +44,7 @@ returns-in_err-check_parts-clause-fault c =
     let p = err_from_is_err_and c.from_residual-in_err-check_parts.result c.from_residual-in_err-check_parts.ensures.1 in
     rw (p.1, p.2) at_fault
 
+-- the actions have no cycle and the closed schema is valid, so the schema before it was closed is valid too
 pub returns-clause-valid : goal.returns-clause-valid
 returns-clause-valid c = λ entities.
     let types = c.args.entity_types.entries in
@@ -49,6 +53,7 @@ returns-clause-valid c = λ entities.
     (c.in_ok-closed_types.ensures.closed actions entities) (c.in_ok-closed_actions.ensures.closed types entities) c.args.extensions.now
     (c.in_ok-closed_actions.ensures.acyclic types entities) c.in_ok-check_parts.ensures.valid
 
+-- entity types and actions are closed each on their own, and the entities are made of the closed actions
 pub returns-clause-closed : goal.returns-clause-closed
 returns-clause-closed c = λ entities.
     let types = c.args.entity_types.entries in

@@ -8,9 +8,11 @@ use Rattle.cedar_schema.proofs.SchemaKeys.{keys_given}
 use Rattle.cedar_schema.proofs.schema.ValidatorSchema.clone.Goals as goal
 use Rattle.cedar_validation.proofs.CopyLemmas.{action_copies_located, actions_same, type_copies_located, types_same}
 
+-- the entities are made of the copied actions
 pub from_parts-requires-clause-entities : goal.from_parts-requires-clause-entities
 from_parts-requires-clause-entities c = c.in_ok-action_entities.ensures (map plain_entry c.in_ok-copied_types.field-0.entries)
 
+-- the copies have the names of the originals, which stand under their own
 pub from_parts-requires-clause-under_names : goal.from_parts-requires-clause-under_names
 from_parts-requires-clause-under_names c =
     let self = c.args.self.now in
@@ -21,6 +23,7 @@ from_parts-requires-clause-under_names c =
     (types_same self.entity_types.entries types c.in_ok-copied_types.ensures)
     (actions_same self.action_ids.entries actions c.in_ok-actions.ensures) (known_names self)
 
+-- copied tables are the same, and entities made of the same actions are the same
 pub returns-clause-schema : goal.returns-clause-schema
 returns-clause-schema c =
     let self = c.args.self.now in
@@ -37,9 +40,11 @@ returns-clause-schema c =
     let P : PlainSchema → Type 0 = λ schema. SameSchema schema (schema_of self) in
     IfOk-weaker c.from_parts.result _ _ (λ copy is. subst P (sym is) same) c.from_parts.ensures.schema
 
+-- every schema has its keys located as in what stands under them
 pub returns-clause-keys : goal.returns-clause-keys
 returns-clause-keys c = keys_given _ c.from_parts.result c.from_parts.ensures.schema
 
+-- copies are located as the originals, whose keys are located as in their nodes
 pub from_parts-requires-clause-keys : goal.from_parts-requires-clause-keys
 from_parts-requires-clause-keys c =
     let self = c.args.self.now in

@@ -7,14 +7,17 @@ use Rattle.cedar_schema.proofs.SchemaKeys.{keys_given}
 use Rattle.cedar_schema.proofs.SchemaNames.{schema_under_names}
 use Rattle.cedar_schema.proofs.schema.ValidatorSchema.new.Goals as goal
 
+-- the entities are made of these very actions
 pub from_parts-requires-clause-entities : goal.from_parts-requires-clause-entities
 from_parts-requires-clause-entities g c = c.in_ok-action_entities.ensures (map plain_entry c.in_ok-entity_types.entity_types.entries)
 
+-- each entity type is under its own name, and each action under its own uid
 pub from_parts-requires-clause-under_names : goal.from_parts-requires-clause-under_names
 from_parts-requires-clause-under_names g c =
     schema_under_names c.in_ok-entity_types.entity_types.entries c.in_ok-actions.actions.entries
     (entities_of c.in_ok-action_entities.action_entities) c.in_ok-entity_types.ensures.under_names c.in_ok-actions.ensures.under_uids
 
+-- the lists are all that the iterators give, the last of a name counts, and no fragments are shown
 pub returns : goal.returns
 returns g c =
     let types = c.in_ok-from_iter.ensures.ran in
@@ -53,6 +56,7 @@ returns g c =
       keys = keys_given _ c.from_parts.result c.from_parts.ensures.located;
     }
 
+-- the keys of both tables are located as in what stands under them
 pub from_parts-requires-clause-keys : goal.from_parts-requires-clause-keys
 from_parts-requires-clause-keys g c = record {
   of_types = c.in_ok-entity_types.ensures.located;
