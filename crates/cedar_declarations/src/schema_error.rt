@@ -31,7 +31,7 @@ pub enum ContextOrShape {
 }
 
 /// Why no schema is built: one fault of the declarations, or out of memory.
-#[derive(Debug, Drop)]
+#[derive(Drop)]
 pub enum SchemaError {
     /// An action is declared with attributes, or a record type that counts admits attributes that
     /// it doesn't list (the Cedar reference on schemas).
@@ -267,6 +267,13 @@ impl fmt::Display for SchemaError {
             }
             SchemaError::Memory(_) => f.write_str("out of memory"),
         }
+    }
+}
+
+/// Prints the kind, and in parentheses what `Display` prints.
+impl fmt::Debug for SchemaError {
+    fn fmt<W: fmt::Write>(&self, f: &mut fmt::Formatter<W>) -> fmt::Result {
+        write!(f, "{}({self})", self.kind())
     }
 }
 

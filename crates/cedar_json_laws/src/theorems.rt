@@ -1,4 +1,7 @@
 //! The law of schemas that are written as JSON and built again of what is read.
+//!
+//! Laws are functions that take nothing and do nothing: all that they have is a contract, which
+//! cites the same definitions as the calls that it speaks of.
 
 ghost use Rattle.std.specs.Prelude.{◌≡◌, ℕ, List, IsTrue, Ok, Err};
 ghost use Rattle.cedar_json_laws.specs.Words.{Bag, Describes, Extensions, Fault, Fragment, IsBuiltFrom, IsConvertedBack, IsRewritten, IsWritable, PositionsFit, RawName, TypeNamesFit, ValidatorSchema, extension_types, out_of_memory, raw_fragment, schema_of, written_fragment};

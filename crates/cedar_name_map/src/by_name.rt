@@ -4,7 +4,7 @@ ghost use Rattle.std.specs.Prelude.{◌&&◌, ◌++◌, Some, refl, string_bytes
 ghost use Rattle.cedar_name_map.specs.FromBelow.{and-Alike, and_equiv, and_per, both_tied, hashing, items_Alike, lists_agrees, lists_equiv, lists_per, lists_po, lists_ties, lists_total, nat_list_cmp_total, nat_list_eq_equiv, on_Alike, on_equiv, on_per, on_po, on_total, ordering_then, partial_equiv_from_equiv, partial_ordering_then, pointwise, slice_cmp, slice_partial_cmp, texts_po, texts_ties, then_agrees, then_po, then_total};
 ghost use Rattle.std.specs.Hash as fed;
 ghost use Rattle.std.proofs.Common.{rules};
-ghost use Rattle.cedar_name_map.specs.ByName.{AreSortedByName, AreSortedByName-prop};
+ghost use Rattle.cedar_name_map.specs.ByName.{AreSortedByName, AreSortedByName-prop as one_order};
 
 use cedar_below::M;
 use std::cmp::Ordering;
@@ -14,7 +14,7 @@ use std::hash::{Hash, Hasher};
 #[derive(Debug, Drop)]
 pub struct ByName<V> {
     entries: Vec<(String, V)>,
-    ghost sorted_by_name: { AreSortedByName entries.items } by { AreSortedByName-prop entries.items },
+    ghost sorted_by_name: { AreSortedByName entries.items } by { one_order entries.items },
 }
 
 impl<V: PartialEq> PartialEq for ByName<V> {

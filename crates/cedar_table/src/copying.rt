@@ -8,8 +8,8 @@ use cedar_below::M;
 use std::collections::BTreeMap;
 use std::hash::Hash;
 
-/// A table of the copies of the entries of a table, in their order. The copy of a key has to tie with
-/// it.
+/// A table of the copies of the entries of a table, in their order. The copy of a key has to tie
+/// with it.
 pub fn copied_table<
     K: Ord + Hash + Drop,
     V: Drop,

@@ -35,7 +35,7 @@ some_names (ty ∷ types) some = λ none. cc
 pub lub_formed : (lub : EntityLUB) → IsWellFormed (lub_ty lub)
 lub_formed lub = (
   some_names lub.lub_elements.value.items lub.nonempty,
-  lub.sorted_by_name,
+  lub.sorted,
   AreNames-lub lub,
 )
 

@@ -3,7 +3,7 @@
 ghost use Rattle.std.specs.Prelude.{◌≡◌, ◌≢◌, ◌++◌, [], length, map, true, IfOk};
 ghost use Rattle.std.specs.List.Sorted.{IsPermutation, IsSorted, IsStrictlySortedBy};
 ghost use Rattle.cedar_below.specs.Words.{name_cmp, type_name};
-ghost use Rattle.cedar_types.specs.TypesInOrder.{AreInOrder, AreInOrder-prop};
+ghost use Rattle.cedar_types.specs.TypesInOrder.{AreInOrder, AreInOrder-prop as one_order};
 
 use cedar_below::{EntityType, Held, M};
 use itertools::Itertools;
@@ -17,7 +17,7 @@ use std::slice;
 pub struct EntityLUB {
     lub_elements: Held<Vec<EntityType>>,
     ghost nonempty: { lub_elements.value.items ≢ [] },
-    ghost sorted_by_name: { AreInOrder lub_elements.value.items } by { AreInOrder-prop lub_elements.value.items },
+    ghost sorted: { AreInOrder lub_elements.value.items } by { one_order lub_elements.value.items },
     ghost single_owned: { lub_elements.is_shared ≡ true → length lub_elements.value.items ≢ 1 },
 }
 

@@ -12,7 +12,8 @@ const PHOTOS: &str = r#"{"": {
     "commonTypes": {"Address": {"type": "Record", "attributes": {"city": {"type": "String"}}}},
     "entityTypes": {"Group": {}, "Photo": {}, "User": {"memberOfTypes": ["Group"],
         "shape": {"type": "Record", "attributes": {"home": {"type": "Address"}}}}},
-    "actions": {"view": {"appliesTo": {"principalTypes": ["User"], "resourceTypes": ["Photo"]}}}}}"#;
+    "actions": {"view": {"appliesTo": {
+        "principalTypes": ["User"], "resourceTypes": ["Photo"]}}}}}"#;
 
 /// The schema that a text declares, or why it declares none.
 fn declared(alloc: Global, text: &str) -> Result<Result<ValidatorSchema, SchemaError>, Fail> {
@@ -21,30 +22,42 @@ fn declared(alloc: Global, text: &str) -> Result<Result<ValidatorSchema, SchemaE
     Ok(ValidatorSchema::from_schema_frag(alloc, fragment, &extensions))
 }
 
-fn main(rt: HostRuntime) -> Result<(), Fail> {
-    let alloc = rt.alloc();
-    let schema = declared(alloc, PHOTOS)??;
-    let user = EntityType::from_str(alloc, "User")?;
-    if let Some(ancestors) = schema.ancestors(&user) {
-        for ancestor in ancestors {
-            println!(rt; "{user} in {ancestor}")?;
-        }
+/// Shows what a schema answers of users.
+fn show(rt: &impl Print, schema: &ValidatorSchema, user: &EntityType) -> Result<(), Fail> {
+    for ancestor in schema.ancestors(user).ok_or("no user")? {
+        println!(rt; "{user} in {ancestor}")?;
     }
-    if let Some(ty) = schema.get_entity_type(&user)
-        && let Some(home) = ty.attr("home")
-    {
-        println!(rt; "home: {}", home.attr_type)?;
-    }
+    let ty = schema.get_entity_type(user).ok_or("no user")?;
+    println!(rt; "home: {}", ty.attr("home").ok_or("no home")?.attr_type)?;
     for env in schema.unlinked_request_envs(ValidationMode::Strict) {
         println!(rt; "{} {} {}", env.principal, env.action, env.resource)?;
     }
-    let user = Type::named_entity_reference(alloc, user)?;
-    let group = Type::named_entity_reference(alloc, EntityType::from_str(alloc, "Group")?)?;
-    let either = Type::least_upper_bound(alloc, &user, &group, ValidationMode::Permissive)?;
-    println!(rt; "{either}")?;
-    let teams = r#"{"": {"entityTypes": {"User": {"memberOfTypes": ["Team"]}}, "actions": {}}}"#;
-    if let Err(SchemaError::TypeNotDefined(error)) = declared(alloc, teams)? {
+    Ok(())
+}
+
+/// The entity type of a name, as a type.
+fn reference(alloc: Global, name: &str) -> Result<Type, Fail> {
+    Ok(Type::named_entity_reference(alloc, EntityType::from_str(alloc, name)?)?)
+}
+
+/// Shows why a text declares no schema, where it names a type that isn't there.
+fn show_refusal(rt: &impl Print, alloc: Global, text: &str) -> Result<(), Fail> {
+    if let Err(SchemaError::TypeNotDefined(error)) = declared(alloc, text)? {
         println!(rt; "refused: {error}")?;
     }
     Ok(())
+}
+
+fn main(rt: HostRuntime) -> Result<(), Fail> {
+    let alloc = rt.alloc();
+    show(
+        &rt,
+        &declared(alloc, PHOTOS)??,
+        &EntityType::from_str(alloc, "User")?,
+    )?;
+    let (user, group) = (reference(alloc, "User")?, reference(alloc, "Group")?);
+    let either = Type::least_upper_bound(alloc, &user, &group, ValidationMode::Permissive)?;
+    println!(rt; "{either}")?;
+    let teams = r#"{"": {"entityTypes": {"User": {"memberOfTypes": ["Team"]}}, "actions": {}}}"#;
+    show_refusal(&rt, alloc, teams)
 }

@@ -11,7 +11,8 @@ use std::test::Fail;
 
 /// A fragment that declares something of each kind in two namespaces.
 const WRITTEN: &str =
-    "N::M: type C = Long; type D = c:C@2; entity T; entity U {a@3: e:T@2}; external entity X; action b; \
+    "N::M: type C = Long; type D = c:C@2; entity T; entity U {a@3: e:T@2}; external entity X; \
+     action b; \
      action a in b@1; action c P T R - | : entity O";
 
 #[test]

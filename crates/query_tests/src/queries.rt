@@ -69,7 +69,8 @@ const FOUND: &[(&str, Questions)] = &[
             ("find_action N::U::view", "None"),
             (
                 "copy",
-                "action Action::\"all\" defined; action N::Action::\"view\" defined; context Action::\"all\" {}; \
+                "action Action::\"all\" defined; action N::Action::\"view\" defined; \
+                 context Action::\"all\" {}; \
                  context N::Action::\"view\" {}; entity N::U standard; entity V standard",
             ),
         ],
@@ -86,10 +87,12 @@ const FOUND: &[(&str, Questions)] = &[
         &[("strict", "N::U Action::\"view\" V {a?: Long,};")],
     ),
     (
-        "entity U {a: Long, b?: String} tags Long; entity E enum red,green; external entity X; action v P U R U context {}",
+        "entity U {a: Long, b?: String} tags Long; entity E enum red,green; external entity X; \
+         action v P U R U context {}",
         &[(
             "copy",
-            "action Action::\"v\" defined; attr U a: Long; attr U b?: String; choice E green; choice E red; \
+            "action Action::\"v\" defined; attr U a: Long; attr U b?: String; choice E green; \
+             choice E red; \
              context Action::\"v\" {}; entity E enum; entity U standard; entity X external; \
              env U Action::\"v\" U; tags U: Long",
         )],
@@ -230,7 +233,8 @@ fn one_definition_is_built_alone(rt: HostRuntime) -> Result<(), Fail> {
 
 /// Entity types in one another.
 const CHAIN: &str =
-    "entity C in B; entity B in A; entity A; entity S in S; entity P in Q; entity Q in P; N: action view";
+    "entity C in B; entity B in A; entity A; entity S in S; entity P in Q; entity Q in P; \
+     N: action view";
 
 /// Questions of types in one another.
 const OF_TYPES: Questions = &[
@@ -389,11 +393,13 @@ const OF_BOTH: Questions = &[
     ("groups", ""),
     (
         "strict",
-        "Group Action::\"view\" Photo {}; U Action::\"edit\" Photo {a: Long,}; U Action::\"view\" Photo {};",
+        "Group Action::\"view\" Photo {}; U Action::\"edit\" Photo {a: Long,}; \
+         U Action::\"view\" Photo {};",
     ),
     (
         "permissive",
-        "Group Action::\"view\" Photo {}; U Action::\"edit\" Photo {a: Long,}; U Action::\"view\" Photo {};",
+        "Group Action::\"view\" Photo {}; U Action::\"edit\" Photo {a: Long,}; \
+         U Action::\"view\" Photo {};",
     ),
 ];
 
@@ -406,7 +412,8 @@ fn requests_are_those_of_the_actions(rt: HostRuntime) -> Result<(), Fail> {
 /// Schemas with types of each kind, and the leaves of these.
 const LEAVES: &[(&str, Questions)] = &[
     (
-        "entity User {age: Long, home: {city: String}, nick?: String, roles: Set<String>}; entity Team {lead: e:User}",
+        "entity User {age: Long, home: {city: String}, nick?: String, roles: Set<String>}; \
+         entity Team {lead: e:User}",
         &[("leaves", "Long String String String User")],
     ),
     (
@@ -578,7 +585,8 @@ const PLACES: &[(&str, Questions)] = &[
         &[("common_types", "T N::T 1 3;S N::S 4 5;")],
     ),
     (
-        "entity U; N: type A@1 = {}@2; N: type B@3 = e:U@4; N: type C@5 = n:U@6; N: type D@7 = x:ipaddr@8; \
+        "entity U; N: type A@1 = {}@2; N: type B@3 = e:U@4; N: type C@5 = n:U@6; \
+         N: type D@7 = x:ipaddr@8; \
          N: type E@9 = String@10",
         &[(
             "common_types",
@@ -648,9 +656,11 @@ fn locations_are_those_of_the_definition(rt: HostRuntime) -> Result<(), Fail> {
 /// An external declaration beside the definition, in either order, and where the names were written
 /// that are borrowed.
 const LENT: &[&str] = &[
-    "external entity U@1; external action view@3@4 | entity U@11; entity V@12 in U; action view@13@14 P V R U; \
+    "external entity U@1; external action view@3@4 | entity U@11; entity V@12 in U; \
+     action view@13@14 P V R U; \
      action edit@15@16 in view",
-    "entity U@11; entity V@12 in U; action view@13@14 P V R U; action edit@15@16 in view | external entity U@1; \
+    "entity U@11; entity V@12 in U; action view@13@14 P V R U; action edit@15@16 in view | \
+     external entity U@1; \
      external action view@3@4",
 ];
 
@@ -690,8 +700,10 @@ fn names_of_external_declarations_are_borrowed(rt: HostRuntime) -> Result<(), Fa
 
 /// Two external declarations, in either order.
 const EXTERNAL: &[&str] = &[
-    "external entity U@1; external action view@3@3 | external entity U@11; external action view@13@13",
-    "external entity U@11; external action view@13@13 | external entity U@1; external action view@3@3",
+    "external entity U@1; external action view@3@3 | external entity U@11; \
+     external action view@13@13",
+    "external entity U@11; external action view@13@13 | external entity U@1; \
+     external action view@3@3",
 ];
 
 /// Questions of where those are, and the places that are allowed.

@@ -178,7 +178,8 @@ fn of_incomplete(alloc: Global, text: &str) -> Result<String, Fail> {
 const INCOMPLETE: &[(&str, &str)] = &[
     (
         "external entity V; N: external entity U; N: external action view",
-        "the schema is incomplete; the entity type N::U is external; the entity type V is external; \
+        "the schema is incomplete; the entity type N::U is external; \
+         the entity type V is external; \
          the action N::Action::\"view\" is external",
     ),
     (

@@ -59,7 +59,8 @@ const EQUAL: &[(&str, &str, &str)] = &[
     ),
     (
         "places",
-        "N@1@2: entity U@3 {a@4: Long@5} tags {b@6: Long}; N: action view@7@8 P - R - context {c@9: Long}",
+        "N@1@2: entity U@3 {a@4: Long@5} tags {b@6: Long}; \
+         N: action view@7@8 P - R - context {c@9: Long}",
         "N: entity U {a: Long} tags {b: Long}; N: action view P - R - context {c: Long}",
     ),
     (

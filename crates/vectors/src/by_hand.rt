@@ -157,15 +157,18 @@ pub(crate) fn put_together(alloc: Global, text: &str) -> Result<ValidatorSchema,
 const VALID: &[(&str, &str)] = &[
     (
         "entity Group > Mid; entity Mid > Leaf; entity Leaf",
-        "descendant Group Leaf; descendant Group Mid; descendant Mid Leaf; entity Group standard; entity Leaf standard; entity Mid standard",
+        "descendant Group Leaf; descendant Group Mid; descendant Mid Leaf; entity Group standard; \
+         entity Leaf standard; entity Mid standard",
     ),
     (
         "entity U : ext ipaddr; action Action::v : Long",
-        "action Action::\"v\" defined; attr U a: ipaddr; context Action::\"v\" Long; entity U standard",
+        "action Action::\"v\" defined; attr U a: ipaddr; context Action::\"v\" Long; \
+         entity U standard",
     ),
     (
         "entity U; entity U : Action; action Action::v",
-        "action Action::\"v\" defined; attr U a: Action; context Action::\"v\" {}; entity U standard",
+        "action Action::\"v\" defined; attr U a: Action; context Action::\"v\" {}; \
+         entity U standard",
     ),
 ];
 
@@ -269,7 +272,8 @@ const REFUSED: &[(&str, &str, &str)] = &[
     ),
     (
         "action Action::a > Action::b; action Action::b > Action::a",
-        "refused: CycleInActionHierarchy Action::\"a\" or refused: CycleInActionHierarchy Action::\"b\"",
+        "refused: CycleInActionHierarchy Action::\"a\" or refused: CycleInActionHierarchy \
+         Action::\"b\"",
         "action Action::a > Action::b; action Action::b",
     ),
     (

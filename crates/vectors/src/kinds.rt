@@ -50,7 +50,8 @@ const FORMS: &[Near] = &[
         "external action a in b",
         "refused: ActionNotDefined Action::\"b\"",
         "external action a in b; external action b",
-        "action Action::\"a\" external; action Action::\"b\" external; member Action::\"b\" Action::\"a\"",
+        "action Action::\"a\" external; action Action::\"b\" external; \
+         member Action::\"b\" Action::\"a\"",
     ),
     (
         "ActionEntityTypeDeclared",

@@ -94,7 +94,8 @@ const UNKNOWN: &[(&str, &str, &str)] = &[
     (
         "two unknown groups of one action",
         "action view in gone,lost",
-        "refused: ActionNotDefined Action::\"gone\" or refused: ActionNotDefined Action::\"lost\" or \
+        "refused: ActionNotDefined Action::\"gone\" or refused: ActionNotDefined Action::\"lost\" \
+         or \
          refused: ActionNotDefined Action::\"gone\" Action::\"lost\" or \
          refused: ActionNotDefined Action::\"lost\" Action::\"gone\"",
     ),
@@ -116,7 +117,8 @@ const UNKNOWN: &[(&str, &str, &str)] = &[
     (
         "two unknown names",
         "entity U {a: e:Gone, b: e:Lost}",
-        "refused: TypeNotDefined Gone or refused: TypeNotDefined Lost or refused: TypeNotDefined Gone Lost or \
+        "refused: TypeNotDefined Gone or refused: TypeNotDefined Lost or refused: TypeNotDefined \
+         Gone Lost or \
          refused: TypeNotDefined Lost Gone",
     ),
     (
@@ -301,12 +303,14 @@ const CHAINS: &[(&str, &str, &str)] = &[
     (
         "an action above a ring isn't named, nor one below it",
         "action top; action a in b,top; action b in a; action low in b",
-        "refused: CycleInActionHierarchy Action::\"a\" or refused: CycleInActionHierarchy Action::\"b\"",
+        "refused: CycleInActionHierarchy Action::\"a\" or refused: CycleInActionHierarchy \
+         Action::\"b\"",
     ),
     (
         "a ring of actions through an external declaration",
         "external action a in b | action a | action b in a",
-        "refused: CycleInActionHierarchy Action::\"a\" or refused: CycleInActionHierarchy Action::\"b\"",
+        "refused: CycleInActionHierarchy Action::\"a\" or refused: CycleInActionHierarchy \
+         Action::\"b\"",
     ),
     (
         "an external entity type below an enumerated one by a chain",
@@ -319,7 +323,8 @@ const CHAINS: &[(&str, &str, &str)] = &[
         "refused: ExternalWithEnumAncestor Shade Color",
     ),
     (
-        "an external entity type below an enumerated one by an external declaration beside a definition",
+        "an external entity type below an enumerated one by an external declaration beside a \
+         definition",
         "external entity T in S | external entity S in C | entity S | entity C enum red",
         "refused: ExternalWithEnumAncestor T C",
     ),
@@ -330,7 +335,8 @@ const CHAINS: &[(&str, &str, &str)] = &[
     ),
     (
         "an enumerated entity type below two others",
-        "external entity C in A | external entity C in B | entity C enum red | entity A; entity B enum blue",
+        "external entity C in A | external entity C in B | entity C enum red | entity A; \
+         entity B enum blue",
         "refused: EnumEntityInHierarchy C A or refused: EnumEntityInHierarchy C B",
     ),
     (
@@ -409,7 +415,8 @@ const OF_ONE_DEFINITION: &[(&str, &str, &str)] = &[
     (
         "actions with attributes in two fragments",
         "action b attributes; action a attributes | action c attributes",
-        "refused: UnsupportedFeature ActionAttributes a b or refused: UnsupportedFeature ActionAttributes c",
+        "refused: UnsupportedFeature ActionAttributes a b or refused: UnsupportedFeature \
+         ActionAttributes c",
     ),
 ];
 
@@ -443,7 +450,8 @@ const SEVERAL: &[(&str, &str, &str)] = &[
     (
         "two faults of a definition alone",
         "entity Action; action view attributes",
-        "refused: ActionEntityTypeDeclared Action or refused: UnsupportedFeature ActionAttributes view",
+        "refused: ActionEntityTypeDeclared Action or refused: UnsupportedFeature ActionAttributes \
+         view",
     ),
 ];
 

@@ -69,7 +69,8 @@ const ROWS: &[(&str, &str)] = &[
     ),
     (
         "__cedar: entity Action",
-        "refused: ActionEntityTypeDeclared __cedar::Action or refused: ReservedName __cedar::Action",
+        "refused: ActionEntityTypeDeclared __cedar::Action or refused: ReservedName \
+         __cedar::Action",
     ),
     ("__cedar: type Foo = Long", ""),
     (
@@ -91,7 +92,8 @@ const ROWS: &[(&str, &str)] = &[
     ),
     (
         "__cedar: type Foo = n:Bar; __cedar: type Bar = n:Foo; type Foo = Long",
-        "refused: CycleInCommonTypeReferences __cedar::Foo or refused: CycleInCommonTypeReferences __cedar::Bar",
+        "refused: CycleInCommonTypeReferences __cedar::Foo or refused: \
+         CycleInCommonTypeReferences __cedar::Bar",
     ),
     ("N: entity X", "entity N::X standard"),
 ];

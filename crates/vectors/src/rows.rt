@@ -45,12 +45,14 @@ const NAMES: &[(&str, &str, &str)] = &[
     (
         "a namespace's own name hides the built-in one there alone",
         "N: entity Long; N: entity U {a: n:Long}; entity V {a: n:Long}",
-        "attr N::U a: N::Long; attr V a: Long; entity N::Long standard; entity N::U standard; entity V standard",
+        "attr N::U a: N::Long; attr V a: Long; entity N::Long standard; entity N::U standard; \
+         entity V standard",
     ),
     (
         "a common type of a namespace doesn't stand for an entity type",
         "N: type Action = Long; action view; N: entity U {a: e:Action, b: n:Action, c: c:Action}",
-        "action Action::\"view\" defined; attr N::U a: Action; attr N::U b: Long; attr N::U c: Long; \
+        "action Action::\"view\" defined; attr N::U a: Action; attr N::U b: Long; \
+         attr N::U c: Long; \
          context Action::\"view\" {}; entity N::U standard",
     ),
     (
@@ -76,19 +78,23 @@ const NAMES: &[(&str, &str, &str)] = &[
 const SHAPES: &[(&str, &str, &str)] = &[
     (
         "attributes of each kind of type",
-        "entity User {age: Long, home: {city: String}, nick?: String, roles: Set<String>}; entity Team {lead: e:User}",
-        "attr Team lead: User; attr User age: Long; attr User home: {city: String,}; attr User nick?: String; \
+        "entity User {age: Long, home: {city: String}, nick?: String, roles: Set<String>}; \
+         entity Team {lead: e:User}",
+        "attr Team lead: User; attr User age: Long; attr User home: {city: String,}; \
+         attr User nick?: String; \
          attr User roles: Set<String>; entity Team standard; entity User standard",
     ),
     (
         "attributes that may be absent, inside too",
         "entity U {r?: {b?: Bool}, i: x:ipaddr, s: Set<x:ipaddr>, n: {}}",
-        "attr U i: ipaddr; attr U n: {}; attr U r?: {b?: Bool,}; attr U s: Set<ipaddr>; entity U standard",
+        "attr U i: ipaddr; attr U n: {}; attr U r?: {b?: Bool,}; attr U s: Set<ipaddr>; \
+         entity U standard",
     ),
     (
         "tags of a set, of a record and of an entity type",
         "entity U tags Set<String>; entity V tags {a: Long}; entity W {a: Long} tags e:U",
-        "attr W a: Long; entity U standard; entity V standard; entity W standard; tags U: Set<String>; \
+        "attr W a: Long; entity U standard; entity V standard; entity W standard; \
+         tags U: Set<String>; \
          tags V: {a: Long,}; tags W: U",
     ),
     (
@@ -99,7 +105,8 @@ const SHAPES: &[(&str, &str, &str)] = &[
     (
         "an attribute of an enumerated entity type",
         "entity Color enum red,green; entity U {c: n:Color}",
-        "attr U c: Color; choice Color green; choice Color red; entity Color enum; entity U standard",
+        "attr U c: Color; choice Color green; choice Color red; entity Color enum; \
+         entity U standard",
     ),
 ];
 
@@ -113,7 +120,8 @@ const COMMON: &[(&str, &str, &str)] = &[
     (
         "a name of a common type and of an entity type",
         "N: type T = Long; N: entity T; N: entity U in T {t: n:T, u: e:T}",
-        "attr N::U t: Long; attr N::U u: N::T; descendant N::T N::U; entity N::T standard; entity N::U standard",
+        "attr N::U t: Long; attr N::U u: N::T; descendant N::T N::U; entity N::T standard; \
+         entity N::U standard",
     ),
     (
         "a name of a common type and of an entity type, in the empty namespace",
@@ -123,7 +131,8 @@ const COMMON: &[(&str, &str, &str)] = &[
     (
         "an entity type takes the place of a built-in name, but not of the name with its path",
         "entity String; entity U {a: n:String, b: n:__cedar::String, c: String}",
-        "attr U a: String; attr U b: String; attr U c: String; entity String standard; entity U standard",
+        "attr U a: String; attr U b: String; attr U c: String; entity String standard; \
+         entity U standard",
     ),
     (
         "a common type takes the place of an extension type's name",
@@ -142,19 +151,22 @@ const COMMON: &[(&str, &str, &str)] = &[
     ),
     (
         "records inside records, by common types",
-        "type A = {b: n:B, l?: Long} | type B = {c?: n:C} | N: type D = Set<n:A>; N: entity U {d: c:D} | type C = {}",
+        "type A = {b: n:B, l?: Long} | type B = {c?: n:C} | N: type D = Set<n:A>; \
+         N: entity U {d: c:D} | type C = {}",
         "attr N::U d: Set<{b: {c?: {},},l?: Long,}>; entity N::U standard",
     ),
     (
         "built-in names are common types",
-        "N: entity U {a: c:Long, b: c:__cedar::Bool, c: Set<c:ipaddr>}; type L = c:String; entity V {l: c:L}",
+        "N: entity U {a: c:Long, b: c:__cedar::Bool, c: Set<c:ipaddr>}; type L = c:String; \
+         entity V {l: c:L}",
         "attr N::U a: Long; attr N::U b: Bool; attr N::U c: Set<ipaddr>; attr V l: String; \
          entity N::U standard; entity V standard",
     ),
     (
         "a common type may have the name of the actions' type",
         "type Action = Long; action view; entity U {a: n:Action, b: e:Action}",
-        "action Action::\"view\" defined; attr U a: Long; attr U b: Action; context Action::\"view\" {}; \
+        "action Action::\"view\" defined; attr U a: Long; attr U b: Action; \
+         context Action::\"view\" {}; \
          entity U standard",
     ),
     (
@@ -164,13 +176,16 @@ const COMMON: &[(&str, &str, &str)] = &[
     ),
     (
         "common types of two namespaces refer to one another",
-        "N: type A = {b: n:M::B} | M: type B = Set<n:N::C> | N: type C = e:U | N: entity U shape n:A",
+        "N: type A = {b: n:M::B} | M: type B = Set<n:N::C> | N: type C = e:U | \
+         N: entity U shape n:A",
         "attr N::U b: Set<N::U>; entity N::U standard",
     ),
     (
         "an alias in one namespace, an entity type of its name in another",
-        "N: type A = {s: n:String}; N: entity String; N: entity U shape n:A | M: type B = {s: n:String}; M: entity V shape n:B",
-        "attr M::V s: String; attr N::U s: N::String; entity M::V standard; entity N::String standard; \
+        "N: type A = {s: n:String}; N: entity String; N: entity U shape n:A | \
+         M: type B = {s: n:String}; M: entity V shape n:B",
+        "attr M::V s: String; attr N::U s: N::String; entity M::V standard; \
+         entity N::String standard; \
          entity N::U standard",
     ),
 ];
@@ -184,8 +199,10 @@ const HIERARCHY: &[(&str, &str, &str)] = &[
     ),
     (
         "attributes of one name are of unlike types",
-        "entity baz {a: Long, b: String, c: e:foo}; entity buz {a: Long, b: Long, c: e:bar}; entity foo; entity bar",
-        "attr baz a: Long; attr baz b: String; attr baz c: foo; attr buz a: Long; attr buz b: Long; attr buz c: bar; \
+        "entity baz {a: Long, b: String, c: e:foo}; entity buz {a: Long, b: Long, c: e:bar}; \
+         entity foo; entity bar",
+        "attr baz a: Long; attr baz b: String; attr baz c: foo; attr buz a: Long; \
+         attr buz b: Long; attr buz c: bar; \
          entity bar standard; entity baz standard; entity buz standard; entity foo standard",
     ),
     (
@@ -196,12 +213,14 @@ const HIERARCHY: &[(&str, &str, &str)] = &[
     (
         "descendants are chains of parents",
         "entity C in B; entity B in A; entity A",
-        "descendant A B; descendant A C; descendant B C; entity A standard; entity B standard; entity C standard",
+        "descendant A B; descendant A C; descendant B C; entity A standard; entity B standard; \
+         entity C standard",
     ),
     (
         "two entity types, each below the other",
         "entity A in B; entity B in A",
-        "descendant A A; descendant A B; descendant B A; descendant B B; entity A standard; entity B standard",
+        "descendant A A; descendant A B; descendant B A; descendant B B; entity A standard; \
+         entity B standard",
     ),
     (
         "an entity type below itself",
@@ -211,7 +230,8 @@ const HIERARCHY: &[(&str, &str, &str)] = &[
     (
         "two ways up, and a parent that is named twice",
         "entity D in B,C,B; entity C in A; entity B in A; entity A",
-        "descendant A B; descendant A C; descendant A D; descendant B D; descendant C D; entity A standard; \
+        "descendant A B; descendant A C; descendant A D; descendant B D; descendant C D; \
+         entity A standard; \
          entity B standard; entity C standard; entity D standard",
     ),
     (
@@ -237,7 +257,8 @@ const HIERARCHY: &[(&str, &str, &str)] = &[
     (
         "external entity types stand between others",
         "entity C in B; external entity B in A; entity A; entity D {b: e:B}",
-        "attr D b: B; descendant A B; descendant A C; descendant B C; entity A standard; entity B external; \
+        "attr D b: B; descendant A B; descendant A C; descendant B C; entity A standard; \
+         entity B external; \
          entity C standard; entity D standard",
     ),
 ];
@@ -251,7 +272,8 @@ const LINKED: &[(&str, &str, &str)] = &[
     ),
     (
         "the parents of both count",
-        "external entity User in Group | entity User in Team {age: Long}; entity Group; entity Team",
+        "external entity User in Group | entity User in Team {age: Long}; entity Group; \
+         entity Team",
         "attr User age: Long; descendant Group User; descendant Team User; entity Group standard; \
          entity Team standard; entity User standard",
     ),
@@ -262,8 +284,10 @@ const LINKED: &[(&str, &str, &str)] = &[
     ),
     (
         "two external declarations and a definition, each with a parent of its own",
-        "external entity U in A | external entity U in B | entity U in C | entity A; entity B; entity C",
-        "descendant A U; descendant B U; descendant C U; entity A standard; entity B standard; entity C standard; \
+        "external entity U in A | external entity U in B | entity U in C | entity A; entity B; \
+         entity C",
+        "descendant A U; descendant B U; descendant C U; entity A standard; entity B standard; \
+         entity C standard; \
          entity U standard",
     ),
     (
@@ -278,13 +302,16 @@ const LINKED: &[(&str, &str, &str)] = &[
     ),
     (
         "what an external declaration says of types doesn't count beside a definition",
-        "N: external entity U in V {a: e:Gone} tags n:Gone | N: entity U {b: Long} tags Long | N: entity V",
-        "attr N::U b: Long; descendant N::V N::U; entity N::U standard; entity N::V standard; tags N::U: Long",
+        "N: external entity U in V {a: e:Gone} tags n:Gone | N: entity U {b: Long} tags Long | \
+         N: entity V",
+        "attr N::U b: Long; descendant N::V N::U; entity N::U standard; entity N::V standard; \
+         tags N::U: Long",
     ),
     (
         "a ring through an external declaration",
         "external entity A in B | entity A | entity B in A",
-        "descendant A A; descendant A B; descendant B A; descendant B B; entity A standard; entity B standard",
+        "descendant A A; descendant A B; descendant B A; descendant B B; entity A standard; \
+         entity B standard",
     ),
 ];
 

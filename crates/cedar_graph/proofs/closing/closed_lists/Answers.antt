@@ -8,6 +8,7 @@ use Rattle.cedar_graph.proofs.KeyedEdges.{nothing_in_nil}
 use Rattle.cedar_graph.proofs.Lists.{each_after_push, items_at-past}
 use Rattle.cedar_graph.proofs.closing.closed_lists.Goals as goal
 
+-- no mark stands yet, and no number is closed
 pub loop-from-init : goal.loop-from-init
 loop-from-init c =
     let marks = c.in_ok-marks.ensures.items_if_clones_equal (λ y same. same) in
@@ -19,15 +20,19 @@ loop-from-init c =
       count = omega arith;
     }
 
+-- the targets of all numbers have marks
 pub reached-requires-clause-within : goal.reached-requires-clause-within
 reached-requires-clause-within c = λ i j edge.
     let under = c.requires.within i j edge in
     omega (arith, under, c.loop-from.invariant.marks, c.loop-from.marks.ok.0)
 
+-- what is forgotten is what was gathered
 pub forget-requires : goal.forget-requires
 forget-requires c =
     subst (AreGathered c.reached.new.marks.items) (sym c.deref.ensures.value) c.in_ok-found.ensures.gathered
 
+-- a further number is closed: the new list holds what chains reach from it, and each list before it
+-- stays
 pub loop-from-preserved : goal.loop-from-preserved
 loop-from-preserved c =
     let old = c.loop-from.invariant in
@@ -51,6 +56,7 @@ loop-from-preserved c =
       count = omega (arith, most, old.count);
     }
 
+-- each number has been gone through; one behind the last has no list and no target
 pub returns-clause-closed : goal.returns-clause-closed
 returns-clause-closed c = λ i j.
     let lists = c.loop-from.closed.items in

@@ -9,6 +9,7 @@ use Rattle.cedar_schema_writer.proofs.Refusals.{refusal_passed}
 use Rattle.cedar_schema_writer.proofs.actions.write_actions.Goals as goal
 use Rattle.cedar_schema_writer.proofs.actions.write_actions.Goals.{In_ok-parents, In-Some}
 
+-- nothing is put yet, and each uid is there once
 pub loop-uid-init : goal.loop-uid-init
 loop-uid-init c =
     let entries = c.args.known.now.actions.now.entries in
@@ -33,11 +34,13 @@ listed c = put_here (ap (map plain_action_entry) c.in-Some.ensures.steps) c.loop
 path : (c : In_ok-parents) → IsPathOf (plain_namespace c.in_ok-namespace.namespace) (uid_of c.in-Some.uid.now).ty.path
 path c = c.in_ok-namespace.ensures ∙ ap (λ (name : PlainName). name.path) (c.name.ensures.name ∙ c.entity_type.ensures.name)
 
+-- an action whose type has another base name can't be written
 pub returns-then-not-is_action-clause-refusal : goal.returns-then-not-is_action-clause-refusal
 returns-then-not-is_action-clause-refusal c =
     let at = (goal.at.returns-then-not-is_action-clause-refusal c).In-Some in
     (turn at, listed at, λ sound. false≢true (sym c.if-not-is_action.true ∙ c.is_action.ensures.1 sound.action_type))
 
+-- nor can one with a descendant that is no action of the schema
 pub returns-in_err-check_descendants-clause-refusal : goal.returns-in_err-check_descendants-clause-refusal
 returns-in_err-check_descendants-clause-refusal c =
     let at = (goal.at.returns-in_err-check_descendants-clause-refusal c).In-Some in
@@ -46,6 +49,7 @@ returns-in_err-check_descendants-clause-refusal c =
     let unknown = rw (← names_of_keys uid_of plain_action_entry (λ e. refl) c.args.known.now.actions.now.entries) at some in
     (turn at, listed at, λ sound. unknown.2 (sound.below unknown.0 unknown.1)))
 
+-- nor one with a parent whose name would name another
 pub returns-in_err-parents-clause-refusal : goal.returns-in_err-parents-clause-refusal
 returns-in_err-parents-clause-refusal c =
     let at = (goal.at.returns-in_err-parents-clause-refusal c).In-Some in
@@ -58,6 +62,7 @@ returns-in_err-parents-clause-refusal c =
       λ sound. some.2 (sound.above _ is some.0 ((c.requires.uppers c.in-Some.uid.now some.0).0 some.1)),
     ))
 
+-- nor one whose requests can't be written
 pub returns-in_err-declared-clause-refusal : goal.returns-in_err-declared-clause-refusal
 returns-in_err-declared-clause-refusal c =
     let at = (goal.at.returns-in_err-declared-clause-refusal c).In-Some in
@@ -68,6 +73,8 @@ returns-in_err-declared-clause-refusal c =
       λ sound. unsound (sound.kind _ (path (goal.at.returns-in_err-declared-clause-refusal c).In_ok-parents)),
     ))
 
+-- the declaration is put under the uid of this turn, which is written from its namespace and id; its
+-- parents are the uids that list it
 pub loop-uid-preserved : goal.loop-uid-preserved
 loop-uid-preserved c =
     let known = c.args.known.now in

@@ -5,6 +5,7 @@ use Rattle.declaration_examples.specs.Words.{ClosedAttributes, ListsDescendant, 
 use Rattle.cedar_declarations.proofs.OccurrenceLemmas.{Contains-single}
 use Rattle.declaration_examples.proofs.converted_back.schemas_are_converted_back.Goals as goal
 
+-- the entity types of the sample
 group : PlainName × SchemaEntityType
 group = type_entry (alias_name (codes "Group")) plain_kind (within_sample (codes "User") ∷ [])
 
@@ -27,6 +28,8 @@ listed lower upper lists =
           let none = subst ListsLower (sym same) lists.2 in absurd (omega (arith, none.1))
     ]
 
+-- two entity types and an action are declared: the group has no parents, the user has the group, and
+-- the action has the user as its principal
 pub returns : goal.returns
 unfolding group user
 returns c =

@@ -12,4 +12,4 @@ returns c =
     let IsFoundIn : List EntityType → Type 0 = λ types. IsSearchInRange r (length types)
     × IsBinarySearchResult (λ y. (entity_type_ord.ghosts).cmp y ty) types r in
     let both = subst IsFoundIn c.as_slice.ensures (c.binary_search.ensures.bound, c.binary_search.ensures.position) in
-    rw c.is_ok.ensures.value (searched-Decides (lub_types c.args.self.now) c.args.self.now.sorted_by_name ty r both.0 both.1)
+    rw c.is_ok.ensures.value (searched-Decides (lub_types c.args.self.now) c.args.self.now.sorted ty r both.0 both.1)

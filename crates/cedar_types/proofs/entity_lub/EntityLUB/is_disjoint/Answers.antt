@@ -13,7 +13,7 @@ pub returns-then-is_at : goal.returns-then-is_at
 returns-then-is_at c =
     let other = c.args.other.now in
     let ahead = rw (drop-at _ c.loop-ty.ty-index c.ty-item.result c.loop-ty-test.true c.ty-item.is) at c.loop-ty.invariant.1 in
-    let there = sought-Decides type_name type_name name_cmp name_cmp-total (lub_types other) other.sorted_by_name c.loop-ty.at c.seek-at.result c.ty-item.result _ ahead
+    let there = sought-Decides type_name type_name name_cmp name_cmp-total (lub_types other) other.sorted c.loop-ty.at c.seek-at.result c.ty-item.result _ ahead
     c.seek-at.ensures.passed c.seek-at.ensures.stays c.is_at.result c.is_at.ensures in (
       λ wrong. absurd (false≢true wrong),
       λ apart. absurd ((rw (← c.as_slice-ty-items.ensures) at apart)
@@ -26,12 +26,12 @@ pub loop-ty-preserved : goal.loop-ty-preserved
 loop-ty-preserved c =
     let other = c.args.other.now in
     let ahead = rw (drop-at _ c.loop-ty.ty-index c.ty-item.result c.loop-ty-test.true c.ty-item.is) at c.loop-ty.invariant.1 in
-    let there = sought-Decides type_name type_name name_cmp name_cmp-total (lub_types other) other.sorted_by_name c.loop-ty.at c.seek-at.result c.ty-item.result _ ahead
+    let there = sought-Decides type_name type_name name_cmp name_cmp-total (lub_types other) other.sorted c.loop-ty.at c.seek-at.result c.ty-item.result _ ahead
     c.seek-at.ensures.passed c.seek-at.ensures.stays c.is_at.result c.is_at.ensures in (
       AreDisjoint-more c.as_slice-ty-items.result.now (lub_names other) c.loop-ty.ty-index c.ty-item.result
           c.loop-ty-test.true c.ty-item.is c.loop-ty.invariant.0
           (λ among. false≢true (sym c.if-is_at.false ∙ there.1 among)),
-      sought-next type_name type_name name_cmp name_cmp-total (lub_types other) other.sorted_by_name c.loop-ty.at c.seek-at.result c.ty-item.result _ ahead
+      sought-next type_name type_name name_cmp name_cmp-total (lub_types other) other.sorted c.loop-ty.at c.seek-at.result c.ty-item.result _ ahead
           c.seek-at.ensures.passed c.seek-at.ensures.stays,
     )
 
