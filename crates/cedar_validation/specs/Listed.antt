@@ -16,12 +16,13 @@ module _ {K V P : Type 0} (under : K → P) (below : V → List P) (entries : Li
   LeadsTo = Chain ListsIn
 
 module _ {K V P : Type 0} (under : K → P) (below : V → List P) (entries : List (K × V)) where
-  -- why what is listed can't be closed: a name leads back to itself where none may, or one is listed
-  -- that no entry has; an answer of memory says nothing
+  -- why what is listed can't be closed: a name leads back to itself where none may, or one is
+  -- listed that no entry has; an answer of memory says nothing
   abbrev pub IsListFault : Bool → TableFault K → Type 0
   IsListFault enforce_dag (HasCycle key) =
       IsTrue enforce_dag × LeadsTo under below entries (under key) (under key)
-  IsListFault enforce_dag (Lacks key) = ((upper : P) × ListsIn under below entries (under key) upper)
+  IsListFault enforce_dag (Lacks key) =
+      ((upper : P) × ListsIn under below entries (under key) upper)
       × ¬ ((entry : K × V) × Contains entries entry × (under entry.0 ≡ under key))
   IsListFault enforce_dag Memory = ⊤
 

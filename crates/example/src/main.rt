@@ -23,11 +23,11 @@ fn declared(alloc: Global, text: &str) -> Result<Result<ValidatorSchema, SchemaE
 }
 
 /// Shows what a schema answers of users.
-fn show(rt: &impl Print, schema: &ValidatorSchema, user: &EntityType) -> Result<(), Fail> {
-    for ancestor in schema.ancestors(user).ok_or("no user")? {
+fn show(rt: &impl Print, schema: &ValidatorSchema, user: EntityType) -> Result<(), Fail> {
+    for ancestor in schema.ancestors(&user).ok_or("no user")? {
         println!(rt; "{user} in {ancestor}")?;
     }
-    let ty = schema.get_entity_type(user).ok_or("no user")?;
+    let ty = schema.get_entity_type(&user).ok_or("no user")?;
     println!(rt; "home: {}", ty.attr("home").ok_or("no home")?.attr_type)?;
     for env in schema.unlinked_request_envs(ValidationMode::Strict) {
         println!(rt; "{} {} {}", env.principal, env.action, env.resource)?;
@@ -50,11 +50,8 @@ fn show_refusal(rt: &impl Print, alloc: Global, text: &str) -> Result<(), Fail> 
 
 fn main(rt: HostRuntime) -> Result<(), Fail> {
     let alloc = rt.alloc();
-    show(
-        &rt,
-        &declared(alloc, PHOTOS)??,
-        &EntityType::from_str(alloc, "User")?,
-    )?;
+    let user = EntityType::from_str(alloc, "User")?;
+    show(&rt, &declared(alloc, PHOTOS)??, user)?;
     let (user, group) = (reference(alloc, "User")?, reference(alloc, "Group")?);
     let either = Type::least_upper_bound(alloc, &user, &group, ValidationMode::Permissive)?;
     println!(rt; "{either}")?;
