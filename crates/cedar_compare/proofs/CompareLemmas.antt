@@ -235,9 +235,9 @@ nothing_told extensions old new keeps (it ∷ rest) losses =
 pub schema_keyed : (schema : ValidatorSchema) → IsKeyed (schema_of schema)
 schema_keyed schema = record {
   types = one_at name_cmp name_cmp-total (schema_of schema).entity_types
-      (∥∥₁_elim schema.in_order (Prim.hlevel props) (λ ordered. ordered.entity_types));
+      (∥∥₁_elim schema.content.in_order (Prim.hlevel props) (λ ordered. ordered.entity_types));
   actions = one_at uid_cmp uid_cmp-total (schema_of schema).actions
-      (∥∥₁_elim schema.in_order (Prim.hlevel props) (λ ordered. ordered.actions));
+      (∥∥₁_elim schema.content.in_order (Prim.hlevel props) (λ ordered. ordered.actions));
 }
 
 module _ {A : Type 0} (P : A → Type 0) (all : List A) where

@@ -6,7 +6,7 @@ use Rattle.std.specs.Map.{lookup}
 use Rattle.std.specs.Option.{option_map}
 use Rattle.std.specs.Ordering.{is_eq}
 use Rattle.cedar_below.proofs.Lists.{Contains-cons, Contains-cons_cases}
-use Rattle.cedar_compare.specs.Words.{ActionKind, AreChoicesAt, DefinesAction, IsActionAt, IsAt, IsDefinedKind, IsKeyed, IsTypeAt, ListsDescendantAction, PlainName, PlainSchema, PlainUid, SchemaAction, SchemaEntityType, Text, ValidatorActionId, ValidatorEntityType, ValidatorSchema, action_of, action_of_uid, defined_action, entity_type_named, external_action, kind_choices, name_cmp, plain_type, schema_of, type_name, uid_cmp, uid_of}
+use Rattle.cedar_compare.specs.Words.{ActionKind, AreChoicesAt, DefinesAction, IsActionAt, IsAt, IsDefinedKind, IsKeyed, IsTypeAt, ListsDescendantAction, PlainName, PlainSchema, PlainUid, SchemaAction, SchemaEntityType, Text, ValidatorActionId, ValidatorEntityType, ValidatorSchema, action_entries, action_of, action_of_uid, defined_action, entity_type_named, external_action, kind_choices, name_cmp, plain_type, schema_entries, schema_of, type_name, uid_cmp, uid_of}
 use Rattle.cedar_declarations.proofs.OccurrenceLemmas.{name_test, uid_test}
 
 module _ {K V P D : Type 0} (f : K → P) (g : V → D) (name : P) (test : K → Bool)
@@ -43,7 +43,7 @@ pub type_at : (schema : ValidatorSchema) (name : PlainName) (o : Option Validato
 type_at schema name o is =
     let P : Option ValidatorEntityType → Type 0 = λ found. IsTypeAt (schema_of schema) name (option_map plain_type found) in
     subst P (sym is) (found type_name plain_type name (λ key. is_eq (name_cmp name (type_name key))) (λ key. name_test name (type_name key))
-    schema.entity_types.entries)
+    (schema_entries schema))
 
 -- the action of a uid, as a schema finds it
 pub action_at : (schema : ValidatorSchema) (uid : PlainUid) (o : Option ValidatorActionId) → o ≡ action_of_uid schema uid
@@ -51,7 +51,7 @@ pub action_at : (schema : ValidatorSchema) (uid : PlainUid) (o : Option Validato
 action_at schema uid o is =
     let P : Option ValidatorActionId → Type 0 = λ found. IsActionAt (schema_of schema) uid (option_map action_of found) in
     subst P (sym is) (found uid_of action_of uid (λ key. is_eq (uid_cmp uid (uid_of key))) (λ key. uid_test uid (uid_of key))
-    schema.action_ids.entries)
+    (action_entries schema))
 
 -- the keys of entries as plain data are what the keys stand for
 pub plain_keys : {K V P D : Type 0} (f : K → P) (g : V → D) (entries : List (K × V))

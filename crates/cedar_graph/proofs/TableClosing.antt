@@ -1,6 +1,5 @@
 -- A table whose nodes have gained edges, against the chains of what its keys lead to.
 use Rattle.std.proofs.Common.{◌≡◌, ◌↔◌, ℕ, zero, suc, ◌<◌, Bool, Contains, Err, Ok, OnOk, Result, List, [], ◌∷◌, Some, Vec, length, slice_get, option_map, refl, sym, ◌∙◌, ap, subst, arith, inl, inr}
-use Rattle.std.specs.Bool.{⊤}
 use Rattle.std.specs.Cmp.{IsEquivalence}
 use Rattle.std.specs.List.{IsDistinct, zip}
 use Rattle.std.specs.List.Sorted.{IsStrictlySortedBy}
@@ -13,7 +12,7 @@ use Rattle.std.proofs.lemmas.Map.Made.{keys_of-zip}
 use Rattle.std.proofs.lemmas.Option.{get_or_from_slice_get, same_Some, slice_get-map, slice_get_within}
 use Rattle.std.proofs.lemmas.Slice.Zip.{seconds-zip}
 use Rattle.cedar_below.proofs.Chains.{refined}
-use Rattle.cedar_graph.specs.Words.{AreInTurn, Chain, HasCycle, HoldsPairwise, IsClosedTo, IsGrown, IsLack, IsTableFault, IsTarget, Lacks, ListHas, Memory, StandsIn, StepsTo, TableFault, items_at, one}
+use Rattle.cedar_graph.specs.Words.{AreInTurn, Chain, HasCycle, HoldsPairwise, IsClosedTo, IsCycle, IsGrown, IsLack, IsTableFault, IsTarget, Lacks, ListHas, Memory, StandsIn, StepsTo, TableFault, items_at, one}
 use Rattle.cedar_graph.proofs.Growing.{grows_weaker}
 use Rattle.cedar_graph.proofs.TableEdges.{chain_of_keys, chain_of_numbers, entry_numbered, one_place}
 
@@ -111,11 +110,11 @@ on_ok_anyway (Err error) holds = tt
 
 -- a cycle by numbers is one of the edges, and nothing else is at fault
 pub fault_of_steps : {K : Type 0} (Leads Steps : K → K → Type 0) (There : K → Type 0) → ((a b : K) → Leads a b → Steps a b)
-    → (enforce_dag : Bool) (fault : TableFault K) → IsTableFault Leads (λ key. ⊤) enforce_dag fault
+    → (enforce_dag : Bool) (fault : TableFault K) → IsCycle Leads enforce_dag fault
     → IsTableFault Steps There enforce_dag fault
 fault_of_steps Leads Steps There each enforce_dag (HasCycle key) at_fault =
     (at_fault.0, refined (λ a b leads. one (each a b leads)) at_fault.1)
-fault_of_steps Leads Steps There each enforce_dag (Lacks key) at_fault = absurd (at_fault.1 tt)
+fault_of_steps Leads Steps There each enforce_dag (Lacks key) at_fault = absurd at_fault
 fault_of_steps Leads Steps There each enforce_dag Memory at_fault = tt
 
 -- a key that is lacked is at fault

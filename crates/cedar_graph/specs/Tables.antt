@@ -24,19 +24,28 @@ pub record IsClosedTo {K V : Type 0} (has_edge : V → K → Bool) (is_alike : V
   pub alike : is_alike it.1 closed.1
   pub edges : (to : K) → IsTrue (has_edge closed.1 to) ↔ Chain Leads it.0 to
 
--- a key isn't there to which an edge leads; an answer of memory says nothing
+-- the key that is refused is one on a cycle, or one that is lacking; an answer of memory says
+-- nothing
+abbrev pub IsFaultOf : {K : Type 0} → (K → Type 0) → (K → Type 0) → TableFault K → Type 0
+IsFaultOf OnCycle Lacking (HasCycle key) = OnCycle key
+IsFaultOf OnCycle Lacking (Lacks key) = Lacking key
+IsFaultOf OnCycle Lacking Memory = ⊤
+
+-- a key isn't there to which an edge leads, or memory ran out
 abbrev pub IsLack : {K : Type 0} → (K → Type 0) → (K → Type 0) → TableFault K → Type 0
-IsLack There Edge (HasCycle key) = ⊥
-IsLack There Edge (Lacks key) = Edge key × ¬ There key
-IsLack There Edge Memory = ⊤
+IsLack There Edge = IsFaultOf (λ key. ⊥) (λ key. Edge key × ¬ There key)
+
+-- a key leads back to itself where none may, or memory ran out
+abbrev pub IsCycle : {K : Type 0} → (K → K → Type 0) → Bool → TableFault K → Type 0
+IsCycle Leads enforce_dag = IsFaultOf (λ key. IsTrue enforce_dag × Chain Leads key key) (λ key. ⊥)
 
 -- why a table isn't closed: a key leads back to itself where none may, or one leads to a key that
 -- isn't there; an answer of memory says nothing
 abbrev pub IsTableFault : {K : Type 0} → (K → K → Type 0) → (K → Type 0) → Bool → TableFault K
     → Type 0
-IsTableFault Leads There enforce_dag (HasCycle key) = IsTrue enforce_dag × Chain Leads key key
-IsTableFault {K = K} Leads There enforce_dag (Lacks key) = ((from : K) × Leads from key) × ¬ There key
-IsTableFault Leads There enforce_dag Memory = ⊤
+IsTableFault {K = K} Leads There enforce_dag =
+    IsFaultOf (λ key. IsTrue enforce_dag × Chain Leads key key)
+    (λ key. ((from : K) × Leads from key) × ¬ There key)
 
 module _ {K V : Type 0} (has_edge : V → K → Bool) (is_alike : V → V → Type 0) where
   -- the new node has gained edges to just those keys to which one may go
@@ -45,6 +54,7 @@ module _ {K V : Type 0} (has_edge : V → K → Bool) (is_alike : V → V → Ty
     pub complete : (to : K) → May to → IsTrue (has_edge new to)
 
 -- the items of two lists that stand at one place are related, and the lists are as long
-pub record AreInTurn {A B : Type 0} (R : ℕ → A → B → Type 0) (xs : List A) (ys : List B) : Type 0 where
+pub record AreInTurn {A B : Type 0} (R : ℕ → A → B → Type 0) (xs : List A) (ys : List B) :
+    Type 0 where
   pub len : length ys ≡ length xs
   pub each : (i : ℕ) (x : A) (y : B) → slice_get xs i ≡ Some x → slice_get ys i ≡ Some y → R i x y

@@ -34,7 +34,7 @@ fn add_number<K: Eq + Hash + Drop, V: TCNode<K>>(numbering: &mut Numbering<K>, k
 {
     let number = numbering.names.len();
     let name = V::copy_key(key)?;
-    let copy = V::copy_key(key)?;
+    let copy = V::copy_key(&name)?;
     numbering.numbers.insert(copy, number)?;
     numbering.names.push(name)?;
     Ok(number)

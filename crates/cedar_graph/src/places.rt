@@ -16,7 +16,8 @@ fn place_of<K: Ord + Hash, V: TCNode<K>>(
     key: &K,
 ) -> Result<usize, TableFault<K>>
     ensures place { IfOk result (IsNumbered K.eq (keys_of nodes.now.entries) key.now) }
-    ensures fault { IfErr result (IsLack (HasEntry K.eq nodes.now.entries) (λ other. IsTrue (K.eq key.now other))) }
+    ensures fault { IfErr result (IsLack (HasEntry K.eq nodes.now.entries)
+        (λ other. IsTrue (K.eq key.now other))) }
 {
     match nodes.place(key) {
         Some(place) => Ok(place),
@@ -32,7 +33,8 @@ fn places_of<K: Ord + Hash + Drop, V: TCNode<K>>(
 ) -> Result<Vec<usize>, TableFault<K>>
     ensures places { IfOk result (λ places. AreNumbersOf K.eq (keys_of nodes.now.entries)
         (V.has_edge node.now) places.items) }
-    ensures fault { IfErr result (IsLack (HasEntry K.eq nodes.now.entries) (λ key. IsTrue (V.has_edge node.now key))) }
+    ensures fault { IfErr result (IsLack (HasEntry K.eq nodes.now.entries)
+        (λ key. IsTrue (V.has_edge node.now key))) }
 {
     let mut places = Vec::new(alloc);
     for key in node.out_edges() {
@@ -52,7 +54,8 @@ pub(crate) fn all_places<K: Ord + Hash + Drop, V: TCNode<K>>(
         → IfSome (slice_get (values_of nodes.now.entries) i)
         (λ node. AreNumbersOf K.eq (keys_of nodes.now.entries) (V.has_edge node)
         (items_at targets.items i))) }
-    ensures fault { IfErr result (IsLack (HasEntry K.eq nodes.now.entries) (λ key. (from : K) × StepsTo K.eq V.has_edge nodes.now.entries from key)) }
+    ensures fault { IfErr result (IsLack (HasEntry K.eq nodes.now.entries)
+        (λ key. (from : K) × StepsTo K.eq V.has_edge nodes.now.entries from key)) }
 {
     let mut targets = Vec::with_capacity(alloc, nodes.len())?;
     for node in nodes.values() {

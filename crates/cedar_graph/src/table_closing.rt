@@ -1,9 +1,9 @@
 //! The closure of the edges of a table of nodes.
 
-ghost use Rattle.std.specs.Prelude.{◌≡◌, ◌⊎◌, ℕ, ◌<◌, Contains, IfErr, IfOk, IfSome, IsTrue, OnOk, length, slice_get, vec_len, ⊤};
+ghost use Rattle.std.specs.Prelude.{◌≡◌, ◌⊎◌, ℕ, ◌<◌, Contains, IfErr, IfOk, IfSome, IsTrue, OnOk, length, slice_get, vec_len};
 ghost use Rattle.std.specs.List.Sorted.{IsStrictlySortedBy};
 ghost use Rattle.std.specs.Map.{keys_of, values_of};
-ghost use Rattle.cedar_graph.specs.Words.{AreInTurn, Chain, HasEntry, HoldsPairwise, IsClosedTo, IsGrown, IsTableFault, IsTarget, ListHas, StandsIn, StepsTo, items_at};
+ghost use Rattle.cedar_graph.specs.Words.{AreInTurn, Chain, HasEntry, HoldsPairwise, IsClosedTo, IsCycle, IsGrown, IsTableFault, IsTarget, ListHas, StandsIn, StepsTo, items_at};
 
 use crate::closing::{closed_lists, first_on_cycle};
 use crate::list_edges::add_edges;
@@ -40,7 +40,8 @@ fn linked_nodes<K: Eq + Hash + Drop, V: TCNode<K> + Drop>(
     requires known { length nodes.items ≡ vec_len known.now }
     requires within { (i j : ℕ) → IsTarget lists.now.items i j → j < vec_len keys.now }
     requires linked { (i : ℕ) → IfSome (slice_get nodes.items i) (λ node. (to : K)
-        → StandsIn K.eq keys.now.items (items_at known.now.items i) to → IsTrue (V.has_edge node to)) }
+        → StandsIn K.eq keys.now.items (items_at known.now.items i) to
+        → IsTrue (V.has_edge node to)) }
     ensures { IfOk result (λ linked. AreInTurn (λ i. IsGrown V.has_edge V.is_alike
         (StandsIn K.eq keys.now.items (items_at lists.now.items i))) nodes.items linked.items) }
 {
@@ -65,13 +66,16 @@ fn closed_table<K: Ord + Hash + Drop, V: TCNode<K> + Drop>(
     requires len { vec_len targets.now ≡ length nodes.entries }
     requires within { (i j : ℕ) → IsTarget targets.now.items i j → j < length nodes.entries }
     requires linked { (i : ℕ) → IfSome (slice_get (values_of nodes.entries) i) (λ node. (to : K)
-        → StandsIn K.eq (keys_of nodes.entries) (items_at targets.now.items i) to → IsTrue (V.has_edge node to)) }
+        → StandsIn K.eq (keys_of nodes.entries) (items_at targets.now.items i) to
+        → IsTrue (V.has_edge node to)) }
     ensures closed { IfOk result (λ closed. AreInTurn (λ i it other. (other.0 ≡ it.0)
-        × IsGrown V.has_edge V.is_alike (Chain (ListHas K.eq (keys_of nodes.entries) targets.now.items) it.0) it.1 other.1)
+        × IsGrown V.has_edge V.is_alike
+        (Chain (ListHas K.eq (keys_of nodes.entries) targets.now.items) it.0) it.1 other.1)
         nodes.entries closed.entries) }
     ensures acyclic { OnOk result (IsTrue enforce_dag
         → (key : K) → ¬ Chain (ListHas K.eq (keys_of nodes.entries) targets.now.items) key key) }
-    ensures fault { IfErr result (IsTableFault (ListHas K.eq (keys_of nodes.entries) targets.now.items) (λ key. ⊤) enforce_dag) }
+    ensures fault { IfErr result
+        (IsCycle (ListHas K.eq (keys_of nodes.entries) targets.now.items) enforce_dag) }
 {
     let (lists, _joins) = closed_lists(alloc, targets, nodes.len())?;
     let (keys, values) = nodes.into_parts(alloc)?;
@@ -84,8 +88,8 @@ fn closed_table<K: Ord + Hash + Drop, V: TCNode<K> + Drop>(
     Ok(Table::from_parts(alloc, keys, linked)?)
 }
 
-/// A table whose nodes have an edge to each key that a chain of one or more edges reaches from their
-/// own.
+/// A table whose nodes have an edge to each key that a chain of one or more edges reaches from
+/// their own.
 ///
 /// Each edge has to lead to a key of the table, else it is refused with `Lacks` and that key. Each
 /// node stays alike but for its edges. With `enforce_dag` it is refused with `HasCycle` where some

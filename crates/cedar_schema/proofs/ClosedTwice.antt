@@ -14,7 +14,7 @@ pairwise_apart R S T step xs ys zs first second =
     (turn_back R (λ y x. R x y) (λ x y is. is) xs ys first) second
 
 -- a kind of actions is the same as itself
-kind_itself : (kind : ActionKind) → SameActionKind kind kind
+pub kind_itself : (kind : ActionKind) → SameActionKind kind kind
 kind_itself (defined_action principals resources context) = ((λ item. (λ h. h, λ h. h)), (λ item. (λ h. h, λ h. h)), refl)
 kind_itself external_action = tt
 

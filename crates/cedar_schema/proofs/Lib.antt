@@ -3,6 +3,7 @@ mod CollectedBags
 pub mod Comparisons
 mod DeclaredParts
 pub mod InOrder
+mod Itself
 mod KnownBags
 mod KnownOfBuilt
 mod Mapped

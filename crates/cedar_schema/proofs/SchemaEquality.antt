@@ -65,10 +65,10 @@ schemas-Same a b =
     (λ both. record {
       entity_types = both.0;
       actions = both.1;
-      action_entities = same_entities (schema_of a) (schema_of b) (known_entities (schema_of a) a.entities_of_actions)
-          (known_entities (schema_of b) b.entities_of_actions) both.1;
+      action_entities = same_entities (schema_of a) (schema_of b) (known_entities (schema_of a) a.content.entities_of_actions)
+          (known_entities (schema_of b) b.content.entities_of_actions) both.1;
     })
     (λ same. (same.entity_types, same.actions))
     (Decides-and _ _
-    (pairwise-Same same_entry plain_entry SameEntityType entry-Same a.entity_types.entries b.entity_types.entries)
-    (pairwise-Same same_action_entry plain_action_entry SameAction action_entry-Same a.action_ids.entries b.action_ids.entries))
+    (pairwise-Same same_entry plain_entry SameEntityType entry-Same a.content.entity_types.entries b.content.entity_types.entries)
+    (pairwise-Same same_action_entry plain_action_entry SameAction action_entry-Same a.content.action_ids.entries b.content.action_ids.entries))

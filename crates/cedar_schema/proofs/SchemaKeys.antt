@@ -7,7 +7,7 @@ use Rattle.cedar_schema.specs.Words.{AreKeysLocated, ValidatorSchema, action_ent
 
 -- they were written where the names and uids of their values were
 pub keys_located : (schema : ValidatorSchema) → AreKeysLocated (schema_entries schema) (action_entries schema)
-keys_located schema = record { of_types = schema.types_located; of_actions = schema.actions_located }
+keys_located schema = record { of_types = schema.content.types_located; of_actions = schema.content.actions_located }
 
 -- so of each schema that a call gives
 pub keys_given : {E : Type 0} (P : ValidatorSchema → Type 0) (answer : Result ValidatorSchema E) → IfOk answer P

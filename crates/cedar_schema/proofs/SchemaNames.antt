@@ -41,8 +41,8 @@ schema_in_order types actions entities names uids = record {
 -- every schema is in order
 pub known_order : (schema : ValidatorSchema) → IsInOrder (schema_of schema)
 known_order schema = record {
-  entity_types = ∥∥₁_elim schema.in_order (Prim.hlevel props) (λ order. order.entity_types);
-  actions = ∥∥₁_elim schema.in_order (Prim.hlevel props) (λ order. order.actions);
+  entity_types = ∥∥₁_elim schema.content.in_order (Prim.hlevel props) (λ order. order.entity_types);
+  actions = ∥∥₁_elim schema.content.in_order (Prim.hlevel props) (λ order. order.actions);
 }
 
 -- a schema of entries that stand under their names does
@@ -90,10 +90,10 @@ same_under_names types others actions other_actions entities other_entities type
 pub known_names : (schema : ValidatorSchema) → StandsUnderItsNames (schema_of schema)
 known_names schema = record {
   entity_types = λ it among.
-      (name_cmp-Equal it.1.name it.0).0 (∥∥₁_elim schema.under_names (Prim.hlevel props)
+      (name_cmp-Equal it.1.name it.0).0 (∥∥₁_elim schema.content.under_names (Prim.hlevel props)
       (λ stands. (name_cmp-Equal it.1.name it.0).1 (stands.entity_types it among)));
   actions = λ it among.
-      (uid_cmp-Equal it.1.uid it.0).0 (∥∥₁_elim schema.under_names (Prim.hlevel props)
+      (uid_cmp-Equal it.1.uid it.0).0 (∥∥₁_elim schema.content.under_names (Prim.hlevel props)
       (λ stands. (uid_cmp-Equal it.1.uid it.0).1 (stands.actions it among)));
 }
 
@@ -108,22 +108,22 @@ module _ {K V P : Type 0} (key : K → P) (own : V → P) where
       λ i. first i ∷ others i
 
 -- the names that the entity types of a schema stand under are sorted
-pub type_keys_ascend : (schema : ValidatorSchema) → IsStrictlySortedBy name_cmp (map type_name (keys_of schema.entity_types.entries))
+pub type_keys_ascend : (schema : ValidatorSchema) → IsStrictlySortedBy name_cmp (map type_name (keys_of schema.content.entity_types.entries))
 type_keys_ascend schema =
-    subst (IsStrictlySortedBy name_cmp) (names_of_keys type_name plain_entry (λ e. refl) schema.entity_types.entries)
+    subst (IsStrictlySortedBy name_cmp) (names_of_keys type_name plain_entry (λ e. refl) schema.content.entity_types.entries)
     (known_order schema).entity_types
 
 -- the uids that the actions of a schema stand under are sorted
-pub action_keys_ascend : (schema : ValidatorSchema) → IsStrictlySortedBy uid_cmp (map uid_of (keys_of schema.action_ids.entries))
+pub action_keys_ascend : (schema : ValidatorSchema) → IsStrictlySortedBy uid_cmp (map uid_of (keys_of schema.content.action_ids.entries))
 action_keys_ascend schema =
-    subst (IsStrictlySortedBy uid_cmp) (names_of_keys uid_of plain_action_entry (λ e. refl) schema.action_ids.entries)
+    subst (IsStrictlySortedBy uid_cmp) (names_of_keys uid_of plain_action_entry (λ e. refl) schema.content.action_ids.entries)
     (known_order schema).actions
 
 -- the names of the entity types of a schema are sorted
 pub type_names_ascend : (schema : ValidatorSchema)
-    → IsStrictlySortedBy name_cmp (map (λ it. (entity_type_of it).name) (map (λ it. it.1) schema.entity_types.entries))
+    → IsStrictlySortedBy name_cmp (map (λ it. (entity_type_of it).name) (map (λ it. it.1) schema.content.entity_types.entries))
 type_names_ascend schema =
-    let entries = schema.entity_types.entries in
+    let entries = schema.content.entity_types.entries in
     subst (IsStrictlySortedBy name_cmp)
     (sym (own_names type_name (λ it. (entity_type_of it).name) entries
     (λ it among. (known_names schema).entity_types (plain_entry it) (Contains-image plain_entry entries it among))))
@@ -131,9 +131,9 @@ type_names_ascend schema =
 
 -- the uids of the actions of a schema are sorted
 pub action_uids_ascend : (schema : ValidatorSchema)
-    → IsStrictlySortedBy uid_cmp (map (λ it. (action_of it).uid) (map (λ it. it.1) schema.action_ids.entries))
+    → IsStrictlySortedBy uid_cmp (map (λ it. (action_of it).uid) (map (λ it. it.1) schema.content.action_ids.entries))
 action_uids_ascend schema =
-    let entries = schema.action_ids.entries in
+    let entries = schema.content.action_ids.entries in
     subst (IsStrictlySortedBy uid_cmp)
     (sym (own_names uid_of (λ it. (action_of it).uid) entries
     (λ it among. (known_names schema).actions (plain_action_entry it) (Contains-image plain_action_entry entries it among))))
@@ -143,10 +143,10 @@ action_uids_ascend schema =
 pub no_reserved_name : (schema : ValidatorSchema) → HasNoReservedName (schema_of schema)
 no_reserved_name schema = record {
   entity_types = λ name has reserved.
-      let key = named_key schema.entity_types.entries name has in
+      let key = named_key schema.content.entity_types.entries name has in
       let P : PlainName → Type 0 = λ each. Contains each.path reserved_word in key.0.0.unreserved (inr (subst P (sym key.2) reserved));
   actions = λ uid has reserved.
-      let key = key_of_uid schema.action_ids.entries uid has in
+      let key = key_of_uid schema.content.action_ids.entries uid has in
       let P : PlainUid → Type 0 = λ each. Contains each.ty.path reserved_word in
       key.0.ty.0.unreserved (inr (subst P (sym key.2) reserved));
 }

@@ -3,6 +3,7 @@ pub mod LocatedType
 pub mod ResolvedBag
 pub mod SchemaKeys
 pub mod SchemaParts
+pub mod Shared
 pub mod ShownCommonTypes
 pub mod ShownNamespaces
 pub mod TypeLocations

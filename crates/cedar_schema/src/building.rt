@@ -7,6 +7,7 @@ ghost use Rattle.std.specs.Result.{result_map_both};
 ghost use Rattle.cedar_schema.specs.Words.{AreKeysLocated, IsBuiltFrom, IsDeclaredSchema, IsFault, IsIllFormed, IsResolvedOver, ShowsFragments, TypeNamesFit, collected_common, conditional_bag, extension_types, fault_of, held_names, name_cmp, out_of_memory, parts_schema, resolved_bag, type_name, uid_cmp, uid_of};
 
 use crate::collecting::{Located, located_in};
+use crate::shared::Shared;
 use cedar_below::{Entities, EntityType, EntityUID, Extensions, InternalName};
 use cedar_builder::{actions, entity_types};
 use cedar_declarations::SchemaError;
@@ -30,7 +31,7 @@ pub(crate) struct SchemaParts {
     /// The entities of the actions that are defined, each below all its ancestors.
     pub(crate) action_entities: Entities,
     /// The common types and namespaces of the fragments, with where these were written.
-    pub(crate) located: Located,
+    pub(crate) located: Shared<Located>,
 }
 
 /// That the names of entity types are sorted in their table.
@@ -54,7 +55,7 @@ fn build_resolved(
     fragments: Vec<ValidatorSchemaFragment<InternalName, EntityType>>,
     defs: &AllDefs,
     built_in: Vec<(InternalName, Type<InternalName>)>,
-    located: Located,
+    located: Shared<Located>,
     extensions: &Extensions,
 ) -> Result<SchemaParts, SchemaError>
     ensures declared { IfOk result (λ parts.
@@ -116,7 +117,7 @@ pub(crate) fn build(
     ensures keys { IfOk result (λ parts.
         AreKeysLocated parts.entity_types.entries parts.actions.entries) }
 {
-    let located = located_in(alloc, &fragments)?;
+    let located = Shared::new(alloc, located_in(alloc, &fragments)?)?;
     let Resolved {
         fragments,
         defs,

@@ -27,6 +27,10 @@ impl ValidatorSchema {
         ensures definitions { IfOk result (λ fragment. AreProper fragment.0.entries) }
         ensures refusal { IfErr result (Refuses (¬ IsWritable (schema_of self.now))) }
     {
-        json_schema(alloc, &self.entity_types, &self.action_ids)
+        json_schema(
+            alloc,
+            &self.content().entity_types,
+            &self.content().action_ids,
+        )
     }
 }

@@ -65,6 +65,7 @@ mod namespaces;
 mod queries;
 mod raw;
 pub mod schema;
+mod shared;
 pub mod show;
 pub mod theorems;
 mod type_locations;

@@ -16,7 +16,7 @@ impl ValidatorSchema {
     pub fn common_types(&self) -> slice::Iter<'_, LocatedCommonType>
         ensures { iter_rest result ≡ common_entries (located_of self.now) }
     {
-        self.located.common_types()
+        self.located.value().common_types()
     }
 
     /// The namespaces of the fragments that have a name, each once and in the order of their names,
@@ -25,6 +25,6 @@ impl ValidatorSchema {
     pub fn namespaces(&self) -> Namespaces<'_>
         ensures { result ≡ map (λ entry. entry.1) (namespace_entries (located_of self.now)) }
     {
-        self.located.namespaces()
+        self.located.value().namespaces()
     }
 }

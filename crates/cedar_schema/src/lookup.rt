@@ -69,7 +69,8 @@ impl SchemaLookup for Type {
     ghost stands_for = { ty_of };
 
     fn euid_literal(alloc: Global, uid: &EntityUID, schema: &ValidatorSchema) -> M<Option<Self>> {
-        if !cedar_queries::is_known_uid(&schema.entity_types, &schema.action_ids, uid) {
+        let content = schema.content();
+        if !cedar_queries::is_known_uid(&content.entity_types, &content.action_ids, uid) {
             return Ok(None);
         }
         let ty = Type::named_entity_reference(alloc, uid.entity_type().clone()?)?;
@@ -77,7 +78,7 @@ impl SchemaLookup for Type {
     }
 
     fn all_attributes(&self, alloc: Global, schema: &ValidatorSchema) -> M<Attributes> {
-        cedar_queries::all_attributes(alloc, &schema.entity_types, self)
+        cedar_queries::all_attributes(alloc, &schema.content().entity_types, self)
     }
 
     fn lookup_attribute_type(
@@ -86,19 +87,19 @@ impl SchemaLookup for Type {
         ty: &Type,
         name: &str,
     ) -> M<Option<AttributeType>> {
-        cedar_queries::lookup_attribute_type(alloc, &schema.entity_types, ty, name)
+        cedar_queries::lookup_attribute_type(alloc, &schema.content().entity_types, ty, name)
     }
 
     fn may_have_attr(schema: &ValidatorSchema, ty: &Type, name: &str) -> bool {
-        cedar_queries::may_have_attr(&schema.entity_types, ty, name)
+        cedar_queries::may_have_attr(&schema.content().entity_types, ty, name)
     }
 
     fn may_have_tags(schema: &ValidatorSchema, ty: &Type) -> bool {
-        cedar_queries::may_have_tags(&schema.entity_types, ty)
+        cedar_queries::may_have_tags(&schema.content().entity_types, ty)
     }
 
     fn has_declared_entity_types(schema: &ValidatorSchema, ty: &Type) -> bool {
-        cedar_queries::has_declared_entity_types(&schema.entity_types, ty)
+        cedar_queries::has_declared_entity_types(&schema.content().entity_types, ty)
     }
 }
 
@@ -122,7 +123,7 @@ impl KnownAttrs for EntityKind {
     ghost stands_for = { kind_ty };
 
     fn all_known_attrs(&self, alloc: Global, schema: &ValidatorSchema) -> M<Attributes> {
-        cedar_queries::known_attributes(alloc, &schema.entity_types, self)
+        cedar_queries::known_attributes(alloc, &schema.content().entity_types, self)
     }
 }
 

@@ -27,7 +27,7 @@ impl ValidatorSchema {
     pub fn get_entity_type(&self, name: &EntityType) -> Option<&ValidatorEntityType>
         ensures { option_copied result ≡ entity_type_named self.now (type_name name.now) }
     {
-        self.entity_types.get(name)
+        self.content().entity_types.get(name)
     }
 
     /// The entity types, in the order of their names, one for each.
@@ -36,7 +36,7 @@ impl ValidatorSchema {
         ensures in_order { IsStrictlySortedBy name_cmp
             (map (λ it. (entity_type_of it).name) result) }
     {
-        self.entity_types.values()
+        self.content().entity_types.values()
     }
 
     /// The names of the entity types, in order, each once.
@@ -46,14 +46,14 @@ impl ValidatorSchema {
             ≡ map (λ entry. types.name_loc entry.1) (schema_entries self.now) }
         ensures in_order { IsStrictlySortedBy name_cmp (map type_name result) }
     {
-        self.entity_types.keys()
+        self.content().entity_types.keys()
     }
 
     /// The action of this uid, if the schema declares one.
     pub fn get_action_id(&self, uid: &EntityUID) -> Option<&ValidatorActionId>
         ensures { option_copied result ≡ action_of_uid self.now (uid_of uid.now) }
     {
-        self.action_ids.get(uid)
+        self.content().action_ids.get(uid)
     }
 
     /// The actions, external ones too, in the order of their uids, one for each.
@@ -61,7 +61,7 @@ impl ValidatorSchema {
         ensures actions { result ≡ map (λ entry. entry.1) (action_entries self.now) }
         ensures in_order { IsStrictlySortedBy uid_cmp (map (λ it. (action_of it).uid) result) }
     {
-        self.action_ids.values()
+        self.content().action_ids.values()
     }
 
     /// The uids of the actions, external ones too, in order, each once.
@@ -73,7 +73,7 @@ impl ValidatorSchema {
             ≡ map (λ entry. action.name_type_loc entry.1) (action_entries self.now) }
         ensures in_order { IsStrictlySortedBy uid_cmp (map uid_of result) }
     {
-        self.action_ids.keys()
+        self.content().action_ids.keys()
     }
 
     /// The environments of the requests that the actions are for: for each action that is defined,
@@ -81,7 +81,7 @@ impl ValidatorSchema {
     pub fn unlinked_envs_owned(&self) -> &[UnlinkedRequestEnv]
         ensures { AreEnvironmentsOf (schema_of self.now) (map owned_environment result.now) }
     {
-        &self.environments
+        &self.content().environments
     }
 
     /// The environments of the requests that the actions are for, borrowed: the same in either
@@ -97,7 +97,7 @@ impl ValidatorSchema {
     pub fn principals(&self) -> ApplicableTypes<'_>
         ensures { result ≡ all_principals (schema_of self.now).actions }
     {
-        cedar_queries::principals(&self.action_ids)
+        cedar_queries::principals(&self.content().action_ids)
     }
 
     /// The types of the resources of requests: of each action in turn each once. External actions
@@ -105,7 +105,7 @@ impl ValidatorSchema {
     pub fn resources(&self) -> ApplicableTypes<'_>
         ensures { result ≡ all_resources (schema_of self.now).actions }
     {
-        cedar_queries::resources(&self.action_ids)
+        cedar_queries::resources(&self.content().action_ids)
     }
 
     /// The types of the principals of an action's requests, each once; of an external action none.
@@ -116,7 +116,7 @@ impl ValidatorSchema {
             (action_at (uid_of uid.now) (schema_of self.now).actions) }
         ensures once { IfSome result (λ types. AllPairs (λ a b. a ≢ b) (map type_name types)) }
     {
-        cedar_queries::principals_for_action(&self.action_ids, uid)
+        cedar_queries::principals_for_action(&self.content().action_ids, uid)
     }
 
     /// The types of the resources of an action's requests, each once; of an external action none.
@@ -127,7 +127,7 @@ impl ValidatorSchema {
             (action_at (uid_of uid.now) (schema_of self.now).actions) }
         ensures once { IfSome result (λ types. AllPairs (λ a b. a ≢ b) (map type_name types)) }
     {
-        cedar_queries::resources_for_action(&self.action_ids, uid)
+        cedar_queries::resources_for_action(&self.content().action_ids, uid)
     }
 
     /// The uids of the actions that are for requests of this principal with this resource, in
@@ -142,7 +142,11 @@ impl ValidatorSchema {
             (schema_of self.now).actions }
         ensures in_order { IsStrictlySortedBy uid_cmp (map uid_of result) }
     {
-        cedar_queries::actions_for_principal_and_resource(&self.action_ids, principal, resource)
+        cedar_queries::actions_for_principal_and_resource(
+            &self.content().action_ids,
+            principal,
+            resource,
+        )
     }
 
     /// The uids of the actions that have descendants, in order, each once.
@@ -150,7 +154,7 @@ impl ValidatorSchema {
         ensures uids { map uid_of result ≡ groups (schema_of self.now).actions }
         ensures in_order { IsStrictlySortedBy uid_cmp (map uid_of result) }
     {
-        cedar_queries::action_groups(&self.action_ids)
+        cedar_queries::action_groups(&self.content().action_ids)
     }
 
     /// The type of the context of an action's requests. None where the schema has no action of this
@@ -159,7 +163,7 @@ impl ValidatorSchema {
         ensures { option_map ty_of (option_copied result)
             ≡ context_at (uid_of uid.now) (schema_of self.now).actions }
     {
-        cedar_queries::context_type(&self.action_ids, uid)
+        cedar_queries::context_type(&self.content().action_ids, uid)
     }
 
     /// Whether the schema has an entity type of this name, or the name is one of actions' types.
@@ -167,7 +171,7 @@ impl ValidatorSchema {
         ensures { IsTrue result ↔ IsKnownType (schema_of self.now).entity_types
             (type_name name.now) }
     {
-        cedar_queries::is_known_entity_type(&self.entity_types, name)
+        cedar_queries::is_known_entity_type(&self.content().entity_types, name)
     }
 
     /// Whether the schema has an action of this uid.
@@ -175,7 +179,7 @@ impl ValidatorSchema {
         ensures { IsTrue result ↔ Contains (map (λ it. it.0) (schema_of self.now).actions)
             (uid_of uid.now) }
     {
-        cedar_queries::is_known_action_id(&self.action_ids, uid)
+        cedar_queries::is_known_action_id(&self.content().action_ids, uid)
     }
 
     /// The names of the entity types that have this one among their descendants, in order, each
@@ -189,7 +193,7 @@ impl ValidatorSchema {
         ensures in_order { IfSome result (λ above.
             IsStrictlySortedBy name_cmp (map type_name above)) }
     {
-        cedar_queries::ancestors(&self.entity_types, ty)
+        cedar_queries::ancestors(&self.content().entity_types, ty)
     }
 
     /// The names of the descendants of an entity type, in some order, each once, and then its own,
@@ -207,7 +211,7 @@ impl ValidatorSchema {
             AllPairs (λ a b. a ≢ b) (descendants_of (type_name ty.now)
             (schema_of self.now).entity_types)) }
     {
-        cedar_queries::entity_types_in(alloc, &self.entity_types, ty)
+        cedar_queries::entity_types_in(alloc, &self.content().entity_types, ty)
     }
 
     /// For each of some uids in turn the uids of the descendants of its action, in some order, and
@@ -226,7 +230,7 @@ impl ValidatorSchema {
             ≡ flat_map (λ uid. action_descendants (uid_of uid) (schema_of self.now).actions
             ++ uid_of uid ∷ []) uids.now)) }
     {
-        cedar_queries::actions_in_set(alloc, &self.action_ids, uids)
+        cedar_queries::actions_in_set(alloc, &self.content().action_ids, uids)
     }
 
     /// Whether entities of some of the one types may be among or below those of some of the others:
@@ -238,7 +242,8 @@ impl ValidatorSchema {
             (schema_of self.now).actions (type_name lower)
             (type_name upper)) uppers.now) lowers.now }
     {
-        cedar_queries::any_descendent_of(&self.entity_types, &self.action_ids, lowers, uppers)
+        let content = self.content();
+        cedar_queries::any_descendent_of(&content.entity_types, &content.action_ids, lowers, uppers)
     }
 
     /// What is declared to be elsewhere (RFC 116): the external entity types in order, and then the
@@ -247,7 +252,10 @@ impl ValidatorSchema {
         ensures { unresolved_left result
             ≡ unresolved (schema_entries self.now) (action_entries self.now) }
     {
-        cedar_queries::unresolved_declarations(&self.entity_types, &self.action_ids)
+        cedar_queries::unresolved_declarations(
+            &self.content().entity_types,
+            &self.content().action_ids,
+        )
     }
 
     /// Whether nothing is declared to be elsewhere.
@@ -255,7 +263,7 @@ impl ValidatorSchema {
         ensures { IsTrue result ↔ (unresolved (schema_entries self.now) (action_entries self.now)
             ≡ []) }
     {
-        cedar_queries::is_complete(&self.entity_types, &self.action_ids)
+        cedar_queries::is_complete(&self.content().entity_types, &self.content().action_ids)
     }
 
     /// That nothing is declared to be elsewhere; else the error carries what is, in order, with the
@@ -266,7 +274,11 @@ impl ValidatorSchema {
         ensures incomplete { IfErr result
             (IsIncomplete (schema_entries self.now) (action_entries self.now)) }
     {
-        cedar_queries::check_complete(alloc, &self.entity_types, &self.action_ids)
+        cedar_queries::check_complete(
+            alloc,
+            &self.content().entity_types,
+            &self.content().action_ids,
+        )
     }
 
     /// The leaves of the types of attributes, tags and contexts: whatever stands there that is
@@ -277,7 +289,11 @@ impl ValidatorSchema {
             (schema_leaves (schema_of self.now).entity_types (schema_of self.now).actions)
             (leaves_of (pending_types leaves))) }
     {
-        cedar_queries::leaf_types(alloc, &self.entity_types, &self.action_ids)
+        cedar_queries::leaf_types(
+            alloc,
+            &self.content().entity_types,
+            &self.content().action_ids,
+        )
     }
 
     /// The entities of the actions that the schema defines, by uid: without attributes and tags,
@@ -288,6 +304,6 @@ impl ValidatorSchema {
             (schema_with (schema_of self.now).entity_types (action_entries self.now)
             (entities_of entities))) }
     {
-        action_entities(alloc, &self.action_ids)
+        action_entities(alloc, &self.content().action_ids)
     }
 }

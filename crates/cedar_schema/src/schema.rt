@@ -1,9 +1,10 @@
 //! Schemas, and how one is built from fragments.
 
-ghost use Rattle.std.specs.Prelude.{map};
+ghost use Rattle.std.specs.Prelude.{◌≡◌, ◌⊎◌, IfErr, IfOk, List, OnOk, map};
 ghost use Rattle.cedar_schema_elements.specs.ValidatorActionId as action;
 ghost use Rattle.cedar_below.specs.Entities.{entities_of};
-ghost use Rattle.cedar_declarations.specs.Words.{AreActionEntities, AreEnvironmentsOf};
+ghost use Rattle.cedar_declarations.specs.Words.{AreActionEntities, AreEnvironmentsOf, ClosesSchema, IsSchemaFault, IsValidSchema, fault_of, out_of_memory};
+ghost use Rattle.cedar_validation.specs.Words.{Entity, plain_schema};
 ghost use Rattle.cedar_schema_elements.specs.Words.{owned_environment, plain_entry, schema_with};
 ghost use Rattle.cedar_schema_elements.specs.ValidatorEntityType as types;
 ghost use Rattle.cedar_declaration_laws.specs.EndToEnd.{IsInOrder, StandsUnderItsNames};
@@ -14,6 +15,7 @@ pub use crate::located_common_type::LocatedCommonType;
 pub use crate::located_namespace::LocatedNamespace;
 pub use crate::located_type::LocatedType;
 use crate::raw::build_raw;
+use crate::shared::Shared;
 use cedar_below::{Entities, EntityType, EntityUID, Extensions, M};
 pub use cedar_declarations::{ContextOrShape, SchemaError, UnsupportedFeature};
 use cedar_fragments::namespace::ValidatorSchemaFragment;
@@ -28,6 +30,7 @@ pub use cedar_schema_writer::WriteBackFault;
 use cedar_table::Table;
 use cedar_validation::{
     Validated, actions_by_uid, copied_actions, copied_types, types_by_name, validate,
+    validate_copies,
 };
 use std::alloc::Global;
 use std::collections::BTreeMap;
@@ -43,14 +46,20 @@ use std::collections::BTreeMap;
 /// what is shown of fragments.
 #[derive_where(Debug, PartialEq, Eq)]
 pub struct ValidatorSchema {
+    pub(crate) content: Shared<Content>,
+    #[derive_where(skip(EqHashOrd))]
+    pub(crate) located: Shared<Located>,
+}
+
+/// What a schema holds but for what it shows of its fragments: its copies share it.
+#[derive_where(Debug, PartialEq, Eq)]
+pub(crate) struct Content {
     pub(crate) entity_types: Table<EntityType, ValidatorEntityType>,
     pub(crate) action_ids: Table<EntityUID, ValidatorActionId>,
     #[derive_where(skip(EqHashOrd))]
     pub(crate) action_entities: Entities,
     #[derive_where(skip(EqHashOrd))]
     pub(crate) environments: Vec<UnlinkedRequestEnv>,
-    #[derive_where(skip(EqHashOrd))]
-    pub(crate) located: Located,
     ghost entities_of_actions: { ∥ AreActionEntities
         (schema_with (map plain_entry entity_types.entries) action_ids.entries
         (entities_of action_entities)) ∥₁ },
@@ -72,12 +81,42 @@ pub struct ValidatorSchema {
 impl Drop for ValidatorSchema {
     fn drop(self) {
         let ValidatorSchema {
+            content: _content,
+            located: _located,
+        } = self;
+    }
+}
+
+// Written out for the same reason.
+impl Drop for Content {
+    fn drop(self) {
+        let Content {
             entity_types: _entity_types,
             action_ids: _action_ids,
             action_entities: _action_entities,
             environments: _environments,
-            located: _located,
         } = self;
+    }
+}
+
+impl Content {
+    /// The entity types and the actions.
+    fn into_tables(
+        self,
+    ) -> (
+        Table<EntityType, ValidatorEntityType>,
+        Table<EntityUID, ValidatorActionId>,
+    )
+        ensures types { result.0.entries ≡ self.entity_types.entries }
+        ensures actions { result.1.entries ≡ self.action_ids.entries }
+    {
+        let Content {
+            entity_types,
+            action_ids,
+            action_entities: _entities,
+            environments: _environments,
+        } = self;
+        (entity_types, action_ids)
     }
 }
 
@@ -101,13 +140,23 @@ impl ValidatorSchema {
         let action_entities = Entities::new(alloc);
         // That no entities are in order is known from their iterator.
         let _in_order = action_entities.iter();
-        ValidatorSchema {
+        let content = Content {
             entity_types: Table::new(alloc),
             action_ids: Table::new(alloc),
             action_entities,
             environments: Vec::new(alloc),
-            located: Located::nothing(alloc),
+        };
+        ValidatorSchema {
+            content: Shared::owned(content),
+            located: Shared::owned(Located::nothing(alloc)),
         }
+    }
+
+    /// What the schema holds.
+    pub(crate) fn content(&self) -> &Content
+        ensures { result.now ≡ self.now.content }
+    {
+        self.content.value()
     }
 
     /// The schema of what was built, with its environments.
@@ -131,11 +180,14 @@ impl ValidatorSchema {
         // That names and uids are in order is known from their iterators.
         let _names = entity_types.keys();
         let _uids = actions.keys();
-        Ok(ValidatorSchema {
+        let content = Content {
             entity_types,
             action_ids: actions,
             action_entities,
             environments,
+        };
+        Ok(ValidatorSchema {
+            content: Shared::new(alloc, content)?,
             located,
         })
     }
@@ -349,7 +401,7 @@ impl ValidatorSchema {
             entity_types,
             actions,
             action_entities,
-            located: Located::nothing(alloc),
+            located: Shared::new(alloc, Located::nothing(alloc))?,
         };
         ValidatorSchema::from_parts(alloc, parts)
     }
@@ -382,18 +434,12 @@ impl ValidatorSchema {
         ensures keys { IfOk result (λ schema.
             AreKeysLocated (schema_entries schema) (action_entries schema)) }
     {
-        let ValidatorSchema {
-            entity_types,
-            action_ids,
-            action_entities: _entities,
-            environments: _environments,
-            located,
-        } = self;
+        let ValidatorSchema { content, located } = self;
         let Validated {
             entity_types,
             actions,
             action_entities,
-        } = validate(alloc, entity_types, action_ids, extensions)?;
+        } = validated(alloc, content, extensions)?;
         let parts = SchemaParts {
             entity_types,
             actions,
@@ -401,6 +447,35 @@ impl ValidatorSchema {
             located,
         };
         Ok(ValidatorSchema::from_parts(alloc, parts)?)
+    }
+
+    /// A schema of copies of the tables, where the schema may have but one owner.
+    fn copied(&self) -> M<Self>
+        ensures schema { IfOk result (λ copy. SameSchema (schema_of copy) (schema_of self.now)) }
+        ensures entity_types { IfOk result (λ copy.
+            HoldsPairwise IsTypeCopied (schema_entries self.now) (schema_entries copy)) }
+        ensures actions { IfOk result (λ copy.
+            HoldsPairwise IsActionCopied (action_entries self.now) (action_entries copy)) }
+        ensures common_types { IfOk result (λ copy.
+            map shown_common_type (common_entries (located_of copy))
+            ≡ map shown_common_type (common_entries (located_of self.now))) }
+        ensures namespaces { IfOk result (λ copy.
+            map shown_entry (namespace_entries (located_of copy))
+            ≡ map shown_entry (namespace_entries (located_of self.now))) }
+        ensures keys { IfOk result (λ schema.
+            AreKeysLocated (schema_entries schema) (action_entries schema)) }
+    {
+        let content = self.content();
+        let alloc = *content.environments.allocator();
+        let actions = copied_actions(&content.action_ids)?;
+        let action_entities = action_entities(alloc, &actions)?;
+        let parts = SchemaParts {
+            entity_types: copied_types(&content.entity_types)?,
+            actions,
+            action_entities,
+            located: Shared::new(alloc, self.located.value().clone()?)?,
+        };
+        ValidatorSchema::from_parts(alloc, parts)
     }
 
     /// An equal schema, which shows the same of its fragments. Its entity types and actions, their
@@ -420,15 +495,54 @@ impl ValidatorSchema {
         ensures keys { IfOk result (λ schema.
             AreKeysLocated (schema_entries schema) (action_entries schema)) }
     {
-        let alloc = *self.environments.allocator();
-        let actions = copied_actions(&self.action_ids)?;
-        let action_entities = action_entities(alloc, &actions)?;
-        let parts = SchemaParts {
-            entity_types: copied_types(&self.entity_types)?,
-            actions,
-            action_entities,
-            located: self.located.clone()?,
+        let Some(content) = self.content.other_owner()? else {
+            return self.copied();
         };
-        ValidatorSchema::from_parts(alloc, parts)
+        let Some(located) = self.located.other_owner()? else {
+            return self.copied();
+        };
+        Ok(ValidatorSchema { content, located })
+    }
+}
+
+/// What a schema holds, checked, with its descendants closed: itself where nobody else holds it,
+/// else a copy of it.
+fn validated(
+    alloc: Global,
+    content: Shared<Content>,
+    extensions: &Extensions,
+) -> Result<Validated, SchemaError>
+    ensures fault { IfErr result (λ error.
+        (entities : List Entity) → (fault_of error ≡ out_of_memory)
+        ⊎ IsSchemaFault extensions.now
+        (plain_schema content.entity_types.entries content.action_ids.entries entities)
+        (fault_of error)) }
+    ensures valid { OnOk result ((entities : List Entity)
+        → IsValidSchema extensions.now
+        (plain_schema content.entity_types.entries content.action_ids.entries entities)) }
+    ensures types_located { IfOk result (λ it. types.AreLocatedAsKeys content.entity_types.entries
+        → types.AreLocatedAsKeys it.entity_types.entries) }
+    ensures actions_located { IfOk result (λ it. action.AreLocatedAsKeys content.action_ids.entries
+        → action.AreLocatedAsKeys it.actions.entries) }
+    ensures closed { IfOk result (λ it. (entities : List Entity)
+        → ClosesSchema
+        (plain_schema content.entity_types.entries content.action_ids.entries entities)
+        (plain_schema it.entity_types.entries it.actions.entries
+        (entities_of it.action_entities))) }
+{
+    match content.into_value() {
+        Ok(content) => {
+            let (entity_types, actions) = content.into_tables();
+            validate(alloc, entity_types, actions, extensions)
+        }
+        Err(content) => {
+            let content = content.value();
+            validate_copies(
+                alloc,
+                &content.entity_types,
+                &content.action_ids,
+                extensions,
+            )
+        }
     }
 }

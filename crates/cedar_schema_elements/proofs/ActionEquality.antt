@@ -42,7 +42,7 @@ pub kinds-Decides : (a b : ValidatorActionKind)
     → Decides ((kind_eq.ghosts).eq a b) (SameActionKind (plain_kind a) (plain_kind b))
 kinds-Decides (variant.Defined a context) (variant.Defined b other) =
     Decides-like _ (λ both. (both.0.0, both.0.1, both.1)) (λ all. ((all.0, all.1), all.2))
-    (Decides-and _ _ (apply_specs-Decides a b) (types-Decides context other))
+    (Decides-and _ _ (apply_specs-Decides a.value b.value) (types-Decides context other))
 kinds-Decides variant.External variant.External = (λ _. tt, λ _. refl)
 kinds-Decides (variant.Defined a context) variant.External = none (λ e. e)
 kinds-Decides variant.External (variant.Defined b other) = none (λ e. e)

@@ -10,7 +10,8 @@ use Rattle.cedar_types.specs.Meaning.{ty_of}
 -- a kind as plain data
 abbrev pub plain_kind : ValidatorActionKind → ActionKind
 plain_kind (variant.Defined applies_to context) =
-    defined_action (principal_names applies_to) (resource_names applies_to) (ty_of context)
+    defined_action (principal_names applies_to.value) (resource_names applies_to.value)
+    (ty_of context)
 plain_kind variant.External = external_action
 
 -- the names of the principals that a kind is for; external actions have none

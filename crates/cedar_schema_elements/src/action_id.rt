@@ -11,6 +11,7 @@ use cedar_types::Type;
 use std::alloc::Global;
 use std::collections::{HashSet, hash_set};
 use std::default::Emptied;
+use std::rc::Rc;
 
 /// An action of a schema: it is for some requests, or it is external.
 ///
@@ -118,7 +119,7 @@ impl ValidatorActionId {
         let principals = type_set(alloc, principals)?;
         let resources = type_set(alloc, resources)?;
         let kind = ValidatorActionKind::Defined {
-            applies_to: ValidatorApplySpec::new(principals, resources),
+            applies_to: Rc::new(alloc, ValidatorApplySpec::new(principals, resources))?,
             context,
         };
         Self::with_kind(alloc, name, descendants, kind, loc)
@@ -273,6 +274,8 @@ impl ValidatorActionId {
         ensures name_type_loc { IfOk result (λ copy. name_type_loc copy ≡ name_type_loc self.now) }
         ensures kind { IfOk result (λ copy.
             SameActionKind (action_of copy).kind (action_of self.now).kind) }
+        ensures requests { IfOk result (λ copy.
+            (action_of copy).kind ≡ (action_of self.now).kind) }
         ensures descendants { IfOk result (λ copy.
             SameItems (action_of copy).descendants (action_of self.now).descendants) }
         ensures loc { IfOk result (λ copy. action_loc copy ≡ action_loc self.now) }

@@ -2,9 +2,9 @@
 use Rattle.std.proofs.Common.{◌≡◌, ◌↔◌, ◌∙◌, List, map, inl, inr, subst, sym, Contains}
 use Rattle.cedar_below.proofs.Chains.{first_step, last_step, refined}
 use Rattle.cedar_below.proofs.Lists.{Contains-preimage}
-use Rattle.cedar_validation.specs.Words.{ActionKind, Chain, ClosesAction, ClosesType, EntityTypeKind, Extensions, Fault, HoldsPairwise, IsContextOf, IsEnumerated, IsExternal, IsPrincipalOrResourceOf, IsSchemaFault, IsTypeIn, IsTypeOfKind, IsUnknownType, ListsDescendant, ListsDescendantAction, PlainName, PlainSchema, PlainUid, SchemaAction, SchemaEntityType, Ty, action_cycle, action_entity_type, action_shadowing, enumerated_below, external_below_enumerated, invalid_action_type, one, type_shadowing, undeclared_action_descendant, undeclared_entity_types, unknown_extension_type}
+use Rattle.cedar_validation.specs.Words.{ActionKind, Chain, ClosesAction, ClosesType, EntityTypeKind, Extensions, Fault, HoldsPairwise, IsContextOf, IsEnumerated, IsExternal, IsPrincipalOrResourceOf, IsSchemaFault, IsTypeIn, IsTypeOfKind, IsUnknownType, ListsDescendant, ListsDescendantAction, PlainName, PlainSchema, PlainUid, SameItems, SchemaAction, SchemaEntityType, Ty, action_cycle, action_entity_type, action_shadowing, enumerated_below, external_below_enumerated, invalid_action_type, one, type_shadowing, undeclared_action_descendant, undeclared_entity_types, unknown_extension_type}
 use Rattle.cedar_declarations.proofs.OccurrenceLemmas.{Contains-image}
-use Rattle.cedar_declarations.proofs.TurnLemmas.{turn_forth}
+use Rattle.cedar_declarations.proofs.TurnLemmas.{turn_back, turn_forth}
 use Rattle.cedar_below.proofs.TurnLemmas.{turn_weaker}
 use Rattle.cedar_validation.proofs.Pairwise.{pairwise_back}
 
@@ -14,7 +14,7 @@ pub record Shape (P Q T : Type 0) : Type 0 where
   pub kind : Q → T
 
 -- an item under the second name lists the first
-abbrev Lists : {P Q T : Type 0} → Shape P Q T → List (P × Q) → P → P → Type 0
+abbrev pub Lists : {P Q T : Type 0} → Shape P Q T → List (P × Q) → P → P → Type 0
 Lists {Q = Q} shape items lower upper = (it : Q) × Contains items (upper, it) × Contains (shape.listed it) lower
 
 -- entity types by name
@@ -26,12 +26,12 @@ abbrev pub action_shape : Shape PlainUid SchemaAction ActionKind
 action_shape = record { listed = λ it. it.descendants; kind = λ it. it.kind }
 
 -- each of the items stands among the others with the same name and kind
-record Found {P Q T : Type 0} (shape : Shape P Q T) (items others : List (P × Q)) : Type 0 where
+pub record Found {P Q T : Type 0} (shape : Shape P Q T) (items others : List (P × Q)) : Type 0 where
   pub at : (it : P × Q) → Contains items it → (other : P × Q) × Contains others other × (it.0 ≡ other.0)
       × (shape.kind it.1 ≡ shape.kind other.1)
 
 -- each of the items stands among the others and the other way round, and chains of the others lead as far
-record Agrees {P Q T : Type 0} (shape : Shape P Q T) (items others : List (P × Q)) : Type 0 where
+pub record Agrees {P Q T : Type 0} (shape : Shape P Q T) (items others : List (P × Q)) : Type 0 where
   pub forth : Found shape items others
   pub back : Found shape others items
   pub chain : (lower upper : P) → Chain (Lists shape items) lower upper → Chain (Lists shape others) lower upper
@@ -82,7 +82,7 @@ module _ (extensions : Extensions) (schema other : PlainSchema) (types : Agrees 
       ]
 
   -- a fault of the one is one of the other
-  fault_carried : (fault : Fault) → IsSchemaFault extensions schema fault → IsSchemaFault extensions other fault
+  pub fault_carried : (fault : Fault) → IsSchemaFault extensions schema fault → IsSchemaFault extensions other fault
   fault_carried (undeclared_entity_types names) h = (h.0, λ name among. unknown_carried name (h.1 name among))
   fault_carried (unknown_extension_type name) h = (h.0, type_in h.0 h.1, h.2, h.3)
   fault_carried (action_entity_type name) h = (has types.forth name h.0, h.1)
@@ -97,6 +97,52 @@ module _ (extensions : Extensions) (schema other : PlainSchema) (types : Agrees 
   fault_carried (type_shadowing plain qualified) h = (has types.forth plain h.0, has types.forth qualified h.1, h.2)
   fault_carried (action_shadowing plain qualified) h = (has actions.forth plain h.0, has actions.forth qualified h.1, h.2)
   fault_carried _ h = absurd h
+
+-- two items have one name, are of one kind and list the same
+pub record IsAlike {P Q T : Type 0} (shape : Shape P Q T) (it other : P × Q) : Type 0 where
+  pub key : it.0 ≡ other.0
+  pub kind : shape.kind it.1 ≡ shape.kind other.1
+  pub listed : SameItems (shape.listed it.1) (shape.listed other.1)
+
+module _ {P Q T : Type 0} (shape : Shape P Q T) (items others : List (P × Q)) (alike : HoldsPairwise (IsAlike shape) items others) where
+  -- what the items list the others list under the same names
+  listed_forth : (lower upper : P) → Lists shape items lower upper → Lists shape others lower upper
+  listed_forth lower upper lists =
+      let it = turn_forth (IsAlike shape) items others alike (upper, lists.0) lists.1 in
+      let S : P → Type 0 = λ name. Contains others (name, it.0.1) in
+      (it.0.1, subst S (sym it.2.key) it.1, (it.2.listed lower).0 lists.2)
+
+  -- each item is found among the others
+  alike_found : Found shape items others
+  alike_found = record {
+    at = λ it among.
+        let other = turn_forth (IsAlike shape) items others alike it among in
+        (other.0, other.1, other.2.key, other.2.kind);
+  }
+
+  -- so chains of the others lead where those of the items do
+  pub chain_forth : (lower upper : P) → Chain (Lists shape items) lower upper → Chain (Lists shape others) lower upper
+  chain_forth lower upper chain = refined (λ low high lists. one (listed_forth low high lists)) chain
+
+-- what is alike is so the other way round
+pub alike_back : {P Q T : Type 0} (shape : Shape P Q T) (items others : List (P × Q)) → HoldsPairwise (IsAlike shape) items others
+    → HoldsPairwise (IsAlike shape) others items
+alike_back shape =
+    turn_back (IsAlike shape) (IsAlike shape)
+    (λ it other is. record {
+      key = sym is.key;
+      kind = sym is.kind;
+      listed = λ lower. ((is.listed lower).1, (is.listed lower).0);
+    })
+
+-- items that are alike agree
+pub agrees_alike : {P Q T : Type 0} (shape : Shape P Q T) (items others : List (P × Q)) → HoldsPairwise (IsAlike shape) items others
+    → Agrees shape items others
+agrees_alike shape items others alike = record {
+  forth = alike_found shape items others alike;
+  back = alike_found shape others items (alike_back shape items others alike);
+  chain = chain_forth shape items others alike;
+}
 
 -- the items have one name and are of one kind, and the second lists just what chains lead to from that name
 pub record Closes {P Q T : Type 0} (shape : Shape P Q T) (items : List (P × Q)) (it other : P × Q) : Type 0 where

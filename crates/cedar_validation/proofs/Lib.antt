@@ -1,6 +1,7 @@
 mod Agreeing
 mod Checking
 pub mod ClosedAgain
+mod CopiedParts
 pub mod CopyLemmas
 mod Graphs
 mod HierarchyLemmas

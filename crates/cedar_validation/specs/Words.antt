@@ -1,7 +1,7 @@
 -- The words of clauses, from one place.
 pub use Rattle.std.specs.Option.{MatchOption}
 pub use Rattle.std.specs.Ordering.{is_eq}
-pub use Rattle.cedar_below.specs.Words.{Chain, HoldsPairwise, IsActionType, IsReserved, IsUnqualified, PlainName, PlainUid, Text, entities_of, extension_types, more, name_cmp, name_of, one, plain_name, type_loc, type_name, uid_cmp, uid_loc, uid_of, uid_type_loc}
+pub use Rattle.cedar_below.specs.Words.{Chain, HoldsPairwise, IsActionType, IsReserved, IsUnqualified, PlainName, PlainUid, SameItems, Text, entities_of, extension_types, more, name_cmp, name_of, one, plain_name, type_loc, type_name, uid_cmp, uid_loc, uid_of, uid_type_loc}
 pub use Rattle.cedar_below.specs.declared.entity.Entity.{Entity}
 pub use Rattle.cedar_below.specs.declared.entity_type.EntityType.{EntityType}
 pub use Rattle.cedar_below.specs.declared.entity_uid.EntityUID.{EntityUID}

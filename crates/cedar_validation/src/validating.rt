@@ -6,6 +6,7 @@ ghost use Rattle.cedar_validation.specs.Words.{AreMentionsSound, AreNamesSound, 
 ghost use Rattle.cedar_schema_elements.specs.ValidatorEntityType as type_specs;
 
 use crate::closing::{closed_actions, closed_types};
+use crate::copies::{copied_actions, copied_types};
 use crate::hierarchy::check_hierarchy;
 use crate::known::{Known, action_types};
 use crate::mentions::check_mentions;
@@ -120,4 +121,34 @@ pub fn validate(
         actions: parts.actions,
         action_entities,
     })
+}
+
+/// The same of entity types and actions that others hold too, of which copies are checked.
+pub fn validate_copies(
+    alloc: Global,
+    entity_types: &Table<EntityType, ValidatorEntityType>,
+    actions: &Table<EntityUID, ValidatorActionId>,
+    extensions: &Extensions,
+) -> Result<Validated, SchemaError>
+    ensures fault { IfErr result (λ error.
+        (entities : List Entity) → (fault_of error ≡ out_of_memory)
+        ⊎ IsSchemaFault extensions.now
+        (plain_schema entity_types.now.entries actions.now.entries entities) (fault_of error)) }
+    ensures valid { OnOk result ((entities : List Entity)
+        → IsValidSchema extensions.now
+        (plain_schema entity_types.now.entries actions.now.entries entities)) }
+    ensures types_located { IfOk result (λ it.
+        type_specs.AreLocatedAsKeys entity_types.now.entries
+        → type_specs.AreLocatedAsKeys it.entity_types.entries) }
+    ensures actions_located { IfOk result (λ it.
+        action_specs.AreLocatedAsKeys actions.now.entries
+        → action_specs.AreLocatedAsKeys it.actions.entries) }
+    ensures closed { IfOk result (λ it. (entities : List Entity)
+        → ClosesSchema (plain_schema entity_types.now.entries actions.now.entries entities)
+        (plain_schema it.entity_types.entries it.actions.entries
+        (entities_of it.action_entities))) }
+{
+    let entity_types = copied_types(entity_types)?;
+    let actions = copied_actions(actions)?;
+    validate(alloc, entity_types, actions, extensions)
 }

@@ -1,9 +1,8 @@
 use Rattle.std.proofs.Common.{◌≡◌, ◌↔◌, arith, length}
 use Rattle.std.proofs.lemmas.Result.{IfErr-weaker, IfOk-weaker, on_ok_weaker}
-use Rattle.std.specs.Bool.{⊤}
 use Rattle.std.specs.Map.{keys_of}
 use Rattle.cedar_below.proofs.Chains.{refined}
-use Rattle.cedar_graph.specs.Words.{AreInTurn, Chain, HasEntry, HoldsPairwise, IsClosedTo, IsGrown, IsTableFault, ListHas, StepsTo, one}
+use Rattle.cedar_graph.specs.Words.{AreInTurn, Chain, HasEntry, HoldsPairwise, IsClosedTo, IsCycle, IsGrown, IsTableFault, ListHas, StepsTo, one}
 use Rattle.cedar_graph.proofs.TableClosing.{closed_pairwise, fault_of_steps, on_ok_anyway}
 use Rattle.cedar_graph.proofs.TableEdges.{leads_there, linked, list_from_step, step_from_list, within}
 use Rattle.cedar_graph.proofs.table_closing.close_table.Goals as goal
@@ -67,6 +66,6 @@ returns-clause-fault g c =
     let entries = c.args.nodes.entries in
     let Leads = ListHas eq (keys_of entries) c.in_ok-targets.targets.items in
     let Steps = StepsTo eq g.V.TCNode.has_edge entries in
-    IfErr-weaker c.closed_table.result (IsTableFault Leads (λ key. ⊤) c.args.enforce_dag)
+    IfErr-weaker c.closed_table.result (IsCycle Leads c.args.enforce_dag)
     (IsTableFault Steps (HasEntry eq entries) c.args.enforce_dag)
     (fault_of_steps Leads Steps (HasEntry eq entries) (λ a b. (steps g d a b).0) c.args.enforce_dag) c.closed_table.ensures.fault

@@ -23,13 +23,14 @@ returns c =
         key = ran.0.says.met.0 ∙ ap uid_of ran.0.shows;
         uid = ran.1.says.met.0 ∙ ap (λ each. (action_of each).uid) ran.1.shows;
         kind = rw ran.1.shows at ran.1.says.met.1.1.1.0;
-        descendants = rw ran.1.shows at ran.1.says.met.1.1.1.1.0;
+        descendants = rw ran.1.shows at ran.1.says.met.1.1.1.1.1.0;
       };
+      requests = rw ran.1.shows at ran.1.says.met.1.1.1.1.0;
       key_loc = ran.0.says.met.1.0 ∙ ap uid_loc ran.0.shows;
       key_type_loc = ran.0.says.met.1.1.0 ∙ ap uid_type_loc ran.0.shows;
       name_loc = ran.1.says.met.1.0 ∙ ap name_loc ran.1.shows;
       name_type_loc = ran.1.says.met.1.1.0 ∙ ap name_type_loc ran.1.shows;
-      loc = ran.1.says.met.1.1.1.1.1 ∙ ap action_loc ran.1.shows;
+      loc = ran.1.says.met.1.1.1.1.1.1 ∙ ap action_loc ran.1.shows;
     })
     c.args.actions.now.entries copies.entries turn)
     c.copied_table.ensures

@@ -8,5 +8,6 @@ use Rattle.cedar_schema.proofs.schema.ValidatorSchema.action_groups.Goals as goa
 pub returns-clause-in_order : goal.returns-clause-in_order
 returns-clause-in_order c =
     let schema = c.args.self.now in
-    subst (IsStrictlySortedBy uid_cmp) (sym c.action_groups.ensures)
+    let groups = rw c.content.ensures at c.action_groups.ensures in
+    subst (IsStrictlySortedBy uid_cmp) (sym groups)
     (keys_where-ascend uid_cmp (λ it. is_nonempty it.descendants) (schema_of schema).actions (known_order schema).actions)

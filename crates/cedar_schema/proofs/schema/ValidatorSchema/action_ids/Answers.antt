@@ -7,4 +7,5 @@ use Rattle.cedar_schema.proofs.schema.ValidatorSchema.action_ids.Goals as goal
 pub returns-clause-in_order : goal.returns-clause-in_order
 returns-clause-in_order c =
     let P : List ValidatorActionId → Type 0 = λ actions. IsStrictlySortedBy uid_cmp (map (λ it. (action_of it).uid) actions) in
-    subst P (sym c.values.ensures.rest) (action_uids_ascend c.args.self.now)
+    let rest = rw c.content.ensures at c.values.ensures.rest in
+    subst P (sym rest) (action_uids_ascend c.args.self.now)

@@ -10,6 +10,7 @@ returns-clause-in_order c =
     let schema = c.args.self.now in
     let principal = type_name c.args.principal.now in
     let resource = type_name c.args.resource.now in
-    subst (IsStrictlySortedBy uid_cmp) (sym c.actions_for_principal_and_resource.ensures)
+    let actions = rw c.content.ensures at c.actions_for_principal_and_resource.ensures in
+    subst (IsStrictlySortedBy uid_cmp) (sym actions)
     (keys_where-ascend uid_cmp (λ it. has_name (kind_principals it.kind) principal && has_name (kind_resources it.kind) resource)
     (schema_of schema).actions (known_order schema).actions)

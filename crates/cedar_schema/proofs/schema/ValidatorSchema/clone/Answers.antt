@@ -1,56 +1,19 @@
-use Rattle.std.proofs.Common.{map, subst, sym}
-use Rattle.std.proofs.lemmas.Result.{IfOk-weaker}
-use Rattle.cedar_schema.specs.Words.{PlainSchema, SameSchema, entities_of, plain_action_entry, plain_entry, schema_of, schema_with}
-use Rattle.cedar_declaration_laws.proofs.MereLemmas.{known_entities}
-use Rattle.cedar_declaration_laws.proofs.SameEntities.{same_entities}
-use Rattle.cedar_schema.proofs.SchemaNames.{known_names, same_under_names}
-use Rattle.cedar_schema.proofs.SchemaKeys.{keys_given}
+use Rattle.cedar_schema.specs.Words.{action_entries, schema_entries, schema_of}
+use Rattle.cedar_schema.proofs.Itself.{actions_themselves, schema_itself, types_themselves}
 use Rattle.cedar_schema.proofs.schema.ValidatorSchema.clone.Goals as goal
-use Rattle.cedar_validation.proofs.CopyLemmas.{action_copies_located, actions_same, type_copies_located, types_same}
 
--- the entities are made of the copied actions
-pub from_parts-requires-clause-entities : goal.from_parts-requires-clause-entities
-from_parts-requires-clause-entities c = c.in_ok-action_entities.ensures (map plain_entry c.in_ok-copied_types.field-0.entries)
-
--- the copies have the names of the originals, which stand under their own
-pub from_parts-requires-clause-under_names : goal.from_parts-requires-clause-under_names
-from_parts-requires-clause-under_names c =
-    let self = c.args.self.now in
-    let types = c.in_ok-copied_types.field-0.entries in
-    let actions = c.in_ok-actions.actions.entries in
-    same_under_names (map plain_entry self.entity_types.entries) (map plain_entry types)
-    (map plain_action_entry self.action_ids.entries) (map plain_action_entry actions) (schema_of self).action_entities _
-    (types_same self.entity_types.entries types c.in_ok-copied_types.ensures)
-    (actions_same self.action_ids.entries actions c.in_ok-actions.ensures) (known_names self)
-
--- copied tables are the same, and entities made of the same actions are the same
+-- another owner holds what the schema holds, which is the same as itself
 pub returns-clause-schema : goal.returns-clause-schema
 returns-clause-schema c =
-    let self = c.args.self.now in
-    let types = c.in_ok-copied_types.field-0.entries in
-    let actions = c.in_ok-actions.actions.entries in
-    let copied : PlainSchema = schema_with (map plain_entry types) actions (entities_of c.in_ok-action_entities.action_entities) in
-    let turn = actions_same self.action_ids.entries actions c.in_ok-actions.ensures in
-    let same : SameSchema copied (schema_of self) = record {
-      entity_types = types_same self.entity_types.entries types c.in_ok-copied_types.ensures;
-      actions = turn;
-      action_entities = same_entities copied (schema_of self) (c.in_ok-action_entities.ensures (map plain_entry types))
-          (known_entities (schema_of self) self.entities_of_actions) turn;
-    } in
-    let P : PlainSchema → Type 0 = λ schema. SameSchema schema (schema_of self) in
-    IfOk-weaker c.from_parts.result _ _ (λ copy is. subst P (sym is) same) c.from_parts.ensures.schema
+    let same = rw c.in-Some.is at c.in_ok-content.ensures in
+    rw same (schema_itself (schema_of c.args.self.now))
 
--- every schema has its keys located as in what stands under them
-pub returns-clause-keys : goal.returns-clause-keys
-returns-clause-keys c = keys_given _ c.from_parts.result c.from_parts.ensures.schema
+pub returns-clause-entity_types : goal.returns-clause-entity_types
+returns-clause-entity_types c =
+    let same = rw c.in-Some.is at c.in_ok-content.ensures in
+    rw same (types_themselves (schema_entries c.args.self.now))
 
--- copies are located as the originals, whose keys are located as in their nodes
-pub from_parts-requires-clause-keys : goal.from_parts-requires-clause-keys
-from_parts-requires-clause-keys c =
-    let self = c.args.self.now in
-    record {
-      of_types = type_copies_located self.entity_types.entries c.in_ok-copied_types.field-0.entries c.in_ok-copied_types.ensures
-          self.types_located;
-      of_actions = action_copies_located self.action_ids.entries c.in_ok-actions.actions.entries c.in_ok-actions.ensures
-          self.actions_located;
-    }
+pub returns-clause-actions : goal.returns-clause-actions
+returns-clause-actions c =
+    let same = rw c.in-Some.is at c.in_ok-content.ensures in
+    rw same (actions_themselves (action_entries c.args.self.now))

@@ -9,9 +9,10 @@ use Rattle.cedar_schema.proofs.schema.ValidatorSchema.entity_type_names.Goals as
 pub returns-clause-in_order : goal.returns-clause-in_order
 returns-clause-in_order c =
     let P : List EntityType → Type 0 = λ names. IsStrictlySortedBy name_cmp (map type_name names) in
-    subst P (sym c.keys.ensures.rest) (type_keys_ascend c.args.self.now)
+    let rest = rw c.content.ensures at c.keys.ensures.rest in
+    subst P (sym rest) (type_keys_ascend c.args.self.now)
 
 pub returns-clause-located : goal.returns-clause-located
 returns-clause-located c =
-    ap (map type_loc) c.keys.ensures.rest
-    ∙ agreed_on (λ entry. entry.0) type_loc (λ entry. name_loc entry.1) (schema_entries c.args.self.now) c.args.self.now.types_located
+    ap (map type_loc) (rw c.content.ensures at c.keys.ensures.rest)
+    ∙ agreed_on (λ entry. entry.0) type_loc (λ entry. name_loc entry.1) (schema_entries c.args.self.now) c.args.self.now.content.types_located

@@ -7,4 +7,5 @@ use Rattle.cedar_schema.proofs.schema.ValidatorSchema.entity_types.Goals as goal
 pub returns-clause-in_order : goal.returns-clause-in_order
 returns-clause-in_order c =
     let P : List ValidatorEntityType → Type 0 = λ types. IsStrictlySortedBy name_cmp (map (λ it. (entity_type_of it).name) types) in
-    subst P (sym c.values.ensures.rest) (type_names_ascend c.args.self.now)
+    let rest = rw c.content.ensures at c.values.ensures.rest in
+    subst P (sym rest) (type_names_ascend c.args.self.now)

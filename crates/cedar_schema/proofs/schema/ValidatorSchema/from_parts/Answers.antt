@@ -4,8 +4,8 @@ use Rattle.cedar_schema.specs.Words.{entities_of, plain_entry}
 use Rattle.cedar_schema.proofs.SchemaNames.{schema_in_order}
 use Rattle.cedar_schema.proofs.schema.ValidatorSchema.from_parts.Goals as goal
 
-pub invariant_of-result : goal.invariant_of-result
-invariant_of-result c =
+pub invariant_of-content : goal.invariant_of-content
+invariant_of-content c =
     let types = c.args.parts.entity_types.entries in
     let actions = c.args.parts.actions.entries in
     let entities = entities_of c.args.parts.action_entities in

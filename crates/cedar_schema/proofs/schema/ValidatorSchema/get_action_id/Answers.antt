@@ -5,5 +5,5 @@ use Rattle.cedar_schema.proofs.schema.ValidatorSchema.get_action_id.Goals as goa
 
 pub returns : goal.returns
 returns c =
-    c.get.ensures.value
-    ∙ ap (λ compare. get_by compare c.args.self.now.action_ids) (λ i key. entity_uid_ord-uid_cmp c.args.uid.now key i)
+    (rw c.content.ensures at c.get.ensures.value)
+    ∙ ap (λ compare. get_by compare c.args.self.now.content.action_ids) (λ i key. entity_uid_ord-uid_cmp c.args.uid.now key i)

@@ -5,5 +5,5 @@ use Rattle.cedar_schema.proofs.schema.ValidatorSchema.get_entity_type.Goals as g
 
 pub returns : goal.returns
 returns c =
-    c.get.ensures.value
-    ∙ ap (λ compare. get_by compare c.args.self.now.entity_types) (λ i key. entity_type_ord-name_cmp c.args.name.now key i)
+    (rw c.content.ensures at c.get.ensures.value)
+    ∙ ap (λ compare. get_by compare c.args.self.now.content.entity_types) (λ i key. entity_type_ord-name_cmp c.args.name.now key i)

@@ -48,10 +48,10 @@ returns g c =
           ))
           c.from_parts.ensures.actions;
       common_types =
-          IfOk-weaker c.from_parts.result _ _ (λ schema same. ap common_entries same ∙ c.nothing.ensures.common_types)
+          IfOk-weaker c.from_parts.result _ _ (λ schema same. ap common_entries (same ∙ c.in_ok-new.ensures) ∙ c.nothing.ensures.common_types)
           c.from_parts.ensures.located;
       namespaces =
-          IfOk-weaker c.from_parts.result _ _ (λ schema same. ap namespace_entries same ∙ c.nothing.ensures.namespaces)
+          IfOk-weaker c.from_parts.result _ _ (λ schema same. ap namespace_entries (same ∙ c.in_ok-new.ensures) ∙ c.nothing.ensures.namespaces)
           c.from_parts.ensures.located;
       keys = keys_given _ c.from_parts.result c.from_parts.ensures.located;
     }

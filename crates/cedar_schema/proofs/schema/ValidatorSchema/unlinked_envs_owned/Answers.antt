@@ -6,5 +6,5 @@ use Rattle.cedar_schema.proofs.schema.ValidatorSchema.unlinked_envs_owned.Goals 
 pub returns : goal.returns
 returns c =
     let schema = c.args.self.now in
-    let known = known_environments (schema_of schema) (map owned_environment schema.environments.items) schema.environments_of_actions in
-    rw (c.deref.ensures.value) known
+    let known = known_environments (schema_of schema) (map owned_environment schema.content.environments.items) schema.content.environments_of_actions in
+    rw (c.deref.ensures.value, c.content.ensures) known

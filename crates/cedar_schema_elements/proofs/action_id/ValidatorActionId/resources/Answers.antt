@@ -4,5 +4,5 @@ use Rattle.cedar_schema_elements.proofs.action_id.ValidatorActionId.resources.Go
 
 pub returns-in-Defined-clause-once : goal.returns-in-Defined-clause-once
 returns-in-Defined-clause-once c =
-    let once = rw c.applicable_resource_types.ensures.types at c.applicable_resource_types.ensures.once in
-    rw c.in-Defined.is (types_once (resource_types c.in-Defined.applies_to) once)
+    let once = rw (c.applicable_resource_types.ensures.types, c.deref.ensures) at c.applicable_resource_types.ensures.once in
+    rw c.in-Defined.is (types_once (resource_types c.in-Defined.applies_to.value) once)
