@@ -24,15 +24,29 @@ fn declared(alloc: Global, text: &str) -> Result<Result<ValidatorSchema, SchemaE
 
 /// Shows what a schema answers of users.
 fn show(rt: &impl Print, schema: &ValidatorSchema, user: EntityType) -> Result<(), Fail> {
-    for ancestor in schema.ancestors(&user).ok_or("no user")? {
-        println!(rt; "{user} in {ancestor}")?;
+    if let Some(ancestors) = schema.ancestors(&user) {
+        for ancestor in ancestors {
+            println!(rt; "{user} in {ancestor}")?;
+        }
     }
-    let ty = schema.get_entity_type(&user).ok_or("no user")?;
-    println!(rt; "home: {}", ty.attr("home").ok_or("no home")?.attr_type)?;
+    if let Some(ty) = schema.get_entity_type(&user)
+        && let Some(home) = ty.attr("home")
+    {
+        println!(rt; "home: {}", home.attr_type)?;
+    }
     for env in schema.unlinked_request_envs(ValidationMode::Strict) {
         println!(rt; "{} {} {}", env.principal, env.action, env.resource)?;
     }
     Ok(())
+}
+
+/// Shows the schema that a text declares, or which type it names that isn't there.
+fn show_text(rt: &impl Print, alloc: Global, text: &str) -> Result<(), Fail> {
+    match declared(alloc, text)? {
+        Ok(schema) => show(rt, &schema, EntityType::from_str(alloc, "User")?),
+        Err(SchemaError::TypeNotDefined(error)) => Ok(println!(rt; "refused: {error}")?),
+        Err(error) => Err(error.into()),
+    }
 }
 
 /// The entity type of a name, as a type.
@@ -40,21 +54,12 @@ fn reference(alloc: Global, name: &str) -> Result<Type, Fail> {
     Ok(Type::named_entity_reference(alloc, EntityType::from_str(alloc, name)?)?)
 }
 
-/// Shows why a text declares no schema, where it names a type that isn't there.
-fn show_refusal(rt: &impl Print, alloc: Global, text: &str) -> Result<(), Fail> {
-    if let Err(SchemaError::TypeNotDefined(error)) = declared(alloc, text)? {
-        println!(rt; "refused: {error}")?;
-    }
-    Ok(())
-}
-
 fn main(rt: HostRuntime) -> Result<(), Fail> {
     let alloc = rt.alloc();
-    let user = EntityType::from_str(alloc, "User")?;
-    show(&rt, &declared(alloc, PHOTOS)??, user)?;
+    show_text(&rt, alloc, PHOTOS)?;
     let (user, group) = (reference(alloc, "User")?, reference(alloc, "Group")?);
     let either = Type::least_upper_bound(alloc, &user, &group, ValidationMode::Permissive)?;
     println!(rt; "{either}")?;
     let teams = r#"{"": {"entityTypes": {"User": {"memberOfTypes": ["Team"]}}, "actions": {}}}"#;
-    show_refusal(&rt, alloc, teams)
+    show_text(&rt, alloc, teams)
 }
