@@ -68,6 +68,13 @@ module _ (bag : Bag) (extensions : Extensions) (declared : List (EntityUID × Ac
         parent_declared (uid_of lower) (uid_of upper) (any.edge_parent (uid_eq.ghosts).eq uid_of entity_uid_eq-same reference_to_action
         parents_of (declared_actions bag) edges in_bag upper lower above)
 
+    -- and so is the lower
+    pub lower_declared : (upper lower : EntityUID) → IsAbove edges upper lower → Contains (action_uids bag) (uid_of lower)
+    lower_declared upper lower above =
+        let parent = any.edge_parent (uid_eq.ghosts).eq uid_of entity_uid_eq-same reference_to_action parents_of (declared_actions bag)
+        edges in_bag upper lower above in
+        Contains-image (λ (it : PlainUid × ActionBody). it.0) (declared_actions bag) (uid_of lower, parent.0) parent.1
+
     -- a parent of an action is so by an edge
     pub parent_edge : (lower upper : PlainUid) → HasParentAction bag lower upper → (edge : EntityUID × EntityUID)
         × Contains edges edge × (uid_of edge.0 ≡ upper) × (uid_of edge.1 ≡ lower)

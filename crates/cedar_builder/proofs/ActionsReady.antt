@@ -1,5 +1,5 @@
 -- What the steps promise, read of a bag for which they are ready.
-use Rattle.std.proofs.Common.{◌≡◌, ◌⊎◌, ◌↔◌, List, Option, None, Some, IsSome, HashMap, map, ap, sym, subst, ◌∙◌, refl, inl, inr, Contains}
+use Rattle.std.proofs.Common.{◌≡◌, ◌⊎◌, ◌↔◌, List, Option, None, Some, IsSome, map, ap, sym, subst, ◌∙◌, refl, inl, inr, Contains}
 use Rattle.std.proofs.lemmas.List.Elements.{Contains-append_cases}
 use Rattle.std.proofs.lemmas.List.Folds.{flat_map-map}
 use Rattle.std.proofs.lemmas.Simd.{map-map}
@@ -13,7 +13,7 @@ use Rattle.cedar_declarations.proofs.DeclarationLemmas.{action_declaration}
 use Rattle.cedar_declarations.proofs.Definitions.{declared_definition, said_definition}
 use Rattle.cedar_declarations.proofs.OccurrenceLemmas.{Contains-image, Contains-single}
 use Rattle.cedar_declarations.proofs.ResolutionLemmas.{elaborated_once}
-use Rattle.cedar_builder.proofs.ActionParents.{AreEdges, chain_descends, chain_to_same, descendant_declared, descends_by_chain, edge_declared}
+use Rattle.cedar_builder.proofs.ActionParents.{AreEdges, chain_descends, chain_to_same, descendant_declared, descends_by_chain, edge_declared, lower_declared}
 use Rattle.cedar_builder.proofs.ActionsTogether.{definitions_alike}
 use Rattle.cedar_builder.proofs.NodesCollected.{by_test}
 use Rattle.cedar_builder.proofs.NodesLinked.{alike_after, alike_before, collected_apart, descendants}
@@ -77,7 +77,7 @@ bag_says bag uid applies_to says = by applies_to says where
       rw (bag_definitions bag) at there
 
 -- at each uid stands what its declarations say together
-abbrev pub AreCollected : {S : Type 0} → TypeScope → List Entry → HashMap EntityUID ValidatorActionId S → Type 0
+abbrev pub AreCollected : TypeScope → List Entry → List (EntityUID × ValidatorActionId) → Type 0
 AreCollected scope entries nodes =
     (key : EntityUID) → IsCollectedAt is_action_definition IsExternal uid_in (GivesAction scope) entries (uid_of key) (node_at nodes key)
 
@@ -255,7 +255,7 @@ module _ (bag : Bag) (extensions : Extensions) (declared : List (EntityUID × Ac
     | inr (inr twice) ↦ inr (rw twice.1 (rw same_definitions at twice.2))
   ]
 
-  module _ {S : Type 0} (before : HashMap EntityUID ValidatorActionId S) (collected : AreCollected scope Entries before)
+  module _ (before : List (EntityUID × ValidatorActionId)) (collected : AreCollected scope Entries before)
       (once : (uid : PlainUid) → ¬ Twice (defined_in is_action_definition Entries) uid)
       (edges : List (EntityUID × EntityUID)) (are : AreEdges declared edges) where
     -- a declared uid has an action
@@ -275,6 +275,8 @@ module _ (bag : Bag) (extensions : Extensions) (declared : List (EntityUID × Ac
           is_action_definition IsExternal uid_in (GivesAction scope) (λ body it given. given.no_descendants) Entries before collected;
       uppers = λ upper lower above.
           stands upper (edge_declared bag extensions declared types scope ready edges are upper lower above);
+      lowers = λ upper lower above.
+          stands lower (lower_declared bag extensions declared types scope ready edges are upper lower above);
     }
 
     -- a refusal of edges is a fault of the bag, unless memory ran out
@@ -284,7 +286,7 @@ module _ (bag : Bag) (extensions : Extensions) (declared : List (EntityUID × Ac
       | inr cycle ↦ inr (rw cycle.1 (chain_descends bag extensions declared types scope ready edges are cycle.2))
     ]
 
-    module _ (after : HashMap EntityUID ValidatorActionId S) (linked : AreLinked edges before after) where
+    module _ (after : List (EntityUID × ValidatorActionId)) (linked : AreLinked edges before after) where
       -- what stands at a key after all is what the bag declares of the uid
       pub declared_at : (key : EntityUID) (it : ValidatorActionId) → node_at after key ≡ Some it
           → IsDeclaredAction bag extensions (plain_action_entry (key, it))

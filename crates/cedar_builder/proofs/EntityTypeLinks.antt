@@ -1,8 +1,8 @@
 -- Entity types that are linked, and what is checked of the links.
-use Rattle.std.proofs.Common.{◌≡◌, ◌↔◌, List, Option, None, Some, IsSome, HashMap, sym, subst, inr, Contains}
+use Rattle.std.proofs.Common.{◌≡◌, ◌↔◌, List, Option, None, Some, IsSome, sym, subst, inr, Contains}
 use Rattle.cedar_builder.specs.Words.{AreLinked, AreTheSame, Chain, EntityType, Fault, IsAbove, IsEdgeSound, IsEnumerated, IsEnumeratedAt, IsExternalAt, IsLinkFault, IsLinkingFault, LeadsTo, PlainEntityType, ValidatorEntityType, external_kind, node_at}
 use Rattle.cedar_below.specs.contracts.entity_type.EntityTypeEq.TheImpl as entity_type_equal
-use Rattle.cedar_graph.proofs.Numbers.{get_alike}
+use Rattle.cedar_builder.proofs.AtKeys.{at_equal_keys}
 
 -- an enumerated entity type stands at a key before and after
 enumerated_same : (o p : Option ValidatorEntityType) → AreTheSame o p → IsEnumeratedAt o ↔ IsEnumeratedAt p
@@ -20,7 +20,7 @@ external_same (Some it) (Some other) same =
     (λ there. subst IsOutside same there, λ there. subst IsOutside (sym same) there)
 external_same _ _ same = absurd same
 
-module _ {S : Type 0} (edges : List (EntityType × EntityType)) (before : HashMap EntityType ValidatorEntityType S)
+module _ (edges : List (EntityType × EntityType)) (before : List (EntityType × ValidatorEntityType))
     (sound : (edge : EntityType × EntityType) → Contains edges edge → IsEdgeSound before edge.1 edge.0) where
   -- an edge between entity types that are equal to its own is sound
   above_sound : (upper lower : EntityType) → IsAbove edges upper lower
@@ -28,15 +28,15 @@ module _ {S : Type 0} (edges : List (EntityType × EntityType)) (before : HashMa
   above_sound upper lower above =
       let edge = above.0 in
       let one = sound edge above.1 in (
-        rw (get_alike entity_type_equal.Laws.laws-law before edge.0 upper above.2) at one.stands,
-        rw (get_alike entity_type_equal.Laws.laws-law before edge.1 lower above.3) at one.not_enumerated,
+        rw (at_equal_keys entity_type_equal.Laws.laws-law before edge.0 upper above.2) at one.stands,
+        rw (at_equal_keys entity_type_equal.Laws.laws-law before edge.1 lower above.3) at one.not_enumerated,
       )
 
   -- the upper entity type of an edge stands in the map
   pub upper_stands : (upper lower : EntityType) → IsAbove edges upper lower → IsSome (node_at before upper)
   upper_stands upper lower above = (above_sound upper lower above).0
 
-  module _ (after : HashMap EntityType ValidatorEntityType S)
+  module _ (after : List (EntityType × ValidatorEntityType))
       (same : (key : EntityType) → AreTheSame (node_at before key) (node_at after key))
       (leads : (upper lower : EntityType) → LeadsTo after upper lower ↔ Chain (IsAbove edges) upper lower) where
     -- the nodes are linked, where no external one stands below an enumerated one

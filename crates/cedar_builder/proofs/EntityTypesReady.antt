@@ -1,10 +1,10 @@
 -- What the steps promise, read of a bag for which they are ready.
-use Rattle.std.proofs.Common.{◌≡◌, ◌⊎◌, true, is_some, List, [], ◌∷◌, Option, None, Some, IsSome, HashMap, map, ap, sym, ◌∙◌, refl, inl, inr, arith, Contains}
+use Rattle.std.proofs.Common.{◌≡◌, ◌⊎◌, true, is_some, List, [], ◌∷◌, Option, None, Some, IsSome, map, ap, sym, ◌∙◌, refl, inl, inr, arith, Contains}
 use Rattle.std.proofs.lemmas.Bool.{false≢true}
 use Rattle.std.specs.List.{flat_map}
 use Rattle.std.proofs.lemmas.List.Elements.{Contains-append_cases}
 use Rattle.cedar_below.proofs.Lists.{Contains-preimage}
-use Rattle.cedar_builder.specs.Words.{AreDeclaredTags, AreElaboratedTags, AreLinked, Bag, CountsInEntity, Covers, Defined, Entity, EntityBody, EntitySays, EntityType, EntityTypeFragment, EntityTypeKind, EntityTypesAreSound, Expr, Extensions, Fault, HasNoRecord, HasParent, InternalName, IsAbove, IsActionType, IsAtEntityTypePosition, IsBodyFault, IsCollected, IsCollectedAt, IsCollectingFault, IsCounted, IsDeclaredEntityType, IsDeclaredKind, IsDefined, IsDescendant, IsElaboratedEntity, IsEnumerated, IsEnumeratedAt, IsExternalAt, IsExternalType, IsFault, IsLinkingFault, IsNoRecord, IsParent, IsParentFault, IsReady, IsSoundBody, LeadsTo, PlainEntityType, PlainName, Reference, ResolvesTo, SameType, SaysTogether, Text, Twice, Ty, TypeScope, ValidatorEntityType, action_uids, collected_entities, declared_entities, defined_entities, defined_in, defined_names, definition_in, definitions, duplicate_entity_type, entity_definition_in, entity_definitions, entity_parents, entity_type_of, entry_names, enumerated, enumerated_below, enumerated_kind, extensions_in_scope, external, external_kind, has_descendant, is_entity_definition, node_at, out_of_memory, parents_in, plain_entry, reference_to_one, shape_not_record, standard, standard_kind, type_name, undeclared_entity_types}
+use Rattle.cedar_builder.specs.Words.{AreDeclaredTags, AreElaboratedTags, AreLinked, AreUnlinked, Bag, CountsInEntity, Covers, Defined, Entity, EntityBody, EntitySays, EntityType, EntityTypeFragment, EntityTypeKind, EntityTypesAreSound, Expr, Extensions, Fault, HasNoRecord, HasParent, InternalName, IsAbove, IsActionType, IsAtEntityTypePosition, IsBodyFault, IsCollected, IsCollectedAt, IsCollectingFault, IsCounted, IsDeclaredEntityType, IsDeclaredKind, IsDefined, IsDescendant, IsElaboratedEntity, IsEnumerated, IsEnumeratedAt, IsExternalAt, IsExternalType, IsFault, IsLinkingFault, IsNoRecord, IsParent, IsParentFault, IsReady, IsSoundBody, LeadsTo, PlainEntityType, PlainName, Reference, ResolvesTo, SameType, SaysTogether, Text, Twice, Ty, TypeScope, ValidatorEntityType, action_uids, collected_entities, declared_entities, defined_entities, defined_in, defined_names, definition_in, definitions, duplicate_entity_type, entity_definition_in, entity_definitions, entity_parents, entity_type_of, entry_names, enumerated, enumerated_below, enumerated_kind, extensions_in_scope, external, external_kind, has_descendant, is_entity_definition, node_at, out_of_memory, parents_in, plain_entry, reference_to_one, shape_not_record, standard, standard_kind, type_name, undeclared_entity_types}
 use Rattle.cedar_below.specs.contracts.entity_type.EntityTypePartialEq.TheImpl as entity_type_eq
 use Rattle.cedar_declarations.proofs.DeclarationLemmas.{entity_declaration}
 use Rattle.cedar_declarations.proofs.Definitions.{declared_definition, key_defined, said_declared, said_definition}
@@ -101,12 +101,12 @@ external_kind_elaborated scope (external parents) kind elaborated is = (parents,
 external_kind_elaborated scope _ _ elaborated is = absurd elaborated
 
 -- at each name stands what its declarations say together
-abbrev pub AreCollected : {S : Type 0} → TypeScope → List Entry → HashMap EntityType ValidatorEntityType S → Type 0
+abbrev pub AreCollected : TypeScope → List Entry → List (EntityType × ValidatorEntityType) → Type 0
 AreCollected scope entries nodes =
     (key : EntityType) → IsCollectedAt is_entity_definition IsExternal name_of (GivesEntity scope) entries (type_name key) (node_at nodes key)
 
 -- no entity type leads to another as they are collected
-pub no_edges : {S : Type 0} (scope : TypeScope) (entries : List Entry) (nodes : HashMap EntityType ValidatorEntityType S)
+pub no_edges : (scope : TypeScope) (entries : List Entry) (nodes : List (EntityType × ValidatorEntityType))
     → AreCollected scope entries nodes → (upper lower : EntityType) → ¬ LeadsTo nodes upper lower
 no_edges scope entries nodes collected = collected_apart (entity_type_eq.ghosts).eq type_name has_descendant (λ it. it.descendants.keys)
     (λ it key. list_any-names key it.descendants.keys) is_entity_definition IsExternal name_of (GivesEntity scope) (λ body it given. given.no_descendants)
@@ -205,7 +205,7 @@ module _ (bag : Bag) (extensions : Extensions) (declared : List (EntityType × E
     | inr (inr twice) ↦ inr (rw twice.1 (rw same_definitions at twice.2))
   ]
 
-  module _ {S : Type 0} (before : HashMap EntityType ValidatorEntityType S) (collected : AreCollected scope Entries before)
+  module _ (before : List (EntityType × ValidatorEntityType)) (collected : AreCollected scope Entries before)
       (once : (name : PlainName) → ¬ Twice (defined_in is_entity_definition Entries) name) where
     -- a definition is what is said of its name
     said_is : (name : PlainName) (body other : EntityBody) → is_entity_definition body ≡ true → Contains Entries (name, body)
@@ -283,6 +283,17 @@ module _ (bag : Bag) (extensions : Extensions) (declared : List (EntityType × E
           (found.0, rw found.1 at is.says)
 
     module _ (edges : List (EntityType × EntityType)) (are : AreEdges declared edges) where
+      -- a node stands at the lower end of each edge, and none has descendants
+      pub unlinked : AreUnlinked edges before
+      unlinked = record {
+        apart = no_edges scope Entries before collected;
+        lowers = λ upper lower above.
+            let parent : IsParent bag (type_name lower) (reference_to_one Entity (type_name upper)) =
+            edge_parent bag extensions declared scope ready edges are upper lower above in
+            stands lower (Contains-image (λ (it : Entry). it.0) Entries (type_name lower, parent.0)
+            (among_collected (type_name lower) parent.0 parent.1));
+      }
+
       -- an edge to what isn't declared is to a type of actions
       undeclared_fault : (upper lower : EntityType) → IsAbove edges upper lower → node_at before upper ≡ None
           → IsFault bag extensions (undeclared_entity_types (type_name upper ∷ []))
@@ -367,7 +378,7 @@ module _ (bag : Bag) (extensions : Extensions) (declared : List (EntityType × E
             ))
       ]
 
-      module _ (after : HashMap EntityType ValidatorEntityType S) (linked : AreLinked edges before after) where
+      module _ (after : List (EntityType × ValidatorEntityType)) (linked : AreLinked edges before after) where
         -- what stands at a key after all is what the bag declares of the name
         pub declared_at : (key : EntityType) (it : ValidatorEntityType) → node_at after key ≡ Some it
             → IsDeclaredEntityType bag extensions (plain_entry (key, it))

@@ -2,6 +2,7 @@ mod ActionParents
 mod ActionsElaborated
 mod ActionsReady
 mod ActionsTogether
+mod AtKeys
 mod EntityTypeCases
 mod EntityTypeChecks
 mod EntityTypeLinks

@@ -1,11 +1,10 @@
 -- Nodes that are collected in a map one after another.
-use Rattle.std.proofs.Common.{◌≡◌, ◌⊎◌, ◌↔◌, map, if◌then◌else◌, List, [], ◌∷◌, ◌++◌, Bool, true, false, IsTrue, Option, None, Some, HashMap, ap, sym, ◌∙◌, refl, inl, inr, arith, append_assoc, Contains}
+use Rattle.std.proofs.Common.{◌≡◌, ◌⊎◌, ◌↔◌, map, if◌then◌else◌, List, [], ◌∷◌, ◌++◌, Bool, true, false, IsTrue, Option, None, Some, ap, sym, ◌∙◌, refl, inl, inr, arith, append_assoc, Contains}
 use Rattle.std.proofs.lemmas.Bool.{false≢true}
 use Rattle.std.proofs.lemmas.List.{append-nil}
 use Rattle.std.proofs.lemmas.List.Elements.{Contains-append_cases, Contains-append_right}
-use Rattle.std.specs.HashMap.{get}
 use Rattle.std.specs.List.{flat_map}
-use Rattle.cedar_builder.specs.Words.{Fault, IsCollected, IsCollectedAt, IsCollectingFault, IsDefinedAt, IsPut, SaysIf, SaysTogether, Twice, defined_in, definition_in}
+use Rattle.cedar_builder.specs.Words.{Fault, IsCollected, IsCollectedAt, IsCollectingFault, IsDefinedAt, IsPut, SaysIf, SaysTogether, Twice, at_key, defined_in, definition_in}
 use Rattle.cedar_declarations.proofs.Definitions.{Definitions, defined_again, defined_is_declared, key_cases, key_defined, once_more, said_definition, said_of_external, said_of_new, said_of_other}
 use Rattle.cedar_declarations.proofs.OccurrenceLemmas.{Contains-single}
 
@@ -56,13 +55,13 @@ by_test is_definition = record {
   says_declared = λ entries name body other. says_declared is_definition entries name body (is_definition body) other;
 }
 
-module _ {K Name Body Node S : Type 0} (is_definition : Body → Bool) (IsExternal : Node → Type 0)
+module _ {K Name Body Node : Type 0} (is_definition : Body → Bool) (IsExternal : Node → Type 0)
     (node_name : Node → Name) (Gives : Body → Node → Type 0) (eq : K → K → Bool) (key_name : K → Name) (IsSound : Body → Type 0) where
   -- some declarations are collected in the map, and others are left
-  pub record CollectedSoFar (all : List (Name × Body)) (nodes : HashMap K Node S) (left : List (Name × Body)) : Type 0 where
+  pub record CollectedSoFar (all : List (Name × Body)) (nodes : List (K × Node)) (left : List (Name × Body)) : Type 0 where
     pub done : List (Name × Body)
     pub split : all ≡ done ++ left
-    pub collected : (key : K) → IsCollectedAt is_definition IsExternal node_name Gives done (key_name key) (get eq nodes key)
+    pub collected : (key : K) → IsCollectedAt is_definition IsExternal node_name Gives done (key_name key) (at_key eq nodes key)
     pub once : (name : Name) → ¬ Twice (defined_in is_definition done) name
     pub sound : (name : Name) (body : Body) → Contains done (name, body) → IsSound body
 
@@ -150,10 +149,10 @@ module _ {Name Body Node : Type 0} (is_definition : Body → Bool) (IsExternal :
         let is = definition_given collected.body old collected.external there in
         key_defined definitions entries name collected.body is (said_definition definitions entries name collected.body is collected.says)
 
-  module _ {K S : Type 0} (eq : K → K → Bool) (key_name : K → Name) (IsSound : Body → Type 0)
+  module _ {K : Type 0} (eq : K → K → Bool) (key_name : K → Name) (IsSound : Body → Type 0)
       (same_key : (a b : K) → IsTrue (eq a b) ↔ (key_name a ≡ key_name b)) (all : List (Name × Body)) where
     -- at first none is
-    pub collected_none : (nodes : HashMap K Node S) (left : List (Name × Body)) → nodes.entries ≡ [] → left ≡ all
+    pub collected_none : (nodes : List (K × Node)) (left : List (Name × Body)) → nodes ≡ [] → left ≡ all
         → CollectedSoFar is_definition IsExternal node_name Gives eq key_name IsSound all nodes left
     collected_none nodes left empty same =
         record {
@@ -164,7 +163,7 @@ module _ {Name Body Node : Type 0} (is_definition : Body → Bool) (IsExternal :
           sound = λ name body among. absurd (omega (arith, among.1));
         }
 
-    module _ (old : HashMap K Node S) (left rest : List (Name × Body)) (key : K) (body : Body) (is : left ≡ (key_name key, body) ∷ rest)
+    module _ (old : List (K × Node)) (left rest : List (Name × Body)) (key : K) (body : Body) (is : left ≡ (key_name key, body) ∷ rest)
         (so_far : CollectedSoFar is_definition IsExternal node_name Gives eq key_name IsSound all old left) where
       -- all are those that are done, the next one, and the rest
       next_split : all ≡ so_far.done ++ (key_name key, body) ∷ rest
@@ -181,37 +180,37 @@ module _ {Name Body Node : Type 0} (is_definition : Body → Bool) (IsExternal :
         refused,
       ))
 
-      module _ (new : HashMap K Node S) (it : Node) (is_named : node_name it ≡ key_name key) (gives : Gives body it)
+      module _ (new : List (K × Node)) (it : Node) (is_named : node_name it ≡ key_name key) (gives : Gives body it)
           (told : IsExternal it ↔ (is_definition body ≡ false)) where
         abbrev Done : List (Name × Body)
         Done = so_far.done ++ (key_name key, body) ∷ []
 
         -- at each name stands what is said, once the next one is put at its own
-        collected_at : ((other : K) → ¬ (key_name other ≡ node_name it) → get eq new other ≡ get eq old other)
-            → ((other : K) → key_name other ≡ node_name it → IsPut IsExternal it (get eq old other) (get eq new other))
-            → (other : K) (b : Bool) → eq other key ≡ b → At Done (key_name other) (get eq new other)
+        collected_at : ((other : K) → ¬ (key_name other ≡ node_name it) → at_key eq new other ≡ at_key eq old other)
+            → ((other : K) → key_name other ≡ node_name it → IsPut IsExternal it (at_key eq old other) (at_key eq new other))
+            → (other : K) (b : Bool) → eq other key ≡ b → At Done (key_name other) (at_key eq new other)
         collected_at stays put other true is_it =
             let same : key_name other ≡ key_name key = (same_key other key).0 is_it in
             rw same
-            (collected_put so_far.done (key_name key) body it is_named gives told (get eq old other) (get eq new other)
+            (collected_put so_far.done (key_name key) body it is_named gives told (at_key eq old other) (at_key eq new other)
             (rw same at (so_far.collected other))
             (put other (same ∙ sym (is_named))))
         collected_at stays put other false is_not =
             let apart : ¬ (key_name other ≡ key_name key) = λ same. false≢true (sym is_not ∙ (same_key other key).1 same) in
             rw (stays other (λ same. apart (same ∙ is_named)))
-            (collected_other so_far.done (key_name key) body it is_named gives told (key_name other) apart (get eq old other) (so_far.collected other))
+            (collected_other so_far.done (key_name key) body it is_named gives told (key_name other) apart (at_key eq old other) (so_far.collected other))
 
         -- one more is
         pub collected_more : IsSound body
-            → ((other : K) → ¬ (key_name other ≡ node_name it) → get eq new other ≡ get eq old other)
-            → ((other : K) → key_name other ≡ node_name it → IsPut IsExternal it (get eq old other) (get eq new other))
+            → ((other : K) → ¬ (key_name other ≡ node_name it) → at_key eq new other ≡ at_key eq old other)
+            → ((other : K) → key_name other ≡ node_name it → IsPut IsExternal it (at_key eq old other) (at_key eq new other))
             → CollectedSoFar is_definition IsExternal node_name Gives eq key_name IsSound all new rest
         collected_more sound stays put = record {
           done = Done;
           split = next_split ∙ sym (append_assoc so_far.done ((key_name key, body) ∷ []) rest);
           collected = λ other. collected_at stays put other (eq other key) refl;
           once = once_more definitions so_far.done (key_name key) body so_far.once
-              (undefined_before so_far.done (key_name key) body it is_named gives told (get eq old key) (get eq new key) (so_far.collected key)
+              (undefined_before so_far.done (key_name key) body it is_named gives told (at_key eq old key) (at_key eq new key) (so_far.collected key)
               (put key (sym (is_named))));
           sound = λ name of_it among. elim (Contains-append_cases so_far.done ((key_name key, body) ∷ []) (name, of_it) among) [
             | inl before ↦ so_far.sound name of_it before
@@ -222,25 +221,25 @@ module _ {Name Body Node : Type 0} (is_definition : Body → Bool) (IsExternal :
         -- a definition of a name under which one stands is refused truly
         pub twice_fault : (IsBodyFault : K → Body → Fault → Type 0) (duplicate : Name → Fault) (fault : Fault)
             → fault ≡ duplicate (node_name it) → (other : K)
-            → key_name other ≡ node_name it → IsDefinedAt IsExternal (get eq old other) → ¬ IsExternal it
+            → key_name other ≡ node_name it → IsDefinedAt IsExternal (at_key eq old other) → ¬ IsExternal it
             → IsCollectingFault is_definition key_name IsBodyFault duplicate all fault
         twice_fault IsBodyFault duplicate fault is_fault other same there defined =
             let its_name = is_named in
             let twice : Twice (defined_in is_definition all) (key_name key) =
             rw next_split
             (defined_again definitions so_far.done rest (key_name key) body (definition_given body it told defined)
-            (defined_before so_far.done (key_name key) body it is_named gives told (get eq old other)
+            (defined_before so_far.done (key_name key) body it is_named gives told (at_key eq old other)
             (rw (same, its_name) at (so_far.collected other)) there)) in
             inr (inr (key_name key, is_fault ∙ ap duplicate its_name, twice))
 
-    module _ (nodes : HashMap K Node S) (left : List (Name × Body)) (none : left ≡ [])
+    module _ (nodes : List (K × Node)) (left : List (Name × Body)) (none : left ≡ [])
         (so_far : CollectedSoFar is_definition IsExternal node_name Gives eq key_name IsSound all nodes left) where
       -- at last all are
       collected_all : so_far.done ≡ all
       collected_all = sym (so_far.split ∙ ap (λ others. so_far.done ++ others) none ∙ append-nil so_far.done)
 
       -- so at each name stands what is said of all
-      pub all_collected : (key : K) → At all (key_name key) (get eq nodes key)
+      pub all_collected : (key : K) → At all (key_name key) (at_key eq nodes key)
       all_collected key = rw collected_all at (so_far.collected key)
 
       -- no name has two definitions

@@ -1,5 +1,5 @@
 -- What a bag owes to the steps that build its entity types and its actions.
-use Rattle.std.proofs.Common.{◌≡◌, ◌⊎◌, List, map, ap, sym, ◌∙◌, refl, inl, inr, Contains}
+use Rattle.std.proofs.Common.{◌≡◌, ◌⊎◌, List, Result, Ok, Err, IfOk, OnOk, map, ap, sym, ◌∙◌, refl, inl, inr, Contains}
 use Rattle.cedar_below.proofs.Lists.{Contains-preimage}
 use Rattle.cedar_builder.specs.Words.{Bag, Expr, Extensions, Fault, IsActionType, IsCounted, IsExprFault, IsFault, IsReserved, PlainName, PlainUid, action_uids, declared_actions, definitions, extension_types, open_record, out_of_memory, reserved_name, type_not_defined, unknown_extension_type}
 use Rattle.cedar_declarations.proofs.DeclarationLemmas.{action_declaration}
@@ -27,3 +27,15 @@ module _ (bag : Bag) (given : Extensions) (known : List PlainName) (all : known 
   expr_fault expr (reserved_name name) counts refused = absurd (unreserved name refused.2.is_entity.1 refused.2.reserved)
   expr_fault expr out_of_memory counts refused = inl refl
   expr_fault expr _ counts refused = absurd refused
+
+-- what follows of two promises of a value
+pub if_ok_both : {T E : Type 0} (P Q R : T → Type 0) → ((value : T) → P value → Q value → R value) → (result : Result T E)
+    → IfOk result P → IfOk result Q → IfOk result R
+if_ok_both P Q R follows (Ok value) first second = follows value first second
+if_ok_both P Q R follows (Err error) first second = tt
+
+-- what follows of a promise of a value, whichever it is
+pub on_ok_from : {T E : Type 0} (P : T → Type 0) (Q : Type 0) → ((value : T) → P value → Q) → (result : Result T E)
+    → IfOk result P → OnOk result Q
+on_ok_from P Q follows (Ok value) promised = follows value promised
+on_ok_from P Q follows (Err error) promised = tt

@@ -1,17 +1,16 @@
--- What the private steps promise of actions as nodes of a graph, which stand in a map under their
--- uids.
+-- What the private steps promise of actions as nodes of a graph, which stand under their uids.
 use Rattle.std.specs.Prelude.{◌≡◌, ◌⊎◌, ◌↔◌, Bool, List, [], Option}
-use Rattle.std.specs.HashMap.{HashMap, get}
 use Rattle.std.specs.HashSet.{contains}
 use Rattle.cedar_schema_elements.specs.ValidatorActionId.{action_of}
 use Rattle.cedar_schema_elements.specs.declared.action_id.ValidatorActionId.{ValidatorActionId}
 use Rattle.cedar_below.specs.Words.{Chain, PlainUid, uid_of}
 use Rattle.cedar_below.specs.contracts.entity_uid.EntityUIDPartialEq.TheImpl as uid_eq
 use Rattle.cedar_below.specs.declared.entity_uid.EntityUID.{EntityUID}
-use Rattle.cedar_graph.specs.Edges.{HasEdge, IsEdgeIn, AreAlike}
+use Rattle.cedar_graph.specs.Edges.{IsEdgeIn, AreAlike}
 use Rattle.cedar_declarations.specs.Fault.{Fault, action_cycle, out_of_memory}
 use Rattle.cedar_names.specs.ActionBody.{Requests}
 use Rattle.cedar_builder.specs.ActionSteps.{IsElaboratedKind}
+use Rattle.cedar_builder.specs.DeclaredNodes.{Leads, at_key}
 use Rattle.cedar_elaboration.specs.declared.type_scope.TypeScope.{TypeScope}
 
 -- the action is what a declaration of the uid says alone, and has no descendants
@@ -25,14 +24,13 @@ pub record IsElaboratedAction (scope : TypeScope) (stated : PlainUid) (applies_t
 abbrev pub has_descendant : ValidatorActionId → EntityUID → Bool
 has_descendant it lower = contains (uid_eq.ghosts).eq it.descendants lower
 
-module _ {S : Type 0} where
-  -- what stands in the map at a key
-  abbrev pub node_at : HashMap EntityUID ValidatorActionId S → EntityUID → Option ValidatorActionId
-  node_at nodes key = get (uid_eq.ghosts).eq nodes key
+-- what stands at a key among entries
+abbrev pub node_at : List (EntityUID × ValidatorActionId) → EntityUID → Option ValidatorActionId
+node_at nodes key = at_key (uid_eq.ghosts).eq nodes key
 
-  -- the node at the first key has the second among its descendants
-  abbrev pub LeadsTo : HashMap EntityUID ValidatorActionId S → EntityUID → EntityUID → Type 0
-  LeadsTo nodes upper lower = HasEdge (uid_eq.ghosts).eq has_descendant nodes upper lower
+-- the node at the first key has the second among its descendants
+abbrev pub LeadsTo : List (EntityUID × ValidatorActionId) → EntityUID → EntityUID → Type 0
+LeadsTo nodes upper lower = Leads (uid_eq.ghosts).eq has_descendant nodes upper lower
 
 -- the one is a parent of the other by some edge
 abbrev pub IsAbove : List (EntityUID × EntityUID) → EntityUID → EntityUID → Type 0
@@ -47,16 +45,14 @@ SameAction before after = ((action_of before).uid ≡ (action_of after).uid)
 abbrev pub AreTheSame : Option ValidatorActionId → Option ValidatorActionId → Type 0
 AreTheSame = AreAlike SameAction
 
-module _ {S : Type 0} where
-  -- after as before, but for descendants, which are now those that chains of edges lead to; and no
-  -- chain is a cycle
-  pub record AreLinked (edges : List (EntityUID × EntityUID))
-      (before after : HashMap EntityUID ValidatorActionId S) :
-      Type 0 where
-    pub same : (key : EntityUID) → AreTheSame (node_at before key) (node_at after key)
-    pub linked : (upper lower : EntityUID)
-        → LeadsTo after upper lower ↔ Chain (IsAbove edges) upper lower
-    pub acyclic : (key : EntityUID) → ¬ Chain (IsAbove edges) key key
+-- after as before, but for descendants, which are now those that chains of edges lead to; and no
+-- chain is a cycle
+pub record AreLinked (edges : List (EntityUID × EntityUID))
+    (before after : List (EntityUID × ValidatorActionId)) : Type 0 where
+  pub same : (key : EntityUID) → AreTheSame (node_at before key) (node_at after key)
+  pub linked : (upper lower : EntityUID)
+      → LeadsTo after upper lower ↔ Chain (IsAbove edges) upper lower
+  pub acyclic : (key : EntityUID) → ¬ Chain (IsAbove edges) key key
 
 -- why edges are refused: a chain of them is a cycle; or memory ran out
 abbrev pub IsLinkingFault : List (EntityUID × EntityUID) → Fault → Type 0

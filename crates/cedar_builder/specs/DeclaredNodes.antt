@@ -1,11 +1,11 @@
 -- What the private steps promise of what is declared, entity types and actions alike: as nodes of a
--- graph, which stand in a map under their names.
-use Rattle.std.specs.Prelude.{◌≡◌, ◌⊎◌, ◌↔◌, ◌∷◌, [], Bool, true, false, List, Option, None, Some, IsSome, Contains, map, if◌then◌else◌}
-use Rattle.std.specs.HashMap.{HashMap, get}
+-- graph, which stand under their names, as entries of a map or a table.
+use Rattle.std.specs.Prelude.{◌≡◌, ◌⊎◌, ◌↔◌, ◌∷◌, [], Bool, true, false, List, Option, None, Some, IsSome, IsSomeAnd, IsTrue, Contains, map, if◌then◌else◌}
 use Rattle.std.specs.List.{flat_map}
+use Rattle.std.specs.Map.{lookup}
 use Rattle.cedar_below.specs.Lists.{Twice}
 use Rattle.cedar_declarations.specs.Fault.{Fault, out_of_memory}
-use Rattle.cedar_graph.specs.Edges.{HasEdge, IsEdgeIn}
+use Rattle.cedar_graph.specs.Edges.{IsEdgeIn}
 
 module _ {Name Body : Type 0} (is_definition : Body → Bool) where
   -- a declaration that is a definition gives itself, and any other nothing
@@ -67,11 +67,23 @@ abbrev pub AreLocated : {K Node : Type 0} → (K → Node → Type 0) → List (
 AreLocated {K = K} {Node = Node} IsLocatedAs entries = (entry : K × Node) → Contains entries entry
     → IsLocatedAs entry.0 entry.1
 
-module _ {K Node S : Type 0} (eq : K → K → Bool) (has_edge : Node → K → Bool) where
-  -- no node has edges, and one stands at the upper end of each edge
-  pub record AreReady (edges : List (K × K)) (nodes : HashMap K Node S) : Type 0 where
-    pub apart : (upper lower : K) → ¬ HasEdge eq has_edge nodes upper lower
-    pub uppers : (upper lower : K) → IsEdgeIn eq edges upper lower → IsSome (get eq nodes upper)
+module _ {K Node : Type 0} (eq : K → K → Bool) where
+  -- what stands at a key among entries
+  abbrev pub at_key : List (K × Node) → K → Option Node
+  at_key entries key = lookup (eq key) entries
+
+module _ {K Node : Type 0} (eq : K → K → Bool) (has_edge : Node → K → Bool) where
+  -- a node stands at the first key, and has an edge to the second
+  abbrev pub Leads : List (K × Node) → K → K → Type 0
+  Leads nodes upper lower =
+      IsSomeAnd (at_key eq nodes upper) (λ node. IsTrue (has_edge node lower))
+
+module _ {K Node : Type 0} (eq : K → K → Bool) (has_edge : Node → K → Bool) where
+  -- no node has edges, and one stands at either end of each edge
+  pub record AreReady (edges : List (K × K)) (nodes : List (K × Node)) : Type 0 where
+    pub apart : (upper lower : K) → ¬ Leads eq has_edge nodes upper lower
+    pub uppers : (upper lower : K) → IsEdgeIn eq edges upper lower → IsSome (at_key eq nodes upper)
+    pub lowers : (upper lower : K) → IsEdgeIn eq edges upper lower → IsSome (at_key eq nodes lower)
 
 -- a declaration under a key, as plain data: the name of the key, and what is declared
 abbrev pub named : {K D Name Body : Type 0} → (K → Name) → (D → Body) → K × D → Name × Body

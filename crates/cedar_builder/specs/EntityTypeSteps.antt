@@ -3,7 +3,7 @@
 use Rattle.std.specs.Prelude.{Bool, true, false, ◌≡◌, ◌⊎◌, List, Option, map}
 use Rattle.cedar_below.specs.Words.{HoldsOfBoth, PlainName}
 use Rattle.cedar_declarations.specs.Words.{CountsInEntity, EntityTypeKind, Fault, HasOpenRecord, IsKindOver, IsRecordType, out_of_memory, shape_not_record}
-use Rattle.cedar_names.specs.Words.{EntityBody, Expr, enumerated, external, standard}
+use Rattle.cedar_names.specs.Words.{EntityBody, Expr, external, standard}
 use Rattle.cedar_type_rules.specs.Ty.{Ty, Fields, record_of}
 use Rattle.cedar_type_rules.specs.declared.open_tag.OpenTag.TheVariants.{ClosedAttributes}
 use Rattle.cedar_elaboration.specs.Words.{CoversExtensions, ElaboratesAs, IsRefusal}

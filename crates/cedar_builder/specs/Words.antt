@@ -1,5 +1,6 @@
 -- The words of clauses, from one place.
-pub use Rattle.std.specs.HashMap.{get}
+pub use Rattle.std.specs.List.{IsDistinct}
+pub use Rattle.std.specs.Map.{keys_of}
 pub use Rattle.std.specs.Option.{option_map}
 pub use Rattle.std.specs.Prelude.{IfErr, IfOk}
 pub use Rattle.cedar_below.specs.Words.{Chain, IsActionType, IsReserved, PlainName, PlainUid, SameItems, Text, Twice, extension_types, more, name_of, one, type_name, uid_of}
@@ -25,9 +26,9 @@ pub use Rattle.cedar_fragments.specs.declared.namespace.actions.ActionFragment.{
 pub use Rattle.cedar_fragments.specs.declared.namespace.actions.ActionRequests.{ActionRequests}
 pub use Rattle.cedar_fragments.specs.declared.namespace.entity_types.EntityTypeFragment.{EntityTypeFragment}
 pub use Rattle.cedar_resolution.specs.Words.{collected_entities}
-pub use Rattle.cedar_graph.specs.Words.{AreAlike, HasEdge, IsEdgeIn, IsRefusal, Reaches}
-pub use Rattle.cedar_graph.specs.declared.tc_error.TcError.{TcError}
-pub use Rattle.cedar_graph.specs.declared.tc_error.TcError.TheVariants.{HasCycle, Memory}
+pub use Rattle.cedar_graph.specs.Words.{AreAlike, HasEntry, IsCycle, IsEdgeIn, IsEndIn, IsFaultOf, IsLinkedTo}
+pub use Rattle.cedar_graph.specs.declared.table_fault.TableFault.{TableFault}
+pub use Rattle.cedar_graph.specs.declared.table_fault.TableFault.TheVariants.{HasCycle, Lacks, Memory}
 pub use Rattle.cedar_schema_elements.specs.Words.{AreLocatedAsKeys, IsLocatedAsKey, PlainEntityType, action_loc, action_of, descendant_names, entity_type_of, kind_context, kind_principals, kind_resources, plain_action_entry, plain_entry, plain_kind}
 pub use Rattle.cedar_schema_elements.specs.declared.action_id.ValidatorActionId.{ValidatorActionId}
 pub use Rattle.cedar_schema_elements.specs.declared.entity_type.ValidatorEntityType.{ValidatorEntityType}
@@ -38,8 +39,8 @@ pub use Rattle.cedar_builder.specs.ActionSteps.{AreNamed, AreSoundRequests, IsEl
 pub use Rattle.cedar_builder.specs.ActionsReady.{AreActionsOf}
 pub use Rattle.cedar_builder.specs.DeclaredActions.{AreDeclaredActions}
 pub use Rattle.cedar_builder.specs.DeclaredEntityTypes.{AreDeclaredEntityTypes}
-pub use Rattle.cedar_builder.specs.DeclaredNodes.{AreLocated, AreReady, IsCollected, IsCollectedAt, IsCollectingFault, IsDefinedAt, IsParentFault, IsPut, SaysIf, SaysTogether, defined_in, definition_in, named, parents_in, plain_edge}
-pub use Rattle.cedar_builder.specs.EntityTypeNodes.{AreLinked, AreTheSame, IsAbove, IsEdgeFault, IsEdgeSound, IsElaboratedEntity, IsEnumeratedAt, IsExternalAt, IsLinkFault, IsLinkingFault, LeadsTo, SameType, has_descendant, node_at}
+pub use Rattle.cedar_builder.specs.DeclaredNodes.{AreLocated, AreReady, IsCollected, IsCollectedAt, IsCollectingFault, IsDefinedAt, IsParentFault, IsPut, Leads, SaysIf, SaysTogether, at_key, defined_in, definition_in, named, parents_in, plain_edge}
+pub use Rattle.cedar_builder.specs.EntityTypeNodes.{AreLinked, AreTheSame, AreUnlinked, IsAbove, IsEdgeFault, IsEdgeSound, IsElaboratedEntity, IsEnumeratedAt, IsExternalAt, IsLinkFault, IsLinkingFault, LeadsTo, SameType, has_descendant, node_at}
 pub use Rattle.cedar_builder.specs.EntityTypeSteps.{AreElaboratedTags, HasNoRecord, IsBodyFault, IsSoundBody, entry_names, is_entity_definition}
 pub use Rattle.cedar_builder.specs.EntityTypesReady.{IsReady}
 pub use Rattle.cedar_builder.specs.SoundActions.{ActionsAreSound}

@@ -12,7 +12,6 @@ use cedar_below::{EntityType, EntityUID, InternalName};
 use cedar_declarations::SchemaError;
 use cedar_elaboration::TypeScope;
 use cedar_fragments::namespace::ActionFragment;
-use cedar_graph::into_btree_map;
 use cedar_schema_elements::{ValidatorActionId, ValidatorEntityType};
 use cedar_table::Table;
 use std::alloc::Global;
@@ -51,7 +50,5 @@ pub fn actions(
     let nodes = collected_nodes::<EntityUID, ActionScope, ValidatorActionId>(
         alloc, declared, &scope,
     )?;
-    let linked = linked_nodes(alloc, nodes, edges)?;
-    let in_order = into_btree_map(alloc, linked)?;
-    Ok(Table::from_map(alloc, in_order)?)
+    linked_nodes(alloc, nodes, edges)
 }

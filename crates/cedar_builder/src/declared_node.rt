@@ -1,12 +1,13 @@
-//! The declarations of a name, put together and collected in a map under that name.
+//! The declarations of a name, put together and collected in a table under that name.
 
 ghost use Rattle.std.specs.Prelude.{◌≡◌, ◌≢◌, ◌⊎◌, ◌↔◌, Bool, Contains, IfErr, IfOk, OnOk, false, map};
-ghost use Rattle.cedar_builder.specs.Words.{AreLocated, Fault, IsCollectedAt, IsCollectingFault, IsDefinedAt, IsPut, Twice, defined_in, fault_of, get, named, out_of_memory};
+ghost use Rattle.cedar_builder.specs.Words.{AreLocated, Fault, IsCollectedAt, IsCollectingFault, IsDefinedAt, IsPut, Twice, at_key, defined_in, fault_of, named, out_of_memory};
 
 use cedar_declarations::SchemaError;
 use cedar_schema_elements::SchemaNode;
+use cedar_table::Table;
 use std::alloc::Global;
-use std::collections::HashMap;
+use std::collections::BTreeMap;
 use std::hash::Hash;
 
 /// An entity type or an action as a declaration gives it, over a scope.
@@ -47,19 +48,20 @@ pub(crate) trait DeclaredNode<K: Ord + Hash, S>: SchemaNode<K> {
 /// Puts a node under its name. An external one changes nothing where one stands; any other
 /// replaces an external one, and is refused where a definition stands.
 fn put_node<K: Ord + Hash + Drop, V: SchemaNode<K> + Drop>(
-    nodes: &mut HashMap<K, V>,
+    nodes: &mut BTreeMap<K, V>,
     node: V,
 ) -> Result<(), SchemaError>
     ensures other { OnOk result ((key : K) → V.key_name key ≢ V.node_name node
-        → get K.eq nodes.new key ≡ get K.eq nodes.old key) }
+        → at_key K.eq nodes.new.entries key ≡ at_key K.eq nodes.old.entries key) }
     ensures put { OnOk result ((key : K) → V.key_name key ≡ V.node_name node
-        → IsPut V.IsExternal node (get K.eq nodes.old key) (get K.eq nodes.new key)) }
+        → IsPut V.IsExternal node (at_key K.eq nodes.old.entries key)
+        (at_key K.eq nodes.new.entries key)) }
     ensures located { OnOk result (AreLocated V.IsLocatedAs nodes.old.entries
         → AreLocated V.IsLocatedAs nodes.new.entries) }
     ensures fault { IfErr result (λ error. (fault_of error ≡ out_of_memory)
         ⊎ ((fault_of error ≡ V.duplicate_fault (V.node_name node)) × (¬ V.IsExternal node)
         × ((key : K) × (V.key_name key ≡ V.node_name node)
-        × IsDefinedAt V.IsExternal (get K.eq nodes.old key)))) }
+        × IsDefinedAt V.IsExternal (at_key K.eq nodes.old.entries key)))) }
 {
     if let Some(old) = nodes.get(node.name()) {
         if node.is_external() {
@@ -82,10 +84,11 @@ pub(crate) fn collected_nodes<K: Ord + Hash + Drop, S, V: DeclaredNode<K, S> + D
     alloc: Global,
     declared: Vec<(K, V::Fragment)>,
     scope: &S,
-) -> Result<HashMap<K, V>, SchemaError>
+) -> Result<Table<K, V>, SchemaError>
     ensures collected { IfOk result (λ nodes.
         (key : K) → IsCollectedAt V.is_definition V.IsExternal V.node_name (V.Gives scope.now)
-        (map (named V.key_name V.body_of) declared.items) (V.key_name key) (get K.eq nodes key)) }
+        (map (named V.key_name V.body_of) declared.items) (V.key_name key)
+        (at_key K.eq nodes.entries key)) }
     ensures once { OnOk result ((name : V.Name)
         → ¬ Twice (defined_in V.is_definition
         (map (named V.key_name V.body_of) declared.items)) name) }
@@ -97,10 +100,10 @@ pub(crate) fn collected_nodes<K: Ord + Hash + Drop, S, V: DeclaredNode<K, S> + D
         IsCollectingFault V.is_definition V.key_name (V.IsBodyFault scope.now) V.duplicate_fault
         (map (named V.key_name V.body_of) declared.items) (fault_of error)) }
 {
-    let mut nodes = HashMap::new(alloc);
+    let mut nodes = BTreeMap::new(alloc);
     for (name, fragment) in declared {
         let node = V::declared(alloc, name, fragment, scope)?;
         put_node::<K, V>(&mut nodes, node)?;
     }
-    Ok(nodes)
+    Ok(Table::from_map(alloc, nodes)?)
 }

@@ -10,7 +10,6 @@ use cedar_below::{EntityType, InternalName};
 use cedar_declarations::SchemaError;
 use cedar_elaboration::TypeScope;
 use cedar_fragments::namespace::EntityTypeFragment;
-use cedar_graph::into_btree_map;
 use cedar_schema_elements::ValidatorEntityType;
 use cedar_table::Table;
 use std::alloc::Global;
@@ -43,7 +42,5 @@ pub fn entity_types(
     let nodes = collected_nodes::<EntityType, TypeScope, ValidatorEntityType>(
         alloc, declared, scope,
     )?;
-    let linked = linked_nodes(alloc, nodes, edges)?;
-    let in_order = into_btree_map(alloc, linked)?;
-    Ok(Table::from_map(alloc, in_order)?)
+    linked_nodes(alloc, nodes, edges)
 }

@@ -12,7 +12,7 @@ use std::collections::HashSet;
 
 /// Whether an enumerated entity type stands under a name.
 fn is_enumerated_at(nodes: &Nodes, name: &EntityType) -> bool
-    ensures { IsTrue result ↔ IsEnumeratedAt (node_at nodes.now name.now) }
+    ensures { IsTrue result ↔ IsEnumeratedAt (node_at nodes.now.entries name.now) }
 {
     match nodes.get(name) {
         Some(ty) => ty.is_enumerated(),
@@ -22,7 +22,7 @@ fn is_enumerated_at(nodes: &Nodes, name: &EntityType) -> bool
 
 /// Whether an external entity type stands under a name.
 fn is_external_at(nodes: &Nodes, name: &EntityType) -> bool
-    ensures { IsTrue result ↔ IsExternalAt (node_at nodes.now name.now) }
+    ensures { IsTrue result ↔ IsExternalAt (node_at nodes.now.entries name.now) }
 {
     match nodes.get(name) {
         Some(ty) => ty.is_external(),
@@ -37,10 +37,10 @@ fn check_edge(
     lower: &EntityType,
     upper: &EntityType,
 ) -> Result<(), SchemaError>
-    ensures sound { OnOk result (IsEdgeSound nodes.now lower.now upper.now) }
+    ensures sound { OnOk result (IsEdgeSound nodes.now.entries lower.now upper.now) }
     ensures fault { IfErr result (λ error.
         (fault_of error ≡ out_of_memory)
-        ⊎ IsEdgeFault nodes.now lower.now upper.now (fault_of error)) }
+        ⊎ IsEdgeFault nodes.now.entries lower.now upper.now (fault_of error)) }
 {
     if !nodes.contains_key(upper) {
         return Err(SchemaError::UndeclaredEntityTypes(NonEmpty {
@@ -57,10 +57,10 @@ fn check_edge(
 /// Checks each edge.
 pub(crate) fn check_edges(alloc: Global, nodes: &Nodes, edges: &[Edge]) -> Result<(), SchemaError>
     ensures sound { OnOk result ((edge : Key × Key) → Contains edges.now edge
-        → IsEdgeSound nodes.now edge.1 edge.0) }
+        → IsEdgeSound nodes.now.entries edge.1 edge.0) }
     ensures fault { IfErr result (λ error. (fault_of error ≡ out_of_memory)
         ⊎ ((edge : Key × Key) × Contains edges.now edge
-        × IsEdgeFault nodes.now edge.1 edge.0 (fault_of error))) }
+        × IsEdgeFault nodes.now.entries edge.1 edge.0 (fault_of error))) }
 {
     for edge in edges {
         check_edge(alloc, nodes, &edge.1, &edge.0)?;
@@ -75,10 +75,10 @@ fn check_below(
     descendants: &HashSet<EntityType>,
 ) -> Result<(), SchemaError>
     ensures sound { OnOk result ((lower : Key) → Contains descendants.now.keys lower
-        → ¬ IsExternalAt (node_at nodes.now lower)) }
+        → ¬ IsExternalAt (node_at nodes.now.entries lower)) }
     ensures fault { IfErr result (λ error. (fault_of error ≡ out_of_memory)
         ⊎ ((lower : Key) × Contains descendants.now.keys lower
-        × IsExternalAt (node_at nodes.now lower)
+        × IsExternalAt (node_at nodes.now.entries lower)
         × IsLinkFault lower upper.now (fault_of error))) }
 {
     for lower in descendants {
@@ -91,13 +91,14 @@ fn check_below(
 
 /// Checks the descendants of each enumerated entity type.
 pub(crate) fn check_descendants(nodes: &Nodes) -> Result<(), SchemaError>
-    ensures sound { OnOk result ((upper lower : Key) → LeadsTo nodes.now upper lower
-        → IsEnumeratedAt (node_at nodes.now upper)
-        → ¬ IsExternalAt (node_at nodes.now lower)) }
+    ensures sound { OnOk result ((upper lower : Key) → LeadsTo nodes.now.entries upper lower
+        → IsEnumeratedAt (node_at nodes.now.entries upper)
+        → ¬ IsExternalAt (node_at nodes.now.entries lower)) }
     ensures fault { IfErr result (λ error. (fault_of error ≡ out_of_memory)
-        ⊎ ((upper lower : Key) × LeadsTo nodes.now upper lower
-        × IsEnumeratedAt (node_at nodes.now upper)
-        × IsExternalAt (node_at nodes.now lower) × IsLinkFault lower upper (fault_of error))) }
+        ⊎ ((upper lower : Key) × LeadsTo nodes.now.entries upper lower
+        × IsEnumeratedAt (node_at nodes.now.entries upper)
+        × IsExternalAt (node_at nodes.now.entries lower)
+        × IsLinkFault lower upper (fault_of error))) }
 {
     for (name, ty) in nodes {
         if ty.is_enumerated() {

@@ -1,8 +1,8 @@
 -- Nodes that gain edges: none, more, one gain after another, and the gain of one node of a map.
-use Rattle.std.proofs.Common.{◌≡◌, Bool, cond, ◌||◌, IsTrue, ◌⊎◌, inl, inr, Option, None, Some, IsSome, IsSomeAnd, HashMap, Result, Ok, Err, OnOk, OnErr, sym, ◌∙◌, subst, subst₂}
+use Rattle.std.proofs.Common.{◌≡◌, Bool, cond, IsTrue, ◌⊎◌, inl, inr, Option, None, Some, IsSome, IsSomeAnd, HashMap, sym, ◌∙◌, subst, subst₂}
 use Rattle.std.specs.Cmp.{IsEquivalence}
 use Rattle.std.specs.HashMap.{get}
-use Rattle.std.proofs.lemmas.Bool.{cases_Bool, cond-true, cond-false, or_cases, or_right}
+use Rattle.std.proofs.lemmas.Bool.{cases_Bool, cond-true, cond-false}
 use Rattle.cedar_graph.specs.Words.{AreAlike, GrowsAt, GrowsBy}
 use Rattle.cedar_graph.proofs.Numbers.{get_alike}
 
@@ -27,23 +27,6 @@ module _ {K V : Type 0} (has_edge : V → K → Bool) (is_alike : V → V → Ty
     old_stay = λ to edge. second.old_stay to (first.old_stay to edge);
     sound = λ to edge. elim (second.sound to edge) [ inl before ↦ first.sound to before | inr may ↦ inr may ];
     alike = onwards u v w first.alike second.alike;
-  }
-
-module _ {K V A E : Type 0} (eq : K → K → Bool) (has_edge : V → K → Bool) (is_alike : V → V → Type 0) where
-  -- a node that is given one edge, or is left as it was where memory runs out
-  pub grows_by_one : (key : K) (v w : V) (result : Result A E)
-      → OnOk result ((to : K) → has_edge w to ≡ (eq key to || has_edge v to))
-      → OnErr result ((to : K) → has_edge w to ≡ has_edge v to) → is_alike v w
-      → GrowsBy has_edge is_alike v w (λ to. IsTrue (eq key to))
-  grows_by_one key v w (Ok done) added err alike = record {
-    old_stay = λ to edge. added to ∙ or_right (eq key to) (has_edge v to) edge;
-    sound = λ to edge. elim (or_cases (eq key to) (has_edge v to) (sym (added to) ∙ edge)) [ inl new ↦ inr new | inr old ↦ inl old ];
-    alike = alike;
-  }
-  grows_by_one key v w (Err wanting) added err alike = record {
-    old_stay = λ to edge. err to ∙ edge;
-    sound = λ to edge. inl (sym (err to) ∙ edge);
-    alike = alike;
   }
 
 module _ {K V : Type 0} (has_edge : V → K → Bool) (is_alike : V → V → Type 0) where
@@ -118,3 +101,11 @@ module _ {K V S : Type 0} {eq : K → K → Bool} (laws : IsEquivalence eq) (has
         subst (λ p. GrowsAt has_edge is_alike (get eq before key) p (λ to. IsTrue (eq name key) × May to)) kept
         (grows_at_itself has_edge is_alike itself (λ to. IsTrue (eq name key) × May to) (get eq before key))
   ]
+
+-- nodes that are alike in one way are so in each that says less
+pub alike_weaker : {V : Type 0} (P Q : V → V → Type 0) → ((a b : V) → P a b → Q a b) → (o p : Option V) → AreAlike P o p
+    → AreAlike Q o p
+alike_weaker P Q weaker None None alike = tt
+alike_weaker P Q weaker None (Some w) alike = alike
+alike_weaker P Q weaker (Some v) None alike = alike
+alike_weaker P Q weaker (Some v) (Some w) alike = weaker v w alike

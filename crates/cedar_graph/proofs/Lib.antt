@@ -1,13 +1,12 @@
-pub mod AddedEdges
 pub mod Counting
 pub mod Gathering
 pub mod Growing
 pub mod KeyedEdges
 pub mod Lists
-pub mod MovedMaps
 pub mod MovingLemmas
 pub mod Numbers
 pub mod OrderProgress
 pub mod OrderSteps
 pub mod TableEdges
 pub mod TableClosing
+pub mod TableLinking

@@ -1,5 +1,5 @@
--- Lemmas on the items of a list of lists at a place.
-use Rattle.std.proofs.Common.{◌≡◌, ◌≢◌, ℕ, zero, suc, ◌+◌, ◌<◌, ◌≤◌, List, [], ◌∷◌, ◌++◌, Vec, length, get_or, set, take, drop, slice_get, Some, refl, arith, ap, ◌∙◌, sym, subst, inl, inr}
+-- Lemmas on lists, and on the items of a list of lists at a place.
+use Rattle.std.proofs.Common.{◌≡◌, ◌≢◌, ℕ, zero, suc, ◌+◌, ◌<◌, ◌≤◌, List, [], ◌∷◌, ◌++◌, Vec, Contains, length, get_or, set, take, drop, slice_get, Some, refl, arith, ap, ◌∙◌, sym, subst, inl, inr}
 use Rattle.std.specs.Vec.{with_items}
 use Rattle.std.proofs.Math.Seq.{take-append_seam}
 use Rattle.std.proofs.lemmas.Bool.{cases_eq}
@@ -97,3 +97,7 @@ pub drop_done : {X : Type 0} (xs : List X) (i : ℕ) → drop i xs ≡ [] → le
 drop_done [] i left = omega arith
 drop_done (y ∷ ys) zero left = absurd (cc)
 drop_done (y ∷ ys) (suc i) left = let inner = drop_done ys i left in omega (arith, inner)
+
+-- what has no entries has none
+pub empty_lacks : {A : Type 0} (P : A → Type 0) (entries : List A) → entries ≡ [] → (entry : A) → Contains entries entry → P entry
+empty_lacks P entries empty entry among = absurd (omega (arith, ap length empty, among.1))

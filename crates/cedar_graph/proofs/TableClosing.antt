@@ -72,7 +72,7 @@ module _ {K V Z Y : Type 0} {eq : K → K → Bool} (laws : IsEquivalence eq) (h
       values = seconds-zip (keys_of entries) linked counts
 
 -- what holds of the items at each place holds pairwise
-pairwise_in_turn : {A B : Type 0} (R : A → B → Type 0) (xs : List A) (ys : List B) → length ys ≡ length xs
+pub pairwise_in_turn : {A B : Type 0} (R : A → B → Type 0) (xs : List A) (ys : List B) → length ys ≡ length xs
     → ((i : ℕ) (x : A) (y : B) → slice_get xs i ≡ Some x → slice_get ys i ≡ Some y → R x y) → HoldsPairwise R xs ys
 pairwise_in_turn R [] [] len each = tt
 pairwise_in_turn R [] (y ∷ ys) len each = absurd (omega (arith, len))

@@ -1,7 +1,7 @@
 -- Keys known by numbers: the number of a key is its place in a list of names.
 use Rattle.std.specs.Prelude.{◌≡◌, ◌↔◌, ℕ, Bool, IsTrue, List, Some, IsSomeAnd, slice_get, Contains, Vec}
 use Rattle.std.specs.HashMap.{HashMap, get}
-use Rattle.cedar_graph.specs.Numbered.{items_at}
+use Rattle.cedar_graph.specs.Numbered.{IsTarget, items_at}
 
 module _ {K : Type 0} (eq : K → K → Bool) where
   -- a name that is equal to the key stands at the number
@@ -39,3 +39,12 @@ module _ {K : Type 0} (eq : K → K → Bool) where
   abbrev pub ListHas : {Z : Type 0} → List K → List (Vec ℕ Z) → K → K → Type 0
   ListHas names lists from to = (number : ℕ) × IsNumbered eq names from number
       × StandsIn eq names (items_at lists number) to
+
+module _ {K : Type 0} (eq : K → K → Bool) where
+  -- the targets of a number are the numbers of the keys to which edges go from the key that has it
+  pub record AreTargetsOf {Z : Type 0} (names : List K) (edges : List (K × K))
+      (targets : List (Vec ℕ Z)) : Type 0 where
+    pub sound : (i j : ℕ) → IsTarget targets i j → (edge : K × K) × Contains edges edge
+        × IsNumbered eq names edge.0 i × IsNumbered eq names edge.1 j
+    pub complete : (edge : K × K) → Contains edges edge → (i j : ℕ)
+        × IsNumbered eq names edge.0 i × IsNumbered eq names edge.1 j × IsTarget targets i j

@@ -1,5 +1,5 @@
 -- Edges between the keys of a table, and tables whose nodes have gained edges.
-use Rattle.std.specs.Prelude.{◌≡◌, ◌↔◌, ℕ, Bool, Contains, IsTrue, List, Some, length, slice_get, ⊤}
+use Rattle.std.specs.Prelude.{◌≡◌, ◌⊎◌, ◌↔◌, ℕ, Bool, Contains, IsTrue, List, Some, length, slice_get, ⊤}
 use Rattle.cedar_below.specs.Chain.{Chain}
 use Rattle.cedar_graph.specs.Growth.{GrowsBy}
 use Rattle.cedar_graph.specs.declared.table_fault.TableFault.{TableFault}
@@ -52,6 +52,18 @@ module _ {K V : Type 0} (has_edge : V → K → Bool) (is_alike : V → V → Ty
   pub record IsGrown (May : K → Type 0) (old new : V) : Type 0 where
     pub grows : GrowsBy has_edge is_alike old new May
     pub complete : (to : K) → May to → IsTrue (has_edge new to)
+
+-- the second entry has the key of the first, and its node has gained edges to just those keys to
+-- which a chain leads
+pub record IsLinkedTo {K V : Type 0} (has_edge : V → K → Bool) (is_alike : V → V → Type 0)
+    (Leads : K → K → Type 0) (it linked : K × V) : Type 0 where
+  pub key : linked.0 ≡ it.0
+  pub grown : IsGrown has_edge is_alike (Chain Leads it.0) it.1 linked.1
+
+-- one of the edges goes from the key or to it
+abbrev pub IsEndIn : {K : Type 0} → (K → K → Bool) → List (K × K) → K → Type 0
+IsEndIn {K = K} eq edges key = (edge : K × K) × Contains edges edge
+    × (IsTrue (eq edge.0 key) ⊎ IsTrue (eq edge.1 key))
 
 -- the items of two lists that stand at one place are related, and the lists are as long
 pub record AreInTurn {A B : Type 0} (R : ℕ → A → B → Type 0) (xs : List A) (ys : List B) :

@@ -6,9 +6,9 @@ pub use Rattle.cedar_graph.specs.Gathered.{AreClosed, AreGathered, AreReached, G
 pub use Rattle.cedar_graph.specs.Growth.{GrowsAt, GrowsBy}
 pub use Rattle.cedar_graph.specs.Numbered.{IsTarget}
 unfoldable pub use Rattle.cedar_graph.specs.Numbered.{items_at}
-pub use Rattle.cedar_graph.specs.Numbering.{AreNumbers, AreNumbersOf, IsNumbered, KeepsNumbers, ListHas, StandsIn}
+pub use Rattle.cedar_graph.specs.Numbering.{AreNumbers, AreNumbersOf, AreTargetsOf, IsNumbered, KeepsNumbers, ListHas, StandsIn}
 pub use Rattle.cedar_graph.specs.Order.{IsOrder, IsOrdered, LeadsTo}
-pub use Rattle.cedar_graph.specs.Tables.{AreInTurn, HasEntry, IsClosedTo, IsCycle, IsGrown, IsLack, IsTableFault, StepsTo}
+pub use Rattle.cedar_graph.specs.Tables.{AreInTurn, HasEntry, IsClosedTo, IsCycle, IsEndIn, IsFaultOf, IsGrown, IsLack, IsLinkedTo, IsTableFault, StepsTo}
 pub use Rattle.cedar_graph.specs.TcError.{IsRefusal}
 pub use Rattle.cedar_graph.specs.declared.closing.Mark.TheVariants.{Done, Fresh, Met}
 pub use Rattle.cedar_graph.specs.declared.ordering.Mark.{Mark}

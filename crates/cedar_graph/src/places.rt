@@ -11,7 +11,7 @@ use std::alloc::Global;
 use std::hash::Hash;
 
 /// The place of a key, which has to be there.
-fn place_of<K: Ord + Hash, V: TCNode<K>>(
+pub(crate) fn place_of<K: Ord + Hash, V: TCNode<K>>(
     nodes: &Table<K, V>,
     key: &K,
 ) -> Result<usize, TableFault<K>>

@@ -56,17 +56,19 @@ fn linked_nodes<K: Eq + Hash + Drop, V: TCNode<K> + Drop>(
 }
 
 /// A table whose nodes have an edge to each key that chains of targets reach from their own, where
-/// they have those to their targets.
-fn closed_table<K: Ord + Hash + Drop, V: TCNode<K> + Drop>(
+/// they have those to keys whose places are known.
+pub(crate) fn closed_table<K: Ord + Hash + Drop, V: TCNode<K> + Drop>(
     alloc: Global,
     nodes: Table<K, V>,
     targets: &Vec<Vec<usize>>,
+    known: &Vec<Vec<usize>>,
     enforce_dag: bool,
 ) -> Result<Table<K, V>, TableFault<K>>
     requires len { vec_len targets.now ≡ length nodes.entries }
+    requires known { vec_len known.now ≡ length nodes.entries }
     requires within { (i j : ℕ) → IsTarget targets.now.items i j → j < length nodes.entries }
     requires linked { (i : ℕ) → IfSome (slice_get (values_of nodes.entries) i) (λ node. (to : K)
-        → StandsIn K.eq (keys_of nodes.entries) (items_at targets.now.items i) to
+        → StandsIn K.eq (keys_of nodes.entries) (items_at known.now.items i) to
         → IsTrue (V.has_edge node to)) }
     ensures closed { IfOk result (λ closed. AreInTurn (λ i it other. (other.0 ≡ it.0)
         × IsGrown V.has_edge V.is_alike
@@ -84,7 +86,7 @@ fn closed_table<K: Ord + Hash + Drop, V: TCNode<K> + Drop>(
             return Err(TableFault::HasCycle(V::copy_key(&keys.as_vec()[place])?));
         }
     }
-    let linked = linked_nodes(alloc, values, keys.as_vec(), &lists, targets)?;
+    let linked = linked_nodes(alloc, values, keys.as_vec(), &lists, known)?;
     Ok(Table::from_parts(alloc, keys, linked)?)
 }
 
@@ -109,5 +111,5 @@ pub fn close_table<K: Ord + Hash + Drop, V: TCNode<K> + Drop>(
         (HasEntry K.eq nodes.entries) enforce_dag) }
 {
     let targets = all_places(alloc, &nodes)?;
-    closed_table(alloc, nodes, &targets, enforce_dag)
+    closed_table(alloc, nodes, &targets, &targets, enforce_dag)
 }

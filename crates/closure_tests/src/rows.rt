@@ -1,10 +1,12 @@
 //! Rows: chains, rings, and what is at their edges.
 
-use crate::member::{edges_in_all, marks_stand, nodes_of};
+use crate::member::{Member, edges_in_all, mark_of, marks_stand, nodes_of};
 use cedar_below::M;
-use cedar_graph::{TCNode, add_edges, compute_tc, compute_tc_counted};
+use cedar_graph::{TCNode, compute_tc, compute_tc_counted, link_table};
+use cedar_table::Table;
 use shorthand::checked::{holds, same};
 use std::alloc::Global;
+use std::collections::BTreeMap;
 use std::test::Fail;
 
 /// Edges from each number below the count to the next.
@@ -94,31 +96,51 @@ fn graphs_are_closed_or_refused(rt: HostRuntime) -> Result<(), Fail> {
     Ok(())
 }
 
-/// How many edges two nodes have in all once these are added.
-fn adding(alloc: Global, edges: &[(u32, u32)]) -> Result<usize, Fail> {
-    let mut nodes = nodes_of(alloc, 2, &[(1, 0)])?;
-    let mut added = Vec::new(alloc);
-    for edge in edges {
-        added.push(*edge)?;
+/// How many edges the nodes of a table have in all, where each has its key and its mark still.
+fn edges_in_table(nodes: &Table<u32, Member>) -> Option<usize> {
+    let mut total = 0usize;
+    for (key, node) in nodes {
+        if node.key != *key || node.mark != mark_of(*key) {
+            return None;
+        }
+        total = total.saturating_add(node.owners.len());
     }
-    add_edges(&mut nodes, added)?;
-    holds(nodes.len() == 2 && marks_stand(&nodes), "each node stays")?;
-    Ok(edges_in_all(&nodes))
+    Some(total)
 }
 
-/// Edges that are added to two nodes of which the second has an edge to the first, and how many
-/// there are then.
-const ADDED: &[(&[(u32, u32)], usize, &str)] = &[
-    (&[], 1, "none"),
-    (&[(0, 1), (1, 9)], 3, "one of them to no node"),
-    (&[(0, 1), (0, 1), (1, 0)], 2, "some again"),
-    (&[(9, 0), (0, 0)], 2, "one of them from no node"),
+/// What linking three nodes by edges answers, of which the second has an edge to the first: how
+/// many edges there are in all, or the refusal.
+fn linking(alloc: Global, edges: &[(u32, u32)], enforce_dag: bool) -> Result<String, Fail> {
+    let mut ordered = BTreeMap::new(alloc);
+    for (key, node) in nodes_of(alloc, 3, &[(1, 0)])? {
+        ordered.insert(key, node)?;
+    }
+    let nodes = Table::from_map(alloc, ordered)?;
+    match link_table(alloc, nodes, edges, enforce_dag) {
+        Ok(linked) => {
+            let total = edges_in_table(&linked).ok_or("a node is changed")?;
+            Ok(format!(in alloc; "{total} edges")?)
+        }
+        Err(refused) => Ok(format!(in alloc; "{refused:?}")?),
+    }
+}
+
+/// Edges that link three nodes, of which the second has an edge to the first, and what that answers
+/// where cycles are refused, and where they are allowed.
+const LINKED: &[(&[(u32, u32)], &str, &str)] = &[
+    (&[], "1 edges", "1 edges"),
+    (&[(0, 1), (1, 2)], "4 edges", "4 edges"),
+    (&[(0, 1), (0, 1), (1, 0)], "HasCycle(0)", "4 edges"),
+    (&[(0, 1), (1, 9)], "Lacks(9)", "Lacks(9)"),
+    (&[(9, 0), (0, 0)], "Lacks(9)", "Lacks(9)"),
 ];
 
 #[test]
-fn edges_are_added_to_nodes(rt: HostRuntime) -> Result<(), Fail> {
-    for &(edges, total, text) in ADDED {
-        holds(adding(rt.alloc(), edges)? == total, text)?;
+fn tables_are_linked_or_refused(rt: HostRuntime) -> Result<(), Fail> {
+    let alloc = rt.alloc();
+    for &(edges, refusing, allowing) in LINKED {
+        same(refusing, linking(alloc, edges, true)?.as_str(), refusing)?;
+        same(allowing, linking(alloc, edges, false)?.as_str(), allowing)?;
     }
     Ok(())
 }

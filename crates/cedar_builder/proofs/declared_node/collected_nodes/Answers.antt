@@ -1,7 +1,7 @@
 use Rattle.std.proofs.Common.{arith, ap, inl, map, inr}
 use Rattle.std.proofs.lemmas.List.{nil_from_length}
 use Rattle.cedar_builder.specs.Words.{fault_of, named}
-use Rattle.cedar_graph.proofs.MovedMaps.{empty_lacks}
+use Rattle.cedar_graph.proofs.Lists.{empty_lacks}
 use Rattle.cedar_builder.proofs.NodesCollected.{all_collected, all_once, all_sound, collected_more, collected_none, next_fault, twice_fault}
 use Rattle.cedar_fragments.proofs.FragmentLemmas.{exit_holds}
 use Rattle.cedar_builder.proofs.declared_node.collected_nodes.Goals as goal
@@ -25,8 +25,8 @@ loop-name-preserved g c =
     let is = g.V.DeclaredNode in
     let entries = map (named node.key_name is.body_of) in (
       collected_more is.is_definition node.IsExternal node.node_name (is.Gives c.args.scope.now) g.K.PartialEq.eq node.key_name
-          (is.IsSound c.args.scope.now) g.met.V.SchemaNode.same_key (entries c.args.declared.items) c.loop-name.nodes _ _ c.in-Some.name
-          (is.body_of c.in-Some.fragment) (ap entries c.in-Some.ensures.steps.0) c.loop-name.invariant.0 c.put_node.new.nodes c.in_ok-node.node
+          (is.IsSound c.args.scope.now) g.met.V.SchemaNode.same_key (entries c.args.declared.items) c.loop-name.nodes.entries _ _ c.in-Some.name
+          (is.body_of c.in-Some.fragment) (ap entries c.in-Some.ensures.steps.0) c.loop-name.invariant.0 c.put_node.new.nodes.entries c.in_ok-node.node
           c.in_ok-node.ensures.name c.in_ok-node.ensures.gives c.in_ok-node.ensures.external c.in_ok-node.ensures.sound
           c.in_ok-put_node.ensures.other c.in_ok-put_node.ensures.put,
       c.in_ok-put_node.ensures.located c.loop-name.invariant.1,
@@ -42,7 +42,7 @@ returns-in_err-node-clause-fault g c =
     let fault = fault_of c.in_err-node.field-0.0 in
     exit_holds _ _ _ c.from_residual.ensures.1
     (next_fault is.is_definition node.IsExternal node.node_name (is.Gives scope) g.K.PartialEq.eq node.key_name (is.IsSound scope)
-    g.met.V.SchemaNode.same_key (entries c.args.declared.items) c.loop-name.nodes _ _ c.in-Some.name (is.body_of c.in-Some.fragment)
+    g.met.V.SchemaNode.same_key (entries c.args.declared.items) c.loop-name.nodes.entries _ _ c.in-Some.name (is.body_of c.in-Some.fragment)
     (ap entries c.in-Some.ensures.steps.0) c.loop-name.invariant.0 (is.IsBodyFault scope) node.duplicate_fault fault c.in_err-node.ensures.fault)
 
 -- so is a second definition of a name
@@ -57,8 +57,8 @@ returns-in_err-put_node-clause-fault g c =
     (elim c.in_err-put_node.ensures.fault [
       | inl wanting ↦ inl wanting
       | inr twice ↦ twice_fault is.is_definition node.IsExternal node.node_name (is.Gives scope) g.K.PartialEq.eq node.key_name (is.IsSound scope)
-          g.met.V.SchemaNode.same_key (entries c.args.declared.items) c.loop-name.nodes _ _ c.in-Some.name (is.body_of c.in-Some.fragment)
-          (ap entries c.in-Some.ensures.steps.0) c.loop-name.invariant.0 c.loop-name.nodes c.in_ok-node.node c.in_ok-node.ensures.name
+          g.met.V.SchemaNode.same_key (entries c.args.declared.items) c.loop-name.nodes.entries _ _ c.in-Some.name (is.body_of c.in-Some.fragment)
+          (ap entries c.in-Some.ensures.steps.0) c.loop-name.invariant.0 c.loop-name.nodes.entries c.in_ok-node.node c.in_ok-node.ensures.name
           c.in_ok-node.ensures.gives c.in_ok-node.ensures.external (is.IsBodyFault scope) node.duplicate_fault fault twice.0 twice.2.0 twice.2.1
           twice.2.2 twice.1
     ])
@@ -69,9 +69,9 @@ returns-clause-collected g c =
     let node = g.V.SchemaNode in
     let is = g.V.DeclaredNode in
     let entries = map (named node.key_name is.body_of) in
-    all_collected is.is_definition node.IsExternal node.node_name (is.Gives c.args.scope.now) g.K.PartialEq.eq node.key_name
-    (is.IsSound c.args.scope.now) g.met.V.SchemaNode.same_key (entries c.args.declared.items) c.loop-name.nodes _
-    (ap entries (nil_from_length _ (omega (arith, c.in-None.ensures.steps.0, c.loop-name.name-iterator.rest.ok.0)))) c.loop-name.invariant.0
+    rw c.in_ok-from_map.ensures (all_collected is.is_definition node.IsExternal node.node_name (is.Gives c.args.scope.now) g.K.PartialEq.eq node.key_name
+    (is.IsSound c.args.scope.now) g.met.V.SchemaNode.same_key (entries c.args.declared.items) c.loop-name.nodes.entries _
+    (ap entries (nil_from_length _ (omega (arith, c.in-None.ensures.steps.0, c.loop-name.name-iterator.rest.ok.0)))) c.loop-name.invariant.0)
 
 -- no name is defined twice
 pub returns-clause-once : goal.returns-clause-once
@@ -80,7 +80,7 @@ returns-clause-once g c =
     let is = g.V.DeclaredNode in
     let entries = map (named node.key_name is.body_of) in
     all_once is.is_definition node.IsExternal node.node_name (is.Gives c.args.scope.now) g.K.PartialEq.eq node.key_name
-    (is.IsSound c.args.scope.now) g.met.V.SchemaNode.same_key (entries c.args.declared.items) c.loop-name.nodes _
+    (is.IsSound c.args.scope.now) g.met.V.SchemaNode.same_key (entries c.args.declared.items) c.loop-name.nodes.entries _
     (ap entries (nil_from_length _ (omega (arith, c.in-None.ensures.steps.0, c.loop-name.name-iterator.rest.ok.0)))) c.loop-name.invariant.0
 
 -- and each declaration is sound
@@ -90,5 +90,9 @@ returns-clause-sound g c =
     let is = g.V.DeclaredNode in
     let entries = map (named node.key_name is.body_of) in
     all_sound is.is_definition node.IsExternal node.node_name (is.Gives c.args.scope.now) g.K.PartialEq.eq node.key_name
-    (is.IsSound c.args.scope.now) g.met.V.SchemaNode.same_key (entries c.args.declared.items) c.loop-name.nodes _
+    (is.IsSound c.args.scope.now) g.met.V.SchemaNode.same_key (entries c.args.declared.items) c.loop-name.nodes.entries _
     (ap entries (nil_from_length _ (omega (arith, c.in-None.ensures.steps.0, c.loop-name.name-iterator.rest.ok.0)))) c.loop-name.invariant.0
+
+-- and is located as its name
+pub returns-clause-located : goal.returns-clause-located
+returns-clause-located g c = rw c.in_ok-from_map.ensures c.loop-name.invariant.1

@@ -9,6 +9,6 @@ invariant-loop-name g l =
     let entries = map (named g.V.SchemaNode.key_name g.V.DeclaredNode.body_of) in
     CollectedSoFar g.V.DeclaredNode.is_definition g.V.SchemaNode.IsExternal g.V.SchemaNode.node_name
     (g.V.DeclaredNode.Gives l.scope) g.K.PartialEq.eq
-    g.V.SchemaNode.key_name (g.V.DeclaredNode.IsSound l.scope) (entries l.fn.declared.items) l.nodes
+    g.V.SchemaNode.key_name (g.V.DeclaredNode.IsSound l.scope) (entries l.fn.declared.items) l.nodes.entries
     (entries (into_iter_items l.name-iterator))
     × AreLocated g.V.SchemaNode.IsLocatedAs l.nodes.entries

@@ -1,55 +1,54 @@
-use Rattle.std.proofs.Common.{map, ap, subst, sym, ◌∙◌}
-use Rattle.cedar_builder.specs.Words.{AreDeclaredEntityTypes, IsLocatedAsKey, collected_entities, fault_of, parents_in, type_name}
-use Rattle.cedar_below.proofs.Names.{entity_type_eq-same, entity_type_ord-Equal}
+use Rattle.std.proofs.Common.{map, ap, ◌∙◌}
+use Rattle.std.proofs.lemmas.Result.{IfErr-weaker, IfOk-weaker}
+use Rattle.cedar_builder.specs.Words.{fault_of, parents_in, type_name}
+use Rattle.cedar_below.proofs.Names.{entity_type_eq-same}
 use Rattle.cedar_below.specs.contracts.entity_type.EntityTypeEq.TheImpl as entity_type_equal
-use Rattle.cedar_below.specs.contracts.entity_type.EntityTypeOrd.TheImpl as entity_type_ord
-use Rattle.cedar_graph.proofs.MovedMaps.{moved_each, tests_tied}
+use Rattle.cedar_below.specs.contracts.entity_type.EntityTypePartialEq.TheImpl as entity_type_eq
+use Rattle.cedar_builder.proofs.AtKeys.{entry_at_key, has_entry}
 use Rattle.cedar_builder.proofs.EntityTypeParents.{AreEdges, listed}
-use Rattle.cedar_builder.proofs.EntityTypesReady.{certain, declared_at, collecting_fault, linking_fault, no_edges, parent_fault, stands_after}
-use Rattle.cedar_builder.proofs.NodesLinked.{entry_at_node, node_has_entry}
+use Rattle.cedar_builder.proofs.EntityTypesReady.{certain, declared_at, collecting_fault, linking_fault, parent_fault, stands_after, unlinked}
+use Rattle.cedar_builder.proofs.ReadyLemmas.{if_ok_both, on_ok_from}
 use Rattle.cedar_fragments.proofs.FragmentLemmas.{exit_holds}
 use Rattle.cedar_builder.proofs.entity_type_building.entity_types.Goals as goal
 
 -- what is collected and then linked is what the bag declares
 pub returns-clause-declared : goal.returns-clause-declared
-returns-clause-declared c = λ bag extensions ready.
+returns-clause-declared c = if_ok_both _ _ _
+    (λ types distinct links bag extensions ready.
     let declared = c.args.declared.items in
     let scope = c.args.scope.now in
-    let before = c.in_ok-nodes.nodes in
+    let before = c.in_ok-nodes.nodes.entries in
     let edges = c.in_ok-edges.edges.items in
-    let after = c.in_ok-linked.linked in
-    let types = c.in_ok-in_order.in_order in
-    let made = c.in_ok-in_order.ensures.moved in
-    let unique = c.in_ok-in_order.ensures.unique in
+    let after = types.entries in
     let collected = c.in_ok-nodes.ensures.collected in
     let once = c.in_ok-nodes.ensures.once in
     let are : AreEdges declared edges =
     c.in_ok-edges.ensures.edges ∙ ap (λ items. parents_in (map listed items)) c.deref.ensures.value in
-    let linked = c.in_ok-linked.ensures.linked (no_edges scope (collected_entities declared) before collected) in
-    let built : AreDeclaredEntityTypes bag extensions types.entries = record {
+    let linked = links (unlinked bag extensions declared scope ready before collected once edges are) in
+    record {
       each = λ ty it among. declared_at bag extensions declared scope ready before collected once edges are after linked ty it
-          (entry_at_node (entity_type_ord.ghosts).cmp entity_type_equal.Laws.laws-law type_name entity_type_eq-same entity_type_ord-Equal
-          after unique types made ty it among);
+          (entry_at_key entity_type_equal.Laws.laws-law after distinct ty it among);
       complete = λ name among.
           let found = stands_after bag extensions declared scope ready before collected once edges are after linked name among in
-          rw found.1 at (node_has_entry (entity_type_ord.ghosts).cmp entity_type_equal.Laws.laws-law type_name entity_type_eq-same
-          entity_type_ord-Equal after unique types made found.0 found.2);
-    } in
-    subst (AreDeclaredEntityTypes bag extensions) (sym c.in_ok-from_map.ensures) built
+          rw found.1 at (has_entry (entity_type_eq.ghosts).eq after type_name (λ a b same. (entity_type_eq-same a b).0 same) found.0 found.2);
+    })
+    c.linked_nodes.result c.linked_nodes.ensures.distinct c.linked_nodes.ensures.linked
 
 -- the same steps tell what is certain of the declarations
 pub returns-clause-sound : goal.returns-clause-sound
-returns-clause-sound c = λ bag extensions ready.
+returns-clause-sound c = on_ok_from _ _
+    (λ types links bag extensions ready.
     let declared = c.args.declared.items in
     let scope = c.args.scope.now in
-    let before = c.in_ok-nodes.nodes in
+    let before = c.in_ok-nodes.nodes.entries in
     let edges = c.in_ok-edges.edges.items in
     let collected = c.in_ok-nodes.ensures.collected in
+    let once = c.in_ok-nodes.ensures.once in
     let are : AreEdges declared edges =
     c.in_ok-edges.ensures.edges ∙ ap (λ items. parents_in (map listed items)) c.deref.ensures.value in
-    let linked = c.in_ok-linked.ensures.linked (no_edges scope (collected_entities declared) before collected) in
-    certain bag extensions declared scope ready before collected c.in_ok-nodes.ensures.once edges are c.in_ok-linked.linked linked
-    c.in_ok-nodes.ensures.sound
+    certain bag extensions declared scope ready before collected once edges are types.entries
+    (links (unlinked bag extensions declared scope ready before collected once edges are)) c.in_ok-nodes.ensures.sound)
+    c.linked_nodes.result c.linked_nodes.ensures.linked
 
 -- a refused parent is a fault of the bag
 pub returns-in_err-edges-clause-fault : goal.returns-in_err-edges-clause-fault
@@ -67,24 +66,22 @@ returns-in_err-nodes-clause-fault c =
     (λ bag extensions ready. collecting_fault bag extensions c.args.declared.items c.args.scope.now ready fault c.in_err-nodes.ensures.fault)
 
 -- and a refused edge
-pub returns-in_err-linked-clause-fault : goal.returns-in_err-linked-clause-fault
-returns-in_err-linked-clause-fault c =
+pub returns-clause-fault : goal.returns-clause-fault
+returns-clause-fault c = IfErr-weaker c.linked_nodes.result _ _
+    (λ error refused bag extensions ready.
     let declared = c.args.declared.items in
     let scope = c.args.scope.now in
-    let before = c.in_ok-nodes.nodes in
+    let before = c.in_ok-nodes.nodes.entries in
     let edges = c.in_ok-edges.edges.items in
     let collected = c.in_ok-nodes.ensures.collected in
-    let fault = fault_of c.in_err-linked.field-0.0 in
+    let once = c.in_ok-nodes.ensures.once in
     let are : AreEdges declared edges =
     c.in_ok-edges.ensures.edges ∙ ap (λ items. parents_in (map listed items)) c.deref.ensures.value in
-    let refused = c.in_err-linked.ensures.fault (no_edges scope (collected_entities declared) before collected) in
-    exit_holds _ _ _ c.from_residual-in_err-linked.ensures.1
-    (λ bag extensions ready. linking_fault bag extensions declared scope ready before collected c.in_ok-nodes.ensures.once edges are fault refused)
+    linking_fault bag extensions declared scope ready before collected once edges are (fault_of error)
+    (refused (unlinked bag extensions declared scope ready before collected once edges are)))
+    c.linked_nodes.ensures.fault
 
 -- each entity type keeps the location of its name
 pub returns-clause-located : goal.returns-clause-located
 returns-clause-located c =
-    let after = c.in_ok-linked.linked in
-    rw (sym c.in_ok-from_map.ensures) at
-    (moved_each (entity_type_ord.ghosts).cmp (tests_tied type_name entity_type_eq-same entity_type_ord-Equal) after c.in_ok-in_order.ensures.unique c.in_ok-in_order.in_order
-    c.in_ok-in_order.ensures.entries IsLocatedAsKey (c.in_ok-linked.ensures.located c.in_ok-nodes.ensures.located))
+    IfOk-weaker c.linked_nodes.result _ _ (λ types located. located c.in_ok-nodes.ensures.located) c.linked_nodes.ensures.located

@@ -23,7 +23,7 @@ returns-then-is_external_at-clause-fault c =
 
 pub loop-lower-preserved : goal.loop-lower-preserved
 loop-lower-preserved c =
-    shown_more deref (λ lower. ¬ IsExternalAt (node_at c.args.nodes.now lower)) c.loop-lower.yielded c.in-Some.lower
+    shown_more deref (λ lower. ¬ IsExternalAt (node_at c.args.nodes.now.entries lower)) c.loop-lower.yielded c.in-Some.lower
     c.loop-lower.invariant (λ is. false≢true (sym c.if-is_external_at.false ∙ c.is_external_at.ensures.1 is))
 
 pub returns-clause-sound : goal.returns-clause-sound

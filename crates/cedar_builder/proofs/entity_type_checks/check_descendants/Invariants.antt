@@ -7,4 +7,4 @@ abbrev pub invariant-loop-name : goal.invariant-loop-name
 invariant-loop-name l =
     (upper : EntityType) (it : ValidatorEntityType) → Contains (map deref_pair l.yielded) (upper, it)
     → IsEnumerated (entity_type_of it).kind → (lower : EntityType) → Contains it.descendants.keys lower
-    → ¬ IsExternalAt (node_at l.nodes lower)
+    → ¬ IsExternalAt (node_at l.nodes.entries lower)

@@ -3,4 +3,4 @@ use Rattle.cedar_builder.specs.Words.{EntityType, IsEdgeSound}
 use Rattle.cedar_builder.proofs.entity_type_checks.check_edges.Given as goal
 
 abbrev pub invariant-loop-edge : goal.invariant-loop-edge
-invariant-loop-edge l = (edge : EntityType × EntityType) → Contains (take l.edge-index l.edges) edge → IsEdgeSound l.nodes edge.1 edge.0
+invariant-loop-edge l = (edge : EntityType × EntityType) → Contains (take l.edge-index l.edges) edge → IsEdgeSound l.nodes.entries edge.1 edge.0

@@ -65,12 +65,12 @@ linked_nodes-requires g c =
     let count = ap length c.in_ok-keys.ensures.values ∙ length-map entries (λ e. e.1) in
     record {
       lists = omega (arith, count, c.in_ok-lists.ensures.len, c.requires.len);
-      known = omega (arith, count, c.requires.len);
+      known = omega (arith, count, c.requires.known);
       within = λ i j stands.
           let below = reached g d i j stands in
           omega (arith, below, ap length held, c.as_vec-2.result.now.ok.0);
       linked = subst₂ (λ values keys. (i : ℕ) → IfSome (slice_get values i)
-          (λ node. (to : _) → StandsIn eq keys (items_at c.args.targets.now.items i) to → IsTrue (g.V.TCNode.has_edge node to)))
+          (λ node. (to : _) → StandsIn eq keys (items_at c.args.known.now.items i) to → IsTrue (g.V.TCNode.has_edge node to)))
           (sym c.in_ok-keys.ensures.values) (sym held) c.requires.linked;
     }
 

@@ -3,7 +3,7 @@ use Rattle.std.proofs.IntoIterSteps.{All-taken}
 use Rattle.std.specs.BTreeMap.{get_by, is_at}
 use Rattle.std.specs.Map.{lookup}
 use Rattle.std.specs.Ordering.{is_eq}
-use Rattle.cedar_graph.proofs.MovedMaps.{empty_lacks}
+use Rattle.cedar_graph.proofs.Lists.{empty_lacks}
 use Rattle.cedar_validation.proofs.LastLemmas.{named_more}
 use Rattle.cedar_validation.specs.LastNamed.{last_that}
 use Rattle.cedar_validation.proofs.named.by_name.Goals as goal

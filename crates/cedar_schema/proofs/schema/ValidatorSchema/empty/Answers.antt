@@ -1,7 +1,7 @@
 use Rattle.std.proofs.lemmas.Grind.{merely}
 use Rattle.cedar_schema_elements.specs.ValidatorActionId as actions
 use Rattle.cedar_below.specs.Entities.{entities_of}
-use Rattle.cedar_graph.proofs.MovedMaps.{empty_lacks}
+use Rattle.cedar_graph.proofs.Lists.{empty_lacks}
 use Rattle.cedar_schema_elements.specs.ValidatorEntityType as types
 use Rattle.cedar_schema.proofs.SchemaNames.{schema_in_order}
 use Rattle.cedar_schema.proofs.schema.ValidatorSchema.empty.Goals as goal
