@@ -54,12 +54,16 @@ fn reference(alloc: Global, name: &str) -> Result<Type, Fail> {
     Ok(Type::named_entity_reference(alloc, EntityType::from_str(alloc, name)?)?)
 }
 
+/// What users and groups are together.
+fn either(alloc: Global) -> Result<Type, Fail> {
+    let (user, group) = (reference(alloc, "User")?, reference(alloc, "Group")?);
+    Ok(Type::least_upper_bound(alloc, &user, &group, ValidationMode::Permissive)?)
+}
+
 fn main(rt: HostRuntime) -> Result<(), Fail> {
     let alloc = rt.alloc();
     show_text(&rt, alloc, PHOTOS)?;
-    let (user, group) = (reference(alloc, "User")?, reference(alloc, "Group")?);
-    let either = Type::least_upper_bound(alloc, &user, &group, ValidationMode::Permissive)?;
-    println!(rt; "{either}")?;
+    println!(rt; "{}", either(alloc)?)?;
     let teams = r#"{"": {"entityTypes": {"User": {"memberOfTypes": ["Team"]}}, "actions": {}}}"#;
     show_text(&rt, alloc, teams)
 }
