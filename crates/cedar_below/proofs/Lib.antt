@@ -6,6 +6,7 @@ pub mod FittingNames
 pub mod IdStops
 pub mod Ids
 pub mod Inclusion
+pub mod LeadingBytes
 pub mod Lists
 pub mod Lookups
 pub mod NameReading

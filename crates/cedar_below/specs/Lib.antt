@@ -21,6 +21,7 @@ pub mod IsValue
 pub mod Joined
 pub mod KeyedEntities
 pub mod LastNamed
+pub mod LeadingBytes
 pub mod Lists
 pub mod Name
 pub mod NameFault

@@ -20,6 +20,7 @@ pub use Rattle.cedar_below.specs.IsValue.{AreEntries, AreValues, IsName, IsText,
 pub use Rattle.cedar_below.specs.Joined.{each_after, joined}
 pub use Rattle.cedar_below.specs.KeyedEntities.{IsKeyed}
 pub use Rattle.cedar_below.specs.LastNamed.{last_named}
+pub use Rattle.cedar_below.specs.LeadingBytes.{leading_bytes, name_leading}
 pub use Rattle.cedar_below.specs.Lists.{HoldsOfBoth, HoldsPairwise, Included, SameItems, Twice}
 pub use Rattle.cedar_below.specs.Name.{at_name, is_plain_shared, plain_loc, plain_name}
 pub use Rattle.cedar_below.specs.NameFault.{IsNameFault}

@@ -6,12 +6,12 @@ ghost use Rattle.cedar_below.specs.Words.{IsActionType, IsNameFault, IsReservedU
 use crate::eid::Eid;
 use crate::entity_type::EntityType;
 use crate::escape::read_id;
-use crate::held::Held;
 use crate::internal_name::InternalName;
 use crate::loc::Loc;
 use crate::memory::M;
 use crate::name_fault::NameFault;
 use crate::quoted::Quoted;
+use crate::with_leading::WithLeading;
 use std::alloc::Global;
 use std::fmt;
 
@@ -23,7 +23,7 @@ use std::fmt;
 #[derive_where(PartialEq, Eq, PartialOrd, Ord, Hash)]
 pub struct EntityUID {
     ty: EntityType,
-    eid: Held<Eid>,
+    eid: WithLeading<Eid>,
     #[derive_where(skip(EqHashOrd))]
     loc: Option<Loc>,
 }
@@ -73,7 +73,7 @@ impl EntityUID {
     {
         EntityUID {
             ty,
-            eid: Held::new(eid),
+            eid: WithLeading::new(eid),
             loc,
         }
     }
@@ -162,7 +162,7 @@ impl EntityUID {
     {
         let eid = match self.eid.other_owner()? {
             Some(eid) => eid,
-            None => Held::new(self.eid.value().clone()?),
+            None => WithLeading::new(self.eid.value().clone()?),
         };
         Ok(EntityUID {
             ty: self.ty.clone()?,

@@ -3,10 +3,12 @@
 ghost use Rattle.std.specs.Prelude.{◌≡◌, ◌↔◌, IsTrue, IfOk, Contains, map};
 ghost use Rattle.cedar_below.specs.Words.{IsReserved, IsUnqualified, id_text, is_name_shared, name_loc, name_of, parts_of, reserved_word};
 
-use crate::held::Held;
 use crate::id::Id;
+use crate::leading::leading_number;
 use crate::loc::Loc;
 use crate::memory::M;
+use crate::with_leading::{Leading, WithLeading};
+use std::cmp::Ordering;
 use std::fmt;
 
 /// The parts of a name: its base name, and the identifiers before it, outermost first.
@@ -22,7 +24,7 @@ pub(crate) struct NameParts {
 /// base name, and then by path.
 #[derive_where(PartialEq, Eq, PartialOrd, Ord, Hash)]
 pub struct InternalName {
-    parts: Held<NameParts>,
+    parts: WithLeading<NameParts>,
     #[derive_where(skip(EqHashOrd))]
     loc: Option<Loc>,
 }
@@ -72,6 +74,33 @@ impl NameParts {
     }
 }
 
+impl Leading for NameParts {
+    ghost use Rattle.cedar_below.specs.Words.{id_text, name_leading};
+
+    ghost leading_of = { λ parts. name_leading (id_text parts.id) parts.path.items };
+
+    fn leading(&self) -> u64 {
+        let base = self.id.as_str().as_bytes();
+        let short = base.len().min(8) as u8;
+        let end = match self.path.as_slice() {
+            [] => 2 * short,
+            [..] => (2 * short + 1).min(16),
+        };
+        leading_number(base, end)
+    }
+
+    fn order_by_leading(leading: u64, other: u64) -> Option<Ordering> {
+        if leading != other {
+            return Some(leading.cmp(&other));
+        }
+        // A short base name without a path is told whole.
+        if leading % 256 < 16 && leading % 2 == 0 {
+            return Some(Ordering::Equal);
+        }
+        None
+    }
+}
+
 impl InternalName {
     /// The name with this base name and this path, outermost part first.
     pub fn new(id: Id, path: Vec<Id>, loc: Option<Loc>) -> Self
@@ -80,7 +109,7 @@ impl InternalName {
         ensures loc { name_loc result ≡ loc }
     {
         InternalName {
-            parts: Held::new(NameParts { id, path }),
+            parts: WithLeading::new(NameParts { id, path }),
             loc,
         }
     }
@@ -154,7 +183,7 @@ impl InternalName {
     {
         let parts = match self.parts.other_owner()? {
             Some(parts) => parts,
-            None => Held::new(self.parts.value().clone()?),
+            None => WithLeading::new(self.parts.value().clone()?),
         };
         Ok(InternalName {
             parts,

@@ -1,0 +1,22 @@
+use Rattle.std.proofs.Common.{sym, ◌∙◌}
+use Rattle.cedar_below.specs.Words.{id_text}
+use Rattle.cedar_below.specs.contracts.internal_name.NamePartsOrd.TheImpl as name_parts_ord
+use Rattle.cedar_below.proofs.LeadingBytes.{by_number, name_leading-Equal, name_leading-Less, string_bytes-AreBytes}
+use Rattle.cedar_below.proofs.internal_name.NamePartsLeading.order_by_leading.Goals as goal
+
+-- what two names begin with orders as they do, where it differs
+pub returns-then-leading-other : goal.returns-then-leading-other
+returns-then-leading-other c a b mine others =
+    by_number name_parts_ord.Laws.total-law a b c.args.leading c.args.other
+    (λ less. name_leading-Less _ (id_text a.id) (id_text b.id) (string_bytes-AreBytes a.id.text) (string_bytes-AreBytes b.id.text)
+    a.path.items b.path.items (rw (mine, others) less))
+    (λ more. name_leading-Less _ (id_text b.id) (id_text a.id) (string_bytes-AreBytes b.id.text) (string_bytes-AreBytes a.id.text)
+    b.path.items a.path.items (rw (mine, others) more))
+    c.if-leading-other.true
+    ∙ sym c.cmp.ensures
+
+-- and where it is the same and tells all, they are the same
+pub returns-then-leading-eq0 : goal.returns-then-leading-eq0
+returns-then-leading-eq0 c a b mine others =
+    name_leading-Equal _ (id_text a.id) (id_text b.id) (string_bytes-AreBytes a.id.text) (string_bytes-AreBytes b.id.text)
+    a.path.items b.path.items (mine ∙ c.if-leading-other.false ∙ sym others) (rw mine c.if-leading-lt16.true) (rw mine c.if-leading-eq0.true)
