@@ -18,6 +18,7 @@ pub mod Id
 pub mod Identifier
 pub mod InternalName
 pub mod IsValue
+pub mod Iterators
 pub mod Joined
 pub mod KeyedEntities
 pub mod LastNamed

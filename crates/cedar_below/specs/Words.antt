@@ -17,6 +17,7 @@ pub use Rattle.cedar_below.specs.Id.{id_text}
 pub use Rattle.cedar_below.specs.Identifier.{IsIdentifier, begins_identifier, is_identifier_byte, is_identifier_start, is_identifier_text, reserved_word}
 pub use Rattle.cedar_below.specs.InternalName.{is_name_shared, name_loc, name_of, parts_of}
 pub use Rattle.cedar_below.specs.IsValue.{AreEntries, AreValues, IsName, IsText, IsValue}
+pub use Rattle.cedar_below.specs.Iterators.{HoldsOfAll}
 pub use Rattle.cedar_below.specs.Joined.{each_after, joined}
 pub use Rattle.cedar_below.specs.KeyedEntities.{IsKeyed}
 pub use Rattle.cedar_below.specs.LastNamed.{last_named}

@@ -35,8 +35,8 @@ abbrev pub NamesNoAttributes : Fault → Type 0
 NamesNoAttributes (action_attributes ids) = ⊥
 NamesNoAttributes _ = Unit {0}
 
--- a refusal to name an entity type that is declared in a namespace: memory runs out, the name is that
--- of a type of actions, or it is within a reserved namespace
+-- a refusal to name an entity type that is declared in a namespace: memory runs out, the name is
+-- that of a type of actions, or it is within a reserved namespace
 abbrev pub IsEntityTypeNameFault : Option PlainName → Text → Fault → Type 0
 IsEntityTypeNameFault namespace id fault =
     (fault ≡ out_of_memory)

@@ -1,5 +1,5 @@
 -- The words of clauses, from one place.
-pub use Rattle.cedar_below.specs.Words.{HoldsPairwise, Included, IsActionType, IsReserved, IsUnqualified, PlainName, PlainUid, SameItems, Text, action_word, id_text, name_loc, name_of, plain_name, reserved_word, text_cmp, type_loc, type_name, uid_loc, uid_of, uid_type_loc, unreserved_id_text}
+pub use Rattle.cedar_below.specs.Words.{HoldsOfAll, HoldsPairwise, Included, IsActionType, IsReserved, IsUnqualified, PlainName, PlainUid, SameItems, Text, action_word, id_text, name_loc, name_of, plain_name, reserved_word, text_cmp, type_loc, type_name, uid_loc, uid_of, uid_type_loc, unreserved_id_text}
 pub use Rattle.cedar_below.specs.declared.entity_type.EntityType.{EntityType}
 pub use Rattle.cedar_below.specs.declared.entity_uid.EntityUID.{EntityUID}
 pub use Rattle.cedar_below.specs.declared.extension.Extensions.{Extensions}
