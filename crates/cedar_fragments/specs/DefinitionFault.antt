@@ -1,8 +1,9 @@
-use Rattle.std.specs.Prelude.{◌≡◌, ◌↔◌, false, Option, Contains}
+use Rattle.std.specs.Prelude.{◌≡◌, ◌↔◌, ◌⊎◌, false, Option, Contains}
 use Rattle.cedar_below.specs.Words.{IsActionType, PlainName, Text, reserved_word}
 use Rattle.cedar_below.specs.declared.extension.Extensions.{Extensions}
-use Rattle.cedar_declarations.specs.Words.{Bag, Fault, HasAttributes, IsFault, action_attributes, action_entity_type, declared_name, declared_uid, reserved_name}
+use Rattle.cedar_declarations.specs.Words.{Bag, Fault, HasAttributes, IsFault, action_attributes, action_entity_type, declared_name, declared_uid, out_of_memory, reserved_name}
 use Rattle.cedar_names.specs.Declaration.{Declaration, Body, common_type, entity_type, action}
+use Rattle.cedar_names.specs.Reference.{name_within, path_within}
 
 -- a refusal that a definition gives cause for whatever else is declared: actions with attributes,
 -- an entity type with the base name of actions' types, or what is declared in a reserved namespace
@@ -33,6 +34,16 @@ NamesAllWithAttributes bag namespace _ = Unit {0}
 abbrev pub NamesNoAttributes : Fault → Type 0
 NamesNoAttributes (action_attributes ids) = ⊥
 NamesNoAttributes _ = Unit {0}
+
+-- a refusal to name an entity type that is declared in a namespace: memory runs out, the name is
+-- that of a type of actions, or it is within a reserved namespace
+abbrev pub IsEntityTypeNameFault : Option PlainName → Text → Fault → Type 0
+IsEntityTypeNameFault namespace id fault =
+    (fault ≡ out_of_memory)
+    ⊎ (((fault ≡ action_entity_type (name_within namespace id))
+    × IsActionType (name_within namespace id))
+    ⊎ ((fault ≡ reserved_name (name_within namespace id))
+    × Contains (path_within namespace) reserved_word))
 
 -- what is declared gives no cause for such a refusal: an entity type is no type of actions and not
 -- in a reserved namespace, and an action has no attributes and isn't in one

@@ -2,7 +2,7 @@
 
 ghost use Rattle.std.specs.Prelude.{◌≡◌, List};
 ghost use Rattle.std.specs.List.{flat_map};
-ghost use Rattle.cedar_fragments.specs.Words.{AreTheDeclaredNames, DeclaresSame, HasNoDefinitionFault, PositionsFit, Reference, ReferenceType, RefersAlike, ValidatorSchemaFragment, conditional_bag, conditional_fragment, declared_names, fragment_declarations, own_reference, positional_reference, resolved_action_type, resolved_fragment, resolved_reference};
+ghost use Rattle.cedar_fragments.specs.Words.{AreTheDeclaredNames, HasNoDefinitionFault, PositionsFit, Reference, ReferenceType, RefersAlike, SameDeclarations, ValidatorSchemaFragment, conditional_bag, conditional_fragment, declared_names, fragment_declarations, own_reference, positional_reference, resolved_action_type, resolved_fragment, resolved_reference};
 ghost use Rattle.cedar_below.specs.declared.entity_type.EntityType.{EntityType as ActionEntityType};
 ghost use Rattle.cedar_below.specs.declared.internal_name.InternalName.{InternalName as Full};
 ghost use Rattle.cedar_names.specs.declared.json_schema.conditional_name.ConditionalName.{ConditionalName as Conditional};
@@ -51,15 +51,11 @@ pub fn alike_names_refer_to_the_same()
 /// the same bag, before names are resolved and after.
 pub fn copies_have_the_same_bag()
     ensures conditional { (fragment copy : ValidatorSchemaFragment Conditional Conditional)
-        → DeclaresSame Conditional ⟦<ConditionalName as FragmentName>⟧.is_alike Conditional
-        ⟦<ConditionalName as FragmentName>⟧.is_alike
-        (λ (refer : ReferenceType → Conditional → Reference).
-        fragment_declarations Conditional refer Conditional) fragment copy
+        → SameDeclarations ⟦<ConditionalName as FragmentName>⟧.is_alike
+        ⟦<ConditionalName as FragmentName>⟧.is_alike fragment copy
         → conditional_fragment copy ≡ conditional_fragment fragment }
     ensures resolved { (fragment copy : ValidatorSchemaFragment Full ActionEntityType)
-        → DeclaresSame Full ⟦<InternalName as FragmentName>⟧.is_alike ActionEntityType
-        ⟦<EntityType as FragmentName>⟧.is_alike
-        (λ (refer : ReferenceType → Full → Reference).
-        fragment_declarations Full refer ActionEntityType) fragment copy
+        → SameDeclarations ⟦<InternalName as FragmentName>⟧.is_alike
+        ⟦<EntityType as FragmentName>⟧.is_alike fragment copy
         → resolved_fragment copy ≡ resolved_fragment fragment }
 {}

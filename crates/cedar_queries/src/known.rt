@@ -1,6 +1,6 @@
 //! The attributes that are known of entities.
 
-ghost use Rattle.std.specs.Prelude.{◌≡◌, IfOk, map};
+ghost use Rattle.std.specs.Prelude.{◌≡◌, ◌≢◌, [], IfOk, OnOk, map};
 ghost use Rattle.cedar_queries.specs.Words.{AreAttributesOf, AreKnownOfAll, IsRecordType, declared_fields, fields_of, kind_ty, lub_names, open_record, plain_entry, record_of, ty_of, type_name};
 ghost use Rattle.cedar_type_rules.specs.declared.open_tag.OpenTag.{OpenTag as Openness};
 
@@ -24,10 +24,11 @@ fn declared_attributes(alloc: Global, types: &EntityTypes, ty: &EntityType) -> M
     }
 }
 
-/// What each member of a union declares, as open records.
+/// What each member of a union declares, as open records. A union has members.
 fn open_records(alloc: Global, types: &EntityTypes, lub: &EntityLUB) -> M<Vec<Type>>
-    ensures { IfOk result (λ records. map ty_of records.items
+    ensures records { IfOk result (λ records. map ty_of records.items
         ≡ map (open_record (map plain_entry types.now.entries)) (lub_names lub.now)) }
+    ensures members { OnOk result (lub_names lub.now ≢ []) }
 {
     let mut records = Vec::new(alloc);
     for ty in lub.iter() {
@@ -68,8 +69,6 @@ fn joined_attributes(alloc: Global, types: &EntityTypes, lub: &EntityLUB) -> M<A
     ensures { IfOk result (λ attrs.
         AreKnownOfAll (map plain_entry types.now.entries) (lub_names lub.now) (fields_of attrs)) }
 {
-    // That the union has members is known from their iterator.
-    let _members = lub.iter();
     let records = open_records(alloc, types, lub)?;
     match Type::reduce_to_least_upper_bound(alloc, &records, ValidationMode::Permissive) {
         Ok(join) => without_locations(alloc, &attributes_of(join)),

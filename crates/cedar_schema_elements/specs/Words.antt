@@ -2,12 +2,12 @@
 pub use Rattle.std.specs.Cmp.{IsTotalOrder}
 pub use Rattle.std.specs.Fn.{FnReturnsAt}
 pub use Rattle.std.specs.HashSet.{contains}
-pub use Rattle.std.specs.Iterator.{Drains, IsFinite}
+pub use Rattle.std.specs.Iterator.{IsFiniteIterable}
 unfoldable pub use Rattle.std.specs.List.{IsDistinct}
 pub use Rattle.std.specs.Option.{option_copied, option_map}
 pub use Rattle.std.specs.declared.cmp.Ordering.{Ordering}
 pub use Rattle.std.specs.declared.cmp.Ordering.TheVariants.{Equal}
-pub use Rattle.cedar_below.specs.Words.{IsReserved, PlainName, PlainUid, SameItems, Text, Twice, eid_text, entities_of, entity_at, entity_uid, entries_from, name_cmp, name_of, no_entry, tree_of, type_loc, type_name, uid_cmp, uid_loc, uid_of, uid_type_loc, value_expr}
+pub use Rattle.cedar_below.specs.Words.{HoldsOfAll, IsReserved, PlainName, PlainUid, SameItems, Text, Twice, eid_text, entities_of, entity_at, entity_uid, entries_from, name_cmp, name_of, no_entry, tree_of, type_loc, type_name, uid_cmp, uid_loc, uid_of, uid_type_loc, value_expr}
 pub use Rattle.cedar_below.specs.declared.eid.Eid.{Eid}
 pub use Rattle.cedar_below.specs.declared.entities.Entities.{Entities}
 pub use Rattle.cedar_below.specs.declared.entity.Entity.{Entity}

@@ -43,8 +43,8 @@ impl Drop for ValidatorActionId {
 }
 
 impl ValidatorActionId {
-    ghost use Rattle.std.specs.Prelude.{◌≡◌, ◌≢◌, ◌↔◌, List, map, IsTrue, IfOk, Some, Contains, AllPairs};
-    ghost use Rattle.cedar_schema_elements.specs.Words.{Drains, EntityType, EntityUID, IsFinite, SameActionKind, SameItems, action_loc, action_of, borrowed_context, context_of, external_action, kind_context, kind_principals, kind_resources, name_type_loc, option_copied, option_map, ty_of, type_name, uid_loc, uid_of, uid_type_loc};
+    ghost use Rattle.std.specs.Prelude.{◌≡◌, ◌≢◌, ◌↔◌, map, IsTrue, IfOk, Some, Contains, AllPairs};
+    ghost use Rattle.cedar_schema_elements.specs.Words.{HoldsOfAll, IsFiniteIterable, SameActionKind, SameItems, action_loc, action_of, borrowed_context, context_of, external_action, kind_context, kind_principals, kind_resources, name_type_loc, option_copied, option_map, ty_of, type_name, uid_loc, uid_of, uid_type_loc};
     ghost use Rattle.cedar_schema_elements.specs.ActionKind.{plain_kind};
     ghost use Rattle.cedar_schema_elements.specs.ValidatorActionId.{name_loc};
 
@@ -56,16 +56,16 @@ impl ValidatorActionId {
         kind: ValidatorActionKind,
         loc: Option<Loc>,
     ) -> M<Self>
-        requires { (it : D.IntoIter) → D.into_iter_gives descendants it
-            → D.IntoIter.can_next it × IsFinite (D.IntoIter.remaining it) }
+        requires { IsFiniteIterable D.into_iter_gives D.IntoIter.can_next
+            D.IntoIter.remaining descendants }
         ensures uid { IfOk result (λ action. (action_of action).uid ≡ uid_of name) }
         ensures name_loc { IfOk result (λ action. name_loc action ≡ uid_loc name) }
         ensures name_type_loc { IfOk result (λ action. name_type_loc action ≡ uid_type_loc name) }
         ensures kind { IfOk result (λ action. (action_of action).kind ≡ plain_kind kind) }
         ensures borrowed { IfOk result (λ action. context_of action ≡ borrowed_context kind) }
-        ensures descendants { IfOk result (λ action. (it : D.IntoIter) × (xs : List EntityUID)
-            × D.into_iter_gives descendants it × Drains D.IntoIter.next_gives it xs
-            × SameItems (action_of action).descendants (map uid_of xs)) }
+        ensures descendants { IfOk result (λ action.
+            HoldsOfAll D.into_iter_gives D.IntoIter.next_gives descendants
+            (λ xs. SameItems (action_of action).descendants (map uid_of xs))) }
         ensures loc { IfOk result (λ action. action_loc action ≡ loc) }
     {
         Ok(ValidatorActionId {
@@ -93,27 +93,27 @@ impl ValidatorActionId {
         context: Type,
         loc: Option<Loc>,
     ) -> M<Self>
-        requires principals { (it : P.IntoIter) → P.into_iter_gives principals it
-            → P.IntoIter.can_next it × IsFinite (P.IntoIter.remaining it) }
-        requires resources { (it : R.IntoIter) → R.into_iter_gives resources it
-            → R.IntoIter.can_next it × IsFinite (R.IntoIter.remaining it) }
-        requires descendants { (it : D.IntoIter) → D.into_iter_gives descendants it
-            → D.IntoIter.can_next it × IsFinite (D.IntoIter.remaining it) }
+        requires principals { IsFiniteIterable P.into_iter_gives P.IntoIter.can_next
+            P.IntoIter.remaining principals }
+        requires resources { IsFiniteIterable R.into_iter_gives R.IntoIter.can_next
+            R.IntoIter.remaining resources }
+        requires descendants { IsFiniteIterable D.into_iter_gives D.IntoIter.can_next
+            D.IntoIter.remaining descendants }
         ensures uid { IfOk result (λ action. (action_of action).uid ≡ uid_of name) }
         ensures name_loc { IfOk result (λ action. name_loc action ≡ uid_loc name) }
         ensures name_type_loc { IfOk result (λ action. name_type_loc action ≡ uid_type_loc name) }
-        ensures principals { IfOk result (λ action. (it : P.IntoIter) × (xs : List EntityType)
-            × P.into_iter_gives principals it × Drains P.IntoIter.next_gives it xs
-            × SameItems (kind_principals (action_of action).kind) (map type_name xs)) }
-        ensures resources { IfOk result (λ action. (it : R.IntoIter) × (xs : List EntityType)
-            × R.into_iter_gives resources it × Drains R.IntoIter.next_gives it xs
-            × SameItems (kind_resources (action_of action).kind) (map type_name xs)) }
+        ensures principals { IfOk result (λ action.
+            HoldsOfAll P.into_iter_gives P.IntoIter.next_gives principals
+            (λ xs. SameItems (kind_principals (action_of action).kind) (map type_name xs))) }
+        ensures resources { IfOk result (λ action.
+            HoldsOfAll R.into_iter_gives R.IntoIter.next_gives resources
+            (λ xs. SameItems (kind_resources (action_of action).kind) (map type_name xs))) }
         ensures context { IfOk result (λ action.
             kind_context (action_of action).kind ≡ Some (ty_of context)) }
         ensures borrowed { IfOk result (λ action. context_of action ≡ Some context) }
-        ensures descendants { IfOk result (λ action. (it : D.IntoIter) × (xs : List EntityUID)
-            × D.into_iter_gives descendants it × Drains D.IntoIter.next_gives it xs
-            × SameItems (action_of action).descendants (map uid_of xs)) }
+        ensures descendants { IfOk result (λ action.
+            HoldsOfAll D.into_iter_gives D.IntoIter.next_gives descendants
+            (λ xs. SameItems (action_of action).descendants (map uid_of xs))) }
         ensures loc { IfOk result (λ action. action_loc action ≡ loc) }
     {
         let principals = type_set(alloc, principals)?;
@@ -133,15 +133,15 @@ impl ValidatorActionId {
         descendants: D,
         loc: Option<Loc>,
     ) -> M<Self>
-        requires { (it : D.IntoIter) → D.into_iter_gives descendants it
-            → D.IntoIter.can_next it × IsFinite (D.IntoIter.remaining it) }
+        requires { IsFiniteIterable D.into_iter_gives D.IntoIter.can_next
+            D.IntoIter.remaining descendants }
         ensures uid { IfOk result (λ action. (action_of action).uid ≡ uid_of name) }
         ensures name_loc { IfOk result (λ action. name_loc action ≡ uid_loc name) }
         ensures name_type_loc { IfOk result (λ action. name_type_loc action ≡ uid_type_loc name) }
         ensures kind { IfOk result (λ action. (action_of action).kind ≡ external_action) }
-        ensures descendants { IfOk result (λ action. (it : D.IntoIter) × (xs : List EntityUID)
-            × D.into_iter_gives descendants it × Drains D.IntoIter.next_gives it xs
-            × SameItems (action_of action).descendants (map uid_of xs)) }
+        ensures descendants { IfOk result (λ action.
+            HoldsOfAll D.into_iter_gives D.IntoIter.next_gives descendants
+            (λ xs. SameItems (action_of action).descendants (map uid_of xs))) }
         ensures loc { IfOk result (λ action. action_loc action ≡ loc) }
     {
         Self::with_kind(alloc, name, descendants, ValidatorActionKind::External, loc)

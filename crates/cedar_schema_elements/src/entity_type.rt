@@ -35,8 +35,8 @@ pub struct ValidatorEntityType {
 }
 
 impl ValidatorEntityType {
-    ghost use Rattle.std.specs.Prelude.{◌≡◌, ◌↔◌, List, ◌∷◌, map, IsTrue, IfOk, Contains};
-    ghost use Rattle.cedar_schema_elements.specs.Words.{Drains, EntityType, IsEnumerated, IsFinite, SameItems, Text, attribute_of, attributes_of, descendant_names, eid_text, entity_type_of, enumerated_kind, external_kind, field_at, fields_of, kind_fields, kind_openness, kind_tags, located, located_at, name_loc, option_copied, option_map, plain_kind, standard_kind, tags_of, ty_of, type_loc, type_name};
+    ghost use Rattle.std.specs.Prelude.{◌≡◌, ◌↔◌, ◌∷◌, map, IsTrue, IfOk, Contains};
+    ghost use Rattle.cedar_schema_elements.specs.Words.{HoldsOfAll, IsEnumerated, IsFiniteIterable, SameItems, Text, attribute_of, attributes_of, descendant_names, eid_text, entity_type_of, enumerated_kind, external_kind, field_at, fields_of, kind_fields, kind_openness, kind_tags, located, located_at, name_loc, option_copied, option_map, plain_kind, standard_kind, tags_of, ty_of, type_loc, type_name};
 
     /// An entity type of some kind. The descendants have to come to an end.
     fn with_kind<I: IntoIterator<Item = EntityType>>(
@@ -46,14 +46,14 @@ impl ValidatorEntityType {
         kind: ValidatorEntityTypeKind,
         loc: Option<Loc>,
     ) -> M<Self>
-        requires { (it : I.IntoIter) → I.into_iter_gives descendants it
-            → I.IntoIter.can_next it × IsFinite (I.IntoIter.remaining it) }
+        requires { IsFiniteIterable I.into_iter_gives I.IntoIter.can_next
+            I.IntoIter.remaining descendants }
         ensures name { IfOk result (λ ty. (entity_type_of ty).name ≡ type_name name) }
         ensures name_loc { IfOk result (λ ty. name_loc ty ≡ type_loc name) }
         ensures kind { IfOk result (λ ty. ty.kind ≡ kind) }
-        ensures descendants { IfOk result (λ ty. (it : I.IntoIter) × (xs : List EntityType)
-            × I.into_iter_gives descendants it × Drains I.IntoIter.next_gives it xs
-            × SameItems (descendant_names ty) (map type_name xs)) }
+        ensures descendants { IfOk result (λ ty.
+            HoldsOfAll I.into_iter_gives I.IntoIter.next_gives descendants
+            (λ xs. SameItems (descendant_names ty) (map type_name xs))) }
         ensures loc { IfOk result (λ ty. ty.loc ≡ loc) }
     {
         Ok(ValidatorEntityType {
@@ -77,8 +77,8 @@ impl ValidatorEntityType {
         tags: Option<Type>,
         loc: Option<Loc>,
     ) -> M<Self>
-        requires { (it : I.IntoIter) → I.into_iter_gives descendants it
-            → I.IntoIter.can_next it × IsFinite (I.IntoIter.remaining it) }
+        requires { IsFiniteIterable I.into_iter_gives I.IntoIter.can_next
+            I.IntoIter.remaining descendants }
         ensures name { IfOk result (λ ty. (entity_type_of ty).name ≡ type_name name) }
         ensures name_loc { IfOk result (λ ty. name_loc ty ≡ type_loc name) }
         ensures kind { IfOk result (λ ty.
@@ -86,9 +86,9 @@ impl ValidatorEntityType {
             (option_map ty_of tags)) }
         ensures attributes { IfOk result (λ ty. attributes_of ty ≡ attributes) }
         ensures tags { IfOk result (λ ty. tags_of ty ≡ tags) }
-        ensures descendants { IfOk result (λ ty. (it : I.IntoIter) × (xs : List EntityType)
-            × I.into_iter_gives descendants it × Drains I.IntoIter.next_gives it xs
-            × SameItems (descendant_names ty) (map type_name xs)) }
+        ensures descendants { IfOk result (λ ty.
+            HoldsOfAll I.into_iter_gives I.IntoIter.next_gives descendants
+            (λ xs. SameItems (descendant_names ty) (map type_name xs))) }
         ensures loc { IfOk result (λ ty. ty.loc ≡ loc) }
     {
         let kind = StandardValidatorEntityType::new(attributes, open_attributes, tags);
@@ -105,16 +105,16 @@ impl ValidatorEntityType {
         choices: NonEmpty<Eid>,
         loc: Option<Loc>,
     ) -> M<Self>
-        requires { (it : I.IntoIter) → I.into_iter_gives descendants it
-            → I.IntoIter.can_next it × IsFinite (I.IntoIter.remaining it) }
+        requires { IsFiniteIterable I.into_iter_gives I.IntoIter.can_next
+            I.IntoIter.remaining descendants }
         ensures name { IfOk result (λ ty. (entity_type_of ty).name ≡ type_name name) }
         ensures name_loc { IfOk result (λ ty. name_loc ty ≡ type_loc name) }
         ensures kind { IfOk result (λ ty.
             (entity_type_of ty).kind ≡ enumerated_kind
             (map eid_text (choices.head ∷ choices.tail.items))) }
-        ensures descendants { IfOk result (λ ty. (it : I.IntoIter) × (xs : List EntityType)
-            × I.into_iter_gives descendants it × Drains I.IntoIter.next_gives it xs
-            × SameItems (descendant_names ty) (map type_name xs)) }
+        ensures descendants { IfOk result (λ ty.
+            HoldsOfAll I.into_iter_gives I.IntoIter.next_gives descendants
+            (λ xs. SameItems (descendant_names ty) (map type_name xs))) }
         ensures loc { IfOk result (λ ty. ty.loc ≡ loc) }
     {
         let kind = ValidatorEntityTypeKind::Enum(choices);
@@ -129,14 +129,14 @@ impl ValidatorEntityType {
         descendants: I,
         loc: Option<Loc>,
     ) -> M<Self>
-        requires { (it : I.IntoIter) → I.into_iter_gives descendants it
-            → I.IntoIter.can_next it × IsFinite (I.IntoIter.remaining it) }
+        requires { IsFiniteIterable I.into_iter_gives I.IntoIter.can_next
+            I.IntoIter.remaining descendants }
         ensures name { IfOk result (λ ty. (entity_type_of ty).name ≡ type_name name) }
         ensures name_loc { IfOk result (λ ty. name_loc ty ≡ type_loc name) }
         ensures kind { IfOk result (λ ty. (entity_type_of ty).kind ≡ external_kind) }
-        ensures descendants { IfOk result (λ ty. (it : I.IntoIter) × (xs : List EntityType)
-            × I.into_iter_gives descendants it × Drains I.IntoIter.next_gives it xs
-            × SameItems (descendant_names ty) (map type_name xs)) }
+        ensures descendants { IfOk result (λ ty.
+            HoldsOfAll I.into_iter_gives I.IntoIter.next_gives descendants
+            (λ xs. SameItems (descendant_names ty) (map type_name xs))) }
         ensures loc { IfOk result (λ ty. ty.loc ≡ loc) }
     {
         Self::with_kind(

@@ -1,7 +1,7 @@
 //! Sets of entity types and of uids, collected and copied.
 
-ghost use Rattle.std.specs.Prelude.{◌≡◌, IsTrue, IfOk, Result, List, map};
-ghost use Rattle.cedar_schema_elements.specs.Words.{Drains, EntityType, EntityUID, FnReturnsAt, IsFinite, Memory, SameItems, contains, type_name, uid_of};
+ghost use Rattle.std.specs.Prelude.{◌≡◌, IsTrue, IfOk, Result, map};
+ghost use Rattle.cedar_schema_elements.specs.Words.{FnReturnsAt, HoldsOfAll, IsFiniteIterable, Memory, SameItems, contains, type_name, uid_of};
 
 use cedar_below::{EntityType, EntityUID, M};
 use std::alloc::Global;
@@ -14,11 +14,9 @@ pub(crate) fn type_set<I: IntoIterator<Item = EntityType>>(
     alloc: Global,
     types: I,
 ) -> M<HashSet<EntityType>>
-    requires { (it : I.IntoIter) → I.into_iter_gives types it
-        → I.IntoIter.can_next it × IsFinite (I.IntoIter.remaining it) }
-    ensures { IfOk result (λ set. (it : I.IntoIter) × (xs : List EntityType)
-        × I.into_iter_gives types it × Drains I.IntoIter.next_gives it xs
-        × SameItems (map type_name set.keys) (map type_name xs)) }
+    requires { IsFiniteIterable I.into_iter_gives I.IntoIter.can_next I.IntoIter.remaining types }
+    ensures { IfOk result (λ set. HoldsOfAll I.into_iter_gives I.IntoIter.next_gives types
+        (λ xs. SameItems (map type_name set.keys) (map type_name xs))) }
 {
     Ok(HashSet::from_iter(alloc, types)?)
 }
@@ -28,11 +26,9 @@ pub(crate) fn uid_set<I: IntoIterator<Item = EntityUID>>(
     alloc: Global,
     uids: I,
 ) -> M<HashSet<EntityUID>>
-    requires { (it : I.IntoIter) → I.into_iter_gives uids it
-        → I.IntoIter.can_next it × IsFinite (I.IntoIter.remaining it) }
-    ensures { IfOk result (λ set. (it : I.IntoIter) × (xs : List EntityUID)
-        × I.into_iter_gives uids it × Drains I.IntoIter.next_gives it xs
-        × SameItems (map uid_of set.keys) (map uid_of xs)) }
+    requires { IsFiniteIterable I.into_iter_gives I.IntoIter.can_next I.IntoIter.remaining uids }
+    ensures { IfOk result (λ set. HoldsOfAll I.into_iter_gives I.IntoIter.next_gives uids
+        (λ xs. SameItems (map uid_of set.keys) (map uid_of xs))) }
 {
     Ok(HashSet::from_iter(alloc, uids)?)
 }

@@ -1,5 +1,5 @@
 -- The words of clauses, from one place.
-pub use Rattle.cedar_below.specs.Words.{ArgumentsFit, CoreTy, EachTree, Entries, EntryFits, FeedsVariantFirst, Gives, HoldsPairwise, Included, IsUnknown, NamesListed, PlainName, PlainUid, SomeTree, Text, Tree, Trees, argument_types, core_attribute_of, core_entity, core_extension, core_fields_from, core_fields_of, core_names, core_record, core_set, core_ty_of, entries_of, entry_at, entry_names, function_named, last_named, map_value, name_cmp, name_text, plain_name, primitive_words, result_type, text_cmp, tree_of, trees_of, type_name, uid_of, uid_value, value_expr}
+pub use Rattle.cedar_below.specs.Words.{ArgumentsFit, CoreTy, EachTree, Entries, EntryFits, FeedsVariantFirst, Gives, HoldsOfAll, HoldsPairwise, Included, IsUnknown, NamesListed, PlainName, PlainUid, SomeTree, Text, Tree, Trees, argument_types, core_attribute_of, core_entity, core_extension, core_fields_from, core_fields_of, core_names, core_record, core_set, core_ty_of, entries_of, entry_at, entry_names, function_named, last_named, map_value, name_cmp, name_text, plain_name, primitive_words, result_type, text_cmp, tree_of, trees_of, type_name, uid_of, uid_value, value_expr}
 pub use Rattle.cedar_below.specs.declared.core_schema_type.CoreAttributeType.{CoreAttributeType}
 pub use Rattle.cedar_below.specs.declared.entity_type.EntityType.{EntityType}
 pub use Rattle.cedar_below.specs.declared.extension.ExtensionFunction.{ExtensionFunction}

@@ -1,12 +1,9 @@
 //! Attributes of records, by name.
 
-ghost use Rattle.std.specs.Prelude.{◌≡◌, ◌<◌, ◌≤◌, ◌^◌, ◌++◌, ℕ, length, List, true, false, map, IfOk, Option, Some, None, codes, string_bytes};
-ghost use Rattle.std.specs.Iterator.{IsFinite, Drains};
+ghost use Rattle.std.specs.Prelude.{◌≡◌, ◌<◌, ◌≤◌, ◌^◌, ◌++◌, ℕ, length, true, false, map, IfOk, Option, Some, None, codes, string_bytes};
+ghost use Rattle.std.specs.Iterator.{IsFiniteIterable};
 ghost use Rattle.std.specs.Option.{option_copied, option_map};
-ghost use Rattle.std.specs.declared.alloc.Global.{Global};
-ghost use Rattle.std.specs.declared.rc.Rc.{Rc};
-ghost use Rattle.std.specs.declared.string.String.{String};
-ghost use Rattle.cedar_types.specs.Words.{AreSortedByName, AttributeType, HoldsLast, IsSortedByName, KeepsLast, Loc, Text, «Type», attribute_loc, attribute_of, end, field_at, field_names, fields_from, fields_of, fields_text, located, located_at, located_attributes, located_required, plain_attributes, plain_required, ty_of, value_at};
+ghost use Rattle.cedar_types.specs.Words.{AreSortedByName, HoldsLast, HoldsOfAll, IsSortedByName, KeepsLast, Loc, Text, attribute_loc, attribute_of, end, field_at, field_names, fields_from, fields_of, fields_text, located, located_at, located_attributes, located_required, plain_attributes, plain_required, ty_of, value_at};
 
 use crate::show::write_attribute;
 use crate::types::Type;
@@ -161,13 +158,12 @@ impl Attributes {
         alloc: Global,
         items: I,
     ) -> M<Self>
-        requires { (it : I.IntoIter) → I.into_iter_gives items it
-            → I.IntoIter.can_next it × IsFinite (I.IntoIter.remaining it) }
+        requires { IsFiniteIterable I.into_iter_gives I.IntoIter.can_next
+            I.IntoIter.remaining items }
         ensures attributes { IfOk result (λ all.
-            (it : I.IntoIter) × (xs : List (String Global × AttributeType))
-            × I.into_iter_gives items it × Drains I.IntoIter.next_gives it xs
-            × HoldsLast (plain_attributes xs) (fields_of all)
-            × KeepsLast (located_attributes xs) all) }
+            HoldsOfAll I.into_iter_gives I.IntoIter.next_gives items
+            (λ xs. HoldsLast (plain_attributes xs) (fields_of all)
+            × KeepsLast (located_attributes xs) all)) }
         ensures sorted_by_name { IfOk result (λ all. IsSortedByName (fields_of all)) }
     {
         let mut entries = Vec::new(alloc);
@@ -183,13 +179,12 @@ impl Attributes {
         alloc: Global,
         items: I,
     ) -> M<Self>
-        requires { (it : I.IntoIter) → I.into_iter_gives items it
-            → I.IntoIter.can_next it × IsFinite (I.IntoIter.remaining it) }
+        requires { IsFiniteIterable I.into_iter_gives I.IntoIter.can_next
+            I.IntoIter.remaining items }
         ensures attributes { IfOk result (λ all.
-            (it : I.IntoIter) × (xs : List (String Global × Rc «Type» Global))
-            × I.into_iter_gives items it × Drains I.IntoIter.next_gives it xs
-            × HoldsLast (plain_required xs) (fields_of all)
-            × KeepsLast (located_required xs) all) }
+            HoldsOfAll I.into_iter_gives I.IntoIter.next_gives items
+            (λ xs. HoldsLast (plain_required xs) (fields_of all)
+            × KeepsLast (located_required xs) all)) }
         ensures sorted_by_name { IfOk result (λ all. IsSortedByName (fields_of all)) }
     {
         let mut entries = Vec::new(alloc);

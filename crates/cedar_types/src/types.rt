@@ -1,11 +1,8 @@
 //! Types of the validator.
 
-ghost use Rattle.std.specs.Prelude.{◌≡◌, ◌↔◌, List, [], ◌∷◌, IsTrue, IfOk, Contains, if◌then◌else◌};
-ghost use Rattle.std.specs.Iterator.{IsFinite, Drains};
-ghost use Rattle.std.specs.declared.alloc.Global.{Global};
-ghost use Rattle.std.specs.declared.rc.Rc.{Rc};
-ghost use Rattle.std.specs.declared.string.String.{String};
-ghost use Rattle.cedar_types.specs.Words.{AttributeType, IsRecordOf, Text, «Type», any_entity, any_set, element_of, end, extension_of, last_named, listed_at, located_attributes, long, plain_attributes, plain_name, plain_required, primitive_words, record_of, set_of, text, truth, ty_of, type_name, union_of};
+ghost use Rattle.std.specs.Prelude.{◌≡◌, ◌↔◌, [], ◌∷◌, IsTrue, IfOk, Contains, if◌then◌else◌};
+ghost use Rattle.std.specs.Iterator.{IsFiniteIterable};
+ghost use Rattle.cedar_types.specs.Words.{HoldsOfAll, IsRecordOf, Text, any_entity, any_set, element_of, end, extension_of, last_named, listed_at, located_attributes, long, plain_attributes, plain_name, plain_required, primitive_words, record_of, set_of, text, truth, ty_of, type_name, union_of};
 ghost use Rattle.cedar_type_rules.specs.declared.bool_type.BoolType.TheVariants as bool_type;
 
 use crate::attributes::{AttributeType, Attributes};
@@ -137,12 +134,11 @@ impl Type {
         items: I,
         open_attributes: OpenTag,
     ) -> M<Self>
-        requires { (it : I.IntoIter) → I.into_iter_gives items it
-            → I.IntoIter.can_next it × IsFinite (I.IntoIter.remaining it) }
-        ensures { IfOk result (λ ty. (it : I.IntoIter) × (xs : List (String Global × AttributeType))
-            × I.into_iter_gives items it × Drains I.IntoIter.next_gives it xs
-            × IsRecordOf (plain_attributes xs) open_attributes (ty_of ty)
-            × ((name : Text) → listed_at name ty ≡ last_named name (located_attributes xs))) }
+        requires { IsFiniteIterable I.into_iter_gives I.IntoIter.can_next
+            I.IntoIter.remaining items }
+        ensures { IfOk result (λ ty. HoldsOfAll I.into_iter_gives I.IntoIter.next_gives items
+            (λ xs. IsRecordOf (plain_attributes xs) open_attributes (ty_of ty)
+            × ((name : Text) → listed_at name ty ≡ last_named name (located_attributes xs)))) }
     {
         Ok(Type::Record {
             attrs: Attributes::with_attributes(alloc, items)?,
@@ -157,12 +153,10 @@ impl Type {
         items: I,
         open_attributes: OpenTag,
     ) -> M<Self>
-        requires { (it : I.IntoIter) → I.into_iter_gives items it
-            → I.IntoIter.can_next it × IsFinite (I.IntoIter.remaining it) }
-        ensures { IfOk result (λ ty. (it : I.IntoIter)
-            × (xs : List (String Global × Rc «Type» Global))
-            × I.into_iter_gives items it × Drains I.IntoIter.next_gives it xs
-            × IsRecordOf (plain_required xs) open_attributes (ty_of ty)) }
+        requires { IsFiniteIterable I.into_iter_gives I.IntoIter.can_next
+            I.IntoIter.remaining items }
+        ensures { IfOk result (λ ty. HoldsOfAll I.into_iter_gives I.IntoIter.next_gives items
+            (λ xs. IsRecordOf (plain_required xs) open_attributes (ty_of ty))) }
     {
         Ok(Type::Record {
             attrs: Attributes::with_required_attributes(alloc, items)?,

@@ -1,7 +1,7 @@
 //! Copies of actions.
 
 ghost use Rattle.std.specs.Prelude.{IfOk, Some};
-ghost use Rattle.cedar_fragments.specs.Words.{DeclaresSame, LocatesAlike, LocatesSame, Locs, Reference, ReferenceType, RefersAlike, ShowsSame, action_def_locs, action_fragment_body, action_fragment_declaration, action_fragment_declarations, action_fragment_locs, actions_locs, fragment_parent, fragment_requests, parent_locs, requests_locs};
+ghost use Rattle.cedar_fragments.specs.Words.{IsActionDefCopy, IsActionFragmentCopy, IsActionParentCopy, IsActionsDefCopy, IsRequestsCopy};
 
 use crate::namespace::action_def::ActionDef;
 use crate::namespace::actions::{ActionFragment, ActionParent, ActionRequests, ActionsDef};
@@ -11,11 +11,8 @@ use cedar_names::json_schema::{FragmentName, copied_names};
 impl<N: FragmentName + Drop> ActionRequests<N> {
     /// Equal requests with the same locations. Out of memory is the only refusal.
     pub fn clone(&self) -> M<Self>
-        ensures requests { IfOk result (λ copy.
-            ShowsSame (RefersAlike N N.is_alike) (fragment_requests N) (Some self.now)
-            (Some copy)) }
-        ensures locs { IfOk result (λ copy.
-            ShowsSame (LocatesAlike N N.is_alike) (requests_locs N) (Some self.now) (Some copy)) }
+        ensures { IfOk result (λ copy.
+            IsRequestsCopy N.is_alike (Some self.now) (Some copy)) }
     {
         Ok(ActionRequests {
             principals: copied_names(&self.principals)?,
@@ -29,10 +26,7 @@ impl<N: FragmentName + Drop> ActionRequests<N> {
 fn copied_requests<N: FragmentName + Drop>(
     requests: &Option<ActionRequests<N>>,
 ) -> M<Option<ActionRequests<N>>>
-    ensures requests { IfOk result
-        (ShowsSame (RefersAlike N N.is_alike) (fragment_requests N) requests.now) }
-    ensures locs { IfOk result (ShowsSame (LocatesAlike N N.is_alike)
-        (requests_locs N) requests.now) }
+    ensures { IfOk result (IsRequestsCopy N.is_alike requests.now) }
 {
     match requests {
         None => Ok(None),
@@ -43,10 +37,7 @@ fn copied_requests<N: FragmentName + Drop>(
 impl<A: FragmentName + Drop> ActionParent<A> {
     /// An equal parent with the same locations. Out of memory is the only refusal.
     pub fn clone(&self) -> M<Self>
-        ensures reference { IfOk result
-            (ShowsSame (RefersAlike A A.is_alike) (fragment_parent A) self.now) }
-        ensures locs { IfOk result (ShowsSame (LocatesAlike A A.is_alike)
-            (parent_locs A) self.now) }
+        ensures { IfOk result (IsActionParentCopy A.is_alike self.now) }
     {
         Ok(ActionParent {
             id: self.id.clone()?,
@@ -59,10 +50,7 @@ impl<A: FragmentName + Drop> ActionParent<A> {
 impl<N: FragmentName + Drop, A: FragmentName + Drop> ActionFragment<N, A> {
     /// Equal declarations with the same locations. Out of memory is the only refusal.
     pub fn clone(&self) -> M<Self>
-        ensures body { IfOk result (DeclaresSame N N.is_alike A A.is_alike
-            (λ (refer : ReferenceType → N → Reference). action_fragment_body N refer A) self.now) }
-        ensures locs { IfOk result (LocatesSame N N.is_alike A A.is_alike
-            (λ (locs : N → Locs). action_fragment_locs N locs A) self.now) }
+        ensures { IfOk result (IsActionFragmentCopy N.is_alike A.is_alike self.now) }
     {
         Ok(ActionFragment {
             requests: copied_requests(&self.requests)?,
@@ -75,11 +63,7 @@ impl<N: FragmentName + Drop, A: FragmentName + Drop> ActionFragment<N, A> {
 impl<N: FragmentName + Drop, A: FragmentName + Drop> ActionDef<N, A> {
     /// An equal action with the same locations. Out of memory is the only refusal.
     pub fn clone(&self) -> M<Self>
-        ensures declaration { IfOk result (DeclaresSame N N.is_alike A A.is_alike
-            (λ (refer : ReferenceType → N → Reference).
-            action_fragment_declaration N refer A) self.now) }
-        ensures locs { IfOk result (LocatesSame N N.is_alike A A.is_alike
-            (λ (locs : N → Locs). action_def_locs N locs A) self.now) }
+        ensures { IfOk result (IsActionDefCopy N.is_alike A.is_alike self.now) }
     {
         Ok(ActionDef {
             uid: self.uid.clone()?,
@@ -91,11 +75,7 @@ impl<N: FragmentName + Drop, A: FragmentName + Drop> ActionDef<N, A> {
 impl<N: FragmentName + Drop, A: FragmentName + Drop> ActionsDef<N, A> {
     /// Equal actions with the same locations, in their order. Out of memory is the only refusal.
     pub fn clone(&self) -> M<Self>
-        ensures declarations { IfOk result (DeclaresSame N N.is_alike A A.is_alike
-            (λ (refer : ReferenceType → N → Reference).
-            action_fragment_declarations N refer A) self.now) }
-        ensures locs { IfOk result (LocatesSame N N.is_alike A A.is_alike
-            (λ (locs : N → Locs). actions_locs N locs A) self.now) }
+        ensures { IfOk result (IsActionsDefCopy N.is_alike A.is_alike self.now) }
     {
         let defs = copied_items(&self.defs, ActionDef::clone)?;
         Ok(ActionsDef { defs })

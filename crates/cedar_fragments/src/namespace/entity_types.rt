@@ -3,7 +3,7 @@
 ghost use Rattle.std.specs.Prelude.{◌≡◌, ◌⊎◌, IfOk, IfErr, OnOk, map, Contains, []};
 ghost use Rattle.std.specs.List.{AllByRecursion};
 ghost use Rattle.std.specs.Slice.Iter.{iter_rest};
-ghost use Rattle.cedar_fragments.specs.Words.{Fault, IsActionType, IsDefinitionFault, IsSound, NamesNoAttributes, Reference, ReferenceType, action_entity_type, entity_declarations, entity_parents, entity_type_declarations, entity_type_defs, fault_of, fragment_body, name_within, namespace_name, out_of_memory, path_within, positional_expr, positional_reference, raw_entity_body, raw_expr, raw_reference, reserved_name, reserved_word, standard, type_name, unreserved_id_text};
+ghost use Rattle.cedar_fragments.specs.Words.{Fault, IsActionType, IsDefinitionFault, IsEntityTypeNameFault, IsSound, NamesNoAttributes, Reference, ReferenceType, entity_declarations, entity_parents, entity_type_declarations, entity_type_defs, fault_of, fragment_body, name_within, namespace_name, out_of_memory, path_within, positional_expr, positional_reference, raw_entity_body, raw_expr, raw_reference, reserved_word, standard, type_name, unreserved_id_text};
 ghost use Rattle.cedar_names.specs.declared.json_schema.raw_name.RawName.{RawName as Raw};
 ghost use Rattle.std.specs.Option.{option_map};
 ghost use Rattle.cedar_names.specs.declared.json_schema.conditional_name.ConditionalName.{ConditionalName as Conditional};
@@ -186,13 +186,8 @@ fn entity_type_name(
         (¬ IsActionType (name_within (namespace_name namespace.entry) (unreserved_id_text id))) }
     ensures unreserved { OnOk result
         (¬ Contains (path_within (namespace_name namespace.entry)) reserved_word) }
-    ensures fault { IfErr result (λ error. (fault_of error ≡ out_of_memory)
-        ⊎ (((fault_of error ≡ action_entity_type
-        (name_within (namespace_name namespace.entry) (unreserved_id_text id)))
-        × IsActionType (name_within (namespace_name namespace.entry) (unreserved_id_text id)))
-        ⊎ ((fault_of error ≡ reserved_name
-        (name_within (namespace_name namespace.entry) (unreserved_id_text id)))
-        × Contains (path_within (namespace_name namespace.entry)) reserved_word))) }
+    ensures fault { IfErr result (λ error. IsEntityTypeNameFault
+        (namespace_name namespace.entry) (unreserved_id_text id) (fault_of error)) }
 {
     let name = full_name(alloc, namespace, id.into_id(), loc)?;
     let ty = match EntityType::from_internal(name) {

@@ -1,12 +1,11 @@
 //! Fragments of given definitions, and the namespaces that a fragment defines.
 
 ghost use Rattle.std.specs.Prelude.{◌≡◌, IfOk, List, map, length};
-ghost use Rattle.std.specs.Iterator.{IsFinite, Drains, at_most};
+ghost use Rattle.std.specs.Iterator.{IsFiniteIterable, at_most};
 ghost use Rattle.std.specs.List.{flat_map};
 ghost use Rattle.std.specs.Map.Iter.{TakesFirst};
 ghost use Rattle.std.specs.Option.{option_copied, option_map};
-ghost use Rattle.cedar_fragments.specs.Words.{Reference, definition_declarations, definition_namespace, fragment_declarations, fragment_namespaces, name_of};
-ghost use Rattle.cedar_fragments.specs.declared.namespace.definition.ValidatorNamespaceDef.{ValidatorNamespaceDef as Definition};
+ghost use Rattle.cedar_fragments.specs.Words.{HoldsOfAll, Reference, definition_declarations, definition_namespace, fragment_declarations, fragment_namespaces, name_of};
 ghost use Rattle.cedar_names.specs.declared.json_schema.reference_type.ReferenceType.{ReferenceType as Kind};
 
 use crate::namespace::definition::ValidatorNamespaceDef;
@@ -55,14 +54,14 @@ impl<N: Drop, A: Drop> ValidatorSchemaFragment<N, A> {
         alloc: Global,
         items: I,
     ) -> M<Self>
-        requires { (it : I.IntoIter) → I.into_iter_gives items it
-            → I.IntoIter.can_next it × IsFinite (I.IntoIter.remaining it) }
-        ensures { IfOk result (λ fragment. (it : I.IntoIter) × (definitions : List (Definition N A))
-            × I.into_iter_gives items it × Drains I.IntoIter.next_gives it definitions
-            × ((refer : Kind → N → Reference) (refer_action : Kind → A → Reference)
+        requires { IsFiniteIterable I.into_iter_gives I.IntoIter.can_next
+            I.IntoIter.remaining items }
+        ensures { IfOk result (λ fragment.
+            HoldsOfAll I.into_iter_gives I.IntoIter.next_gives items (λ definitions.
+            ((refer : Kind → N → Reference) (refer_action : Kind → A → Reference)
             → fragment_declarations N refer A refer_action fragment
             ≡ flat_map (definition_declarations N refer A refer_action) definitions)
-            × (fragment_namespaces N A fragment ≡ map (definition_namespace N A) definitions)) }
+            × (fragment_namespaces N A fragment ≡ map (definition_namespace N A) definitions))) }
     {
         Ok(ValidatorSchemaFragment {
             definitions: Vec::from_iter(alloc, items)?,

@@ -74,7 +74,7 @@ elaborate_attributes-returns-clause-elaborates t c =
     let made = c.in_ok-with_attributes.ensures.attributes in
     record_elaborated c.args.scope.now c.args.record_type.now c.loop-name.attributes.items c.loop-name.name-iterator
     c.in-None.ensures.steps.0 c.loop-name.invariant (fields_of c.in_ok-with_attributes.field-0) c.len.ensures.ordered
-    (rw (All-taken made.0 made.1 made.3, made.2.0) at made.4) c.in_ok-with_attributes.ensures.sorted_by_name
+    (rw (All-taken made.0 made.1 made.3, made.2.0) at made.4.0) c.in_ok-with_attributes.ensures.sorted_by_name
 
 -- it has no open record
 pub elaborate_attributes-returns-clause-closed : goal.elaborate_attributes-returns-clause-closed

@@ -20,5 +20,5 @@ returns c =
     let same : fields_from (plain_attributes entries) ≡ fields_of c.args.attrs.now = ap fields_from all ∙ c.iter-name-items.ensures.attributes in
     fields_from-HoldsLast (plain_attributes entries) (fields_of c.in_ok-with_attributes.field-0)
     (rw same c.iter-name-items.ensures.sorted_by_name) c.in_ok-with_attributes.ensures.sorted_by_name
-    (rw (All-taken made.0 made.1 made.3, made.2.0) at made.4)
+    (rw (All-taken made.0 made.1 made.3, made.2.0) at made.4.0)
     ∙ same

@@ -4,16 +4,16 @@ use Rattle.cedar_fragments.proofs.CopyLemmas.{refer_same, locate_same}
 use Rattle.cedar_names.specs.declared.json_schema.reference_type.ReferenceType.TheVariants.{Entity as entity}
 use Rattle.cedar_fragments.proofs.namespace.actions.ActionRequests.clone.Goals as goal
 
-pub returns-clause-requests : goal.returns-clause-requests
-returns-clause-requests g c refer fair =
-    let same = refer_same g.row.N.Denot g.N.FragmentName.is_alike refer fair entity in
-    λ i. requests (same c.args.self.now.principals.items c.in_ok-copied_names.field-0.items c.in_ok-copied_names.ensures i)
-    (same c.args.self.now.resources.items c.in_ok-copied_names-2.field-0.items c.in_ok-copied_names-2.ensures i)
-    (c.in_ok-clone.ensures.written refer fair i)
-
-pub returns-clause-locs : goal.returns-clause-locs
-returns-clause-locs g c locs fair =
-    let same = locate_same g.row.N.Denot g.N.FragmentName.is_alike locs fair in
-    λ i. same c.args.self.now.principals.items c.in_ok-copied_names.field-0.items c.in_ok-copied_names.ensures i
-    ++ same c.args.self.now.resources.items c.in_ok-copied_names-2.field-0.items c.in_ok-copied_names-2.ensures i
-    ++ c.in_ok-clone.ensures.locs locs fair i
+pub returns : goal.returns
+returns g c = record {
+  requests = λ refer fair.
+      let same = refer_same g.row.N.Denot g.N.FragmentName.is_alike refer fair entity in
+      λ i. requests (same c.args.self.now.principals.items c.in_ok-copied_names.field-0.items c.in_ok-copied_names.ensures i)
+      (same c.args.self.now.resources.items c.in_ok-copied_names-2.field-0.items c.in_ok-copied_names-2.ensures i)
+      (c.in_ok-clone.ensures.written refer fair i);
+  locs = λ locs fair.
+      let same = locate_same g.row.N.Denot g.N.FragmentName.is_alike locs fair in
+      λ i. same c.args.self.now.principals.items c.in_ok-copied_names.field-0.items c.in_ok-copied_names.ensures i
+      ++ same c.args.self.now.resources.items c.in_ok-copied_names-2.field-0.items c.in_ok-copied_names-2.ensures i
+      ++ c.in_ok-clone.ensures.locs locs fair i;
+}

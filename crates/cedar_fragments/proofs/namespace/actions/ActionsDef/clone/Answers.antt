@@ -4,14 +4,14 @@ use Rattle.cedar_fragments.proofs.CopyLemmas.{same_flat}
 use Rattle.cedar_fragments.specs.Words.{action_def_locs, action_fragment_declaration}
 use Rattle.cedar_fragments.proofs.namespace.actions.ActionsDef.clone.Goals as goal
 
-pub returns-clause-declarations : goal.returns-clause-declarations
-returns-clause-declarations g c refer refer_action fair fair_action =
-    let shown = action_fragment_declaration g.row.N.Denot refer g.row.A.Denot refer_action in
-    same_shown _ shown (λ def copy ran. ran.says.met.0 refer refer_action fair fair_action ∙ ap shown ran.shows)
-    c.args.self.now.defs.items c.in_ok-defs.defs.items c.in_ok-defs.ensures
-
-pub returns-clause-locs : goal.returns-clause-locs
-returns-clause-locs g c locs action_locs fair fair_action =
-    let shown = action_def_locs g.row.N.Denot locs g.row.A.Denot action_locs in
-    same_flat _ shown (λ def copy ran. ran.says.met.1 locs action_locs fair fair_action ∙ ap shown ran.shows)
-    c.args.self.now.defs.items c.in_ok-defs.defs.items c.in_ok-defs.ensures
+pub returns : goal.returns
+returns g c = record {
+  declarations = λ refer refer_action fair fair_action.
+      let shown = action_fragment_declaration g.row.N.Denot refer g.row.A.Denot refer_action in
+      same_shown _ shown (λ def copy ran. ran.says.met.declaration refer refer_action fair fair_action ∙ ap shown ran.shows)
+      c.args.self.now.defs.items c.in_ok-defs.defs.items c.in_ok-defs.ensures;
+  locs = λ locs action_locs fair fair_action.
+      let shown = action_def_locs g.row.N.Denot locs g.row.A.Denot action_locs in
+      same_flat _ shown (λ def copy ran. ran.says.met.locs locs action_locs fair fair_action ∙ ap shown ran.shows)
+      c.args.self.now.defs.items c.in_ok-defs.defs.items c.in_ok-defs.ensures;
+}
