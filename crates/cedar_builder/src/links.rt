@@ -31,7 +31,6 @@ pub(crate) fn link<K: Ord + Hash + Drop, V: SchemaNode<K> + Drop>(
         → IsCycle (IsEdgeIn K.eq edges.now) enforce_dag refused) }
 {
     let linked = link_table::<K, V>(alloc, nodes, edges, enforce_dag)?;
-    // That no two keys are equal is known from their iterator.
-    let _keys = linked.keys();
+    linked.keys_ascend();
     Ok(linked)
 }

@@ -55,6 +55,13 @@ impl<K: Ord + Hash, V> Table<K, V> {
         }
     }
 
+    /// That the keys are in order, each once, for a proof of what holds the table. Nothing is done.
+    pub fn keys_ascend(&self)
+        ensures { IsStrictlySortedBy K.cmp (keys_of self.now.entries) }
+    {
+        let _ = &self.entries;
+    }
+
     /// The allocator of the entries.
     pub(crate) fn allocator(&self) -> &Global {
         self.entries.allocator()

@@ -7,7 +7,7 @@ use Rattle.cedar_builder.proofs.links.link.Goals as goal
 -- keys in order differ
 pub returns-clause-distinct : goal.returns-clause-distinct
 returns-clause-distinct g c =
-    distinct_keys g.K.Ord.cmp g.met.K.Ord.matches_eq (keys_of c.in_ok-linked.linked.entries) c.keys-keys.ensures.ordered
+    distinct_keys g.K.Ord.cmp g.met.K.Ord.matches_eq (keys_of c.in_ok-linked.linked.entries) c.keys_ascend.ensures
 
 -- nodes that stay alike keep their locations
 pub returns-clause-located : goal.returns-clause-located
