@@ -72,8 +72,8 @@ read_attributes-loop-index-preserved t c =
     let all = c.args.members.now.items in
     let here = members_from_index c.deref-member-items.result.now all c.loop-index.index x c.deref-member-items.ensures.value c.loop-index-test.true
     c.member-item.is in
-    one_more all c.loop-index.index x c.loop-index.attributes.entries here c.loop-index.invariant c.in_ok-from_str-in-Ok.field-0 c.in-Ok.attribute
-    c.put.new.map.entries c.in-Ok.ensures.value c.in_ok-from_str-in-Ok.ensures.ok (search rules)
+    one_more all c.loop-index.index x c.loop-index.attributes.entries here c.loop-index.invariant c.in_ok-name.name c.in-Ok.attribute
+    c.put.new.map.entries c.in-Ok.ensures.value c.in_ok-name.ensures.ok (search rules)
 
 -- where no member is left, all attributes were read
 pub read_attributes-returns-clause-value : goal.read_attributes-returns-clause-value
