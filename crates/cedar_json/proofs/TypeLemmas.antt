@@ -10,7 +10,10 @@ use Rattle.json.specs.Json.{Json, null, boolean, number, string, array, object, 
 use Rattle.json.specs.Find.{as_object, get, get_member, later_or}
 use Rattle.json.specs.Value.{value_view, members_view}
 use Rattle.json.specs.declared.value.Value.{Value}
-use Rattle.cedar_json.specs.Words.{Attributes, Common, Expr, Fault, Loc, OfAttribute, OfType, RawName, Text, «Type», TypeOfAttribute, additional_field, annotations_fit, attribute_by, attribute_of, attribute_step, attributes_field, attributes_held, attributes_in, attributes_of, element_field, element_of, flag_or, fold-roll-TypeOfAttribute, has_only, if_so, known_fields, later_field, members_from, plain_members, raw_attribute, raw_expr, raw_record, raw_reference, record_expr, record_step, reference_in, roll-RecordType, roll-TypeOfAttribute, text_cmp, text_held, type_by, type_by_word, type_of, type_step, type_with, variant_step}
+use Rattle.cedar_json.specs.Words.{Attributes, Common, Entity, Expr, Fault, Loc, OfAttribute, OfType, RawName, Text, «Type», TypeOfAttribute, additional_field, annotations_fit, attribute_by, attribute_of, attribute_step, attributes_field, attributes_held, attributes_in, attributes_of, element_field, element_of, flag_or, fold-roll-TypeOfAttribute, has_only, if_so, known_fields, later_field, members_from, plain_members, raw_attribute, raw_expr, raw_record, raw_reference, record_expr, record_of, record_step, reference_in, roll-RecordType, roll-TypeOfAttribute, spelled_name, text_cmp, text_held, type_by, type_by_word, type_of, type_step, type_with, variant_step}
+use Rattle.cedar_names.specs.Words.{named, reference_to}
+use Rattle.cedar_names.specs.declared.json_schema.reference_type.ReferenceType.{ReferenceType}
+use Rattle.cedar_names.specs.declared.json_schema.reference_type.ReferenceType.TheVariants.{CommonOrEntity}
 use Rattle.cedar_names.proofs.ExprLemmas.{record_type_expr-made}
 use Rattle.cedar_json.proofs.MapLemmas.{seen-insert}
 use Rattle.cedar_json.specs.declared.fault.Fault.TheVariants as fault
@@ -163,10 +166,10 @@ module _ (all : List Held) (index : ℕ) (x : Held) (entries : Entries) (here : 
   pub one_more : (key : String Global) (it : TypeOfAttribute RawName) (new : Entries) → attribute_of (value_view x.1) ≡ Some (raw_attribute None it)
       → string_bytes key ≡ x.0.now → new ≡ insert_entry string_cmp entries key it
       → attributes_of (members_view all) [] ≡ attributes_of (members_view (drop (index + 1) all)) (plain_members None new)
-  one_more key it new is_read named grown =
+  one_more key it new is_read keyed grown =
       step ∙ ap put_before is_read
       ∙ ap (λ name. attributes_of (members_view (drop (index + 1) all)) (insert_entry text_cmp (plain_members None entries) name (raw_attribute None it)))
-      (sym named)
+      (sym keyed)
       ∙ ap (attributes_of (members_view (drop (index + 1) all))) (sym (seen-insert string_cmp text_cmp string_bytes (raw_attribute None) (λ a b. refl) entries key it))
       ∙ ap (λ es. attributes_of (members_view (drop (index + 1) all)) (plain_members None es)) (sym grown)
 
@@ -226,6 +229,44 @@ type_by_word-other word element attributes additional name other =
   where
     differs : (known : Text) → (word ≡ known → ⊥) → bytes_eq word known ≡ false
     differs known unless = fails (bytes_eq word known) (bytes_eq-Decides word known) unless
+
+-- a record type of a flag that is none is none
+pub record_of-no_flag : (attributes : Option Attributes) → record_of None attributes ≡ None
+record_of-no_flag None = refl
+record_of-no_flag (Some all) = refl
+
+-- a text refers to what the name refers to that it spells
+pub reference_by-name : (kind : ReferenceType) (text : Option Text)
+    → option_and_then (reference_in kind) text ≡ option_map (λ name. named (reference_to None kind name)) (option_and_then spelled_name text)
+reference_by-name kind None = refl
+reference_by-name kind (Some text) = refl
+
+-- the word `Entity` stands for the entity type that the name refers to
+pub type_by_word-entity : (word : Text) (element : Option Expr) (attributes : Option Attributes) (additional : Option Bool) (name : Option Text)
+    → word ≡ codes "Entity" → type_by_word word element attributes additional name
+    ≡ option_map (λ it. named (reference_to None Entity it)) (option_and_then spelled_name name)
+type_by_word-entity word element attributes additional name is =
+    ap (λ w. type_by_word w element attributes additional name) is ∙ reference_by-name Entity name
+
+-- the word `EntityOrCommon` stands for the type that the name refers to
+pub type_by_word-either : (word : Text) (element : Option Expr) (attributes : Option Attributes) (additional : Option Bool) (name : Option Text)
+    → word ≡ codes "EntityOrCommon" → type_by_word word element attributes additional name
+    ≡ option_map (λ it. named (reference_to None CommonOrEntity it)) (option_and_then spelled_name name)
+type_by_word-either word element attributes additional name is =
+    ap (λ w. type_by_word w element attributes additional name) is ∙ reference_by-name CommonOrEntity name
+
+-- an object without a word describes no type
+pub type_with-no_word : (row : Row) (j : Json) → text_held (codes "type") j ≡ None → type_with row j ≡ None
+type_with-no_word row j none =
+    ap (option_and_then (λ w. if_so (has_only (known_fields row j) j)
+    (type_by_word w (element_field j) (attributes_field j) (additional_field j) (text_held (codes "name") j)))) none
+
+-- nor does one of which not all fields are known
+pub type_with-unknown : (row : Row) (j : Json) (word : Text) → text_held (codes "type") j ≡ Some word → has_only (known_fields row j) j ≡ false
+    → type_with row j ≡ None
+type_with-unknown row j word held other =
+    let by_word : Text → Option Expr = λ w. type_by_word w (element_field j) (attributes_field j) (additional_field j) (text_held (codes "name") j) in
+    ap (option_and_then (λ w. if_so (has_only (known_fields row j) j) (by_word w))) held ∙ ap (λ test. if_so test (by_word word)) other
 
 -- the type that an object of known fields describes is that of its word
 pub type_with-known : (row : Row) (j : Json) (word : Text) → text_held (codes "type") j ≡ Some word → has_only (known_fields row j) j ≡ true

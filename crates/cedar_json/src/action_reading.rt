@@ -42,11 +42,12 @@ fn parent_type_field(
         → optional entity_reference (get (codes "type") (value_view value.now)) ≡ None) }
     ensures place { IfErr result (λ fault. IsTrueOf fault (value_view value.now)) }
 {
-    match written(value, "type") {
+    let field = "type";
+    match written(value, field) {
         None => Ok(None),
-        Some(held) => match read_reference(alloc, held, cursor.field(value, "type")) {
+        Some(held) => match read_reference(alloc, held, cursor.field(value, field)) {
             Ok(name) => Ok(Some(name)),
-            Err(fault) => Err(fault.within("type")),
+            Err(fault) => Err(fault.within(field)),
         },
     }
 }
@@ -124,11 +125,12 @@ fn member_of_field(
         → optional parents_of (get (codes "memberOf") (value_view value.now)) ≡ None) }
     ensures place { IfErr result (λ fault. IsTrueOf fault (value_view value.now)) }
 {
-    match written(value, "memberOf") {
+    let name = "memberOf";
+    match written(value, name) {
         None => Ok(None),
-        Some(held) => match read_parents(alloc, held, cursor.field(value, "memberOf")) {
+        Some(held) => match read_parents(alloc, held, cursor.field(value, name)) {
             Ok(parents) => Ok(Some(parents)),
-            Err(fault) => Err(fault.within("memberOf")),
+            Err(fault) => Err(fault.within(name)),
         },
     }
 }
@@ -189,11 +191,12 @@ fn applies_to_field(
         → optional requests_of (get (codes "appliesTo") (value_view value.now)) ≡ None) }
     ensures place { IfErr result (λ fault. IsTrueOf fault (value_view value.now)) }
 {
-    match written(value, "appliesTo") {
+    let name = "appliesTo";
+    match written(value, name) {
         None => Ok(None),
-        Some(held) => match read_requests(alloc, held, cursor.field(value, "appliesTo")) {
+        Some(held) => match read_requests(alloc, held, cursor.field(value, name)) {
             Ok(it) => Ok(Some(it)),
-            Err(fault) => Err(fault.within("appliesTo")),
+            Err(fault) => Err(fault.within(name)),
         },
     }
 }
@@ -211,11 +214,9 @@ fn read_attribute_members(
 {
     let mut pairs = BTreeMap::new(alloc);
     for (index, member) in members.iter().enumerate() {
+        let name = String::from_str(alloc, member.0)?;
         match read_expr(alloc, &member.1) {
-            Ok(expr) => {
-                let name = String::from_str(alloc, member.0)?;
-                put(&mut pairs, name, CedarValue::new(expr))?;
-            }
+            Ok(expr) => put(&mut pairs, name, CedarValue::new(expr))?,
             Err(fault) => return Err(fault.in_member(index)),
         }
     }
@@ -247,11 +248,12 @@ fn attributes_field(
         → optional pairs_in (get (codes "attributes") (value_view value.now)) ≡ None) }
     ensures place { IfErr result (λ fault. IsTrueOf fault (value_view value.now)) }
 {
-    match written(value, "attributes") {
+    let name = "attributes";
+    match written(value, name) {
         None => Ok(None),
         Some(held) => match read_attributes(alloc, held) {
             Ok(pairs) => Ok(Some(pairs)),
-            Err(fault) => Err(fault.within("attributes")),
+            Err(fault) => Err(fault.within(name)),
         },
     }
 }

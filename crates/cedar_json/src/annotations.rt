@@ -46,14 +46,15 @@ pub(crate) fn check_annotations(alloc: Global, value: &Value<'_>) -> Result<(), 
         (λ _. annotations_fit (get (codes "annotations") (value_view value.now)) ≡ false) }
     ensures place { IfErr result (λ fault. IsTrueOf fault (value_view value.now)) }
 {
-    let Some(held) = value.get("annotations") else {
+    let name = "annotations";
+    let Some(held) = value.get(name) else {
         return Ok(());
     };
     let Some(members) = members_of(held) else {
-        return Err(Fault::here(alloc, FaultKind::Wants(Wanted::Object)).within("annotations"));
+        return Err(Fault::here(alloc, FaultKind::Wants(Wanted::Object)).within(name));
     };
     match check_annotation_members(alloc, members) {
         Ok(()) => Ok(()),
-        Err(fault) => Err(fault.within("annotations")),
+        Err(fault) => Err(fault.within(name)),
     }
 }

@@ -204,13 +204,14 @@ fn common_types_field(
         → field_or [] common_types_in (get (codes "commonTypes") (value_view value.now)) ≡ None) }
     ensures place { IfErr result (λ fault. IsTrueOf fault (value_view value.now)) }
 {
-    if value.get("commonTypes").is_none() {
+    let name = "commonTypes";
+    if value.get(name).is_none() {
         return Ok(BTreeMap::new(alloc));
     }
-    let members = object_field(alloc, value, "commonTypes")?;
-    match read_common_types(alloc, members, cursor.field(value, "commonTypes")) {
+    let members = object_field(alloc, value, name)?;
+    match read_common_types(alloc, members, cursor.field(value, name)) {
         Ok(all) => Ok(all),
-        Err(fault) => Err(fault.within("commonTypes")),
+        Err(fault) => Err(fault.within(name)),
     }
 }
 
@@ -228,10 +229,11 @@ fn entity_types_field(
         ≡ None) }
     ensures place { IfErr result (λ fault. IsTrueOf fault (value_view value.now)) }
 {
-    let members = object_field(alloc, value, "entityTypes")?;
-    match read_entity_types(alloc, members, cursor.field(value, "entityTypes")) {
+    let name = "entityTypes";
+    let members = object_field(alloc, value, name)?;
+    match read_entity_types(alloc, members, cursor.field(value, name)) {
         Ok(all) => Ok(all),
-        Err(fault) => Err(fault.within("entityTypes")),
+        Err(fault) => Err(fault.within(name)),
     }
 }
 
@@ -248,10 +250,11 @@ fn actions_field(
         → option_and_then actions_in (get (codes "actions") (value_view value.now)) ≡ None) }
     ensures place { IfErr result (λ fault. IsTrueOf fault (value_view value.now)) }
 {
-    let members = object_field(alloc, value, "actions")?;
-    match read_actions(alloc, members, cursor.field(value, "actions")) {
+    let name = "actions";
+    let members = object_field(alloc, value, name)?;
+    match read_actions(alloc, members, cursor.field(value, name)) {
         Ok(all) => Ok(all),
-        Err(fault) => Err(fault.within("actions")),
+        Err(fault) => Err(fault.within(name)),
     }
 }
 

@@ -124,11 +124,12 @@ fn parents_field(
         → parents_in (get (codes "memberOfTypes") (value_view value.now)) ≡ None) }
     ensures place { IfErr result (λ fault. IsTrueOf fault (value_view value.now)) }
 {
-    match value.get("memberOfTypes") {
+    let name = "memberOfTypes";
+    match value.get(name) {
         None => Ok(Vec::new(alloc)),
-        Some(held) => match read_references(alloc, held, cursor.field(value, "memberOfTypes")) {
+        Some(held) => match read_references(alloc, held, cursor.field(value, name)) {
             Ok(names) => Ok(names),
-            Err(fault) => Err(fault.within("memberOfTypes")),
+            Err(fault) => Err(fault.within(name)),
         },
     }
 }
@@ -181,11 +182,12 @@ fn tags_field(
         ≡ None) }
     ensures place { IfErr result (λ fault. IsTrueOf fault (value_view value.now)) }
 {
-    match value.get("tags") {
+    let name = "tags";
+    match value.get(name) {
         None => Ok(None),
-        Some(held) => match read_type(alloc, held, cursor.field(value, "tags")) {
+        Some(held) => match read_type(alloc, held, cursor.field(value, name)) {
             Ok(ty) => Ok(Some(ty)),
-            Err(fault) => Err(fault.within("tags")),
+            Err(fault) => Err(fault.within(name)),
         },
     }
 }

@@ -25,10 +25,11 @@ fn name_field(alloc: Global, value: &Value<'_>, cursor: Cursor<'_>) -> Result<Ra
         → option_and_then spelled_name (text_held (codes "name") (value_view value.now)) ≡ None) }
     ensures place { IfErr result (λ fault. IsTrueOf fault (value_view value.now)) }
 {
-    let text = text_field(alloc, value, "name")?;
-    match read_name(alloc, text, cursor.field(value, "name").loc()) {
+    let field = "name";
+    let text = text_field(alloc, value, field)?;
+    match read_name(alloc, text, cursor.field(value, field).loc()) {
         Ok(name) => Ok(name),
-        Err(fault) => Err(fault.within("name")),
+        Err(fault) => Err(fault.within(field)),
     }
 }
 
@@ -52,10 +53,11 @@ fn extension_type(
         → option_and_then extension_in (text_held (codes "name") (value_view value.now)) ≡ None) }
     ensures place { IfErr result (λ fault. IsTrueOf fault (value_view value.now)) }
 {
-    let text = text_field(alloc, value, "name")?;
+    let field = "name";
+    let text = text_field(alloc, value, field)?;
     match read_unreserved_id(alloc, text) {
         Ok(name) => Ok(plain_type(TypeVariant::Extension { name }, cursor.loc())),
-        Err(fault) => Err(fault.within("name")),
+        Err(fault) => Err(fault.within(field)),
     }
 }
 
@@ -164,13 +166,14 @@ fn read_set(alloc: Global, value: &Value<'_>, cursor: Cursor<'_>) -> Result<Type
         → option_map set_expr (element_field (value_view value.now)) ≡ None) }
     ensures place { IfErr result (λ fault. IsTrueOf fault (value_view value.now)) }
 {
-    let held = field(alloc, value, "element")?;
-    match read_type_of(alloc, held, Row::OfType, cursor.field(value, "element")) {
+    let name = "element";
+    let held = field(alloc, value, name)?;
+    match read_type_of(alloc, held, Row::OfType, cursor.field(value, name)) {
         Ok(ty) => {
             let element = Box::new(alloc, ty)?;
             Ok(plain_type(TypeVariant::Set { element }, cursor.loc()))
         }
-        Err(fault) => Err(fault.within("element")),
+        Err(fault) => Err(fault.within(name)),
     }
 }
 
@@ -187,8 +190,9 @@ fn read_record(alloc: Global, value: &Value<'_>, cursor: Cursor<'_>) -> Result<T
     ensures place { IfErr result (λ fault. IsTrueOf fault (value_view value.now)) }
 {
     let additional_attributes = flag_field(alloc, value, "additionalAttributes", false)?;
-    let members = object_field(alloc, value, "attributes")?;
-    match read_attributes(alloc, members, cursor.field(value, "attributes")) {
+    let name = "attributes";
+    let members = object_field(alloc, value, name)?;
+    match read_attributes(alloc, members, cursor.field(value, name)) {
         Ok(attributes) => {
             let record = RecordType {
                 attributes,
@@ -196,7 +200,7 @@ fn read_record(alloc: Global, value: &Value<'_>, cursor: Cursor<'_>) -> Result<T
             };
             Ok(plain_type(TypeVariant::Record(record), cursor.loc()))
         }
-        Err(fault) => Err(fault.within("attributes")),
+        Err(fault) => Err(fault.within(name)),
     }
 }
 
@@ -217,12 +221,9 @@ fn read_attributes(
     let mut attributes = BTreeMap::new(alloc);
     let mut at = cursor.first();
     for (index, member) in members.iter().enumerate() {
+        let name = String::from_str(alloc, member.0)?;
         match read_attribute(alloc, &member.1, at) {
-            Ok(attribute) => put(
-                &mut attributes,
-                String::from_str(alloc, member.0)?,
-                attribute,
-            )?,
+            Ok(attribute) => put(&mut attributes, name, attribute)?,
             Err(fault) => return Err(fault.in_member(index)),
         }
         at = at.next();

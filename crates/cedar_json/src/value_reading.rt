@@ -123,16 +123,18 @@ fn read_object<'a>(
     ensures place { IfErr result
         (λ fault. IsTrueOf fault (object (members_view members.now.items))) }
 {
-    if let Some(held) = sole(members, "__entity") {
+    let entity = "__entity";
+    if let Some(held) = sole(members, entity) {
         return match read_uid(alloc, held) {
             Ok(uid) => Ok(RestrictedExpr::EntityUid(uid)),
-            Err(fault) => Err(fault.within("__entity")),
+            Err(fault) => Err(fault.within(entity)),
         };
     }
-    if let Some(held) = sole(members, "__extn") {
+    let extension = "__extn";
+    if let Some(held) = sole(members, extension) {
         return match read_call(alloc, held) {
             Ok(call) => Ok(call),
-            Err(fault) => Err(fault.within("__extn")),
+            Err(fault) => Err(fault.within(extension)),
         };
     }
     Ok(RestrictedExpr::Record(read_pairs(alloc, members)?))
@@ -171,8 +173,9 @@ fn read_pairs<'a>(
 {
     let mut pairs = BTreeMap::new(alloc);
     for (index, member) in members.iter().enumerate() {
+        let name = String::from_str(alloc, member.0)?;
         match read_expr(alloc, &member.1) {
-            Ok(expr) => put(&mut pairs, String::from_str(alloc, member.0)?, expr)?,
+            Ok(expr) => put(&mut pairs, name, expr)?,
             Err(fault) => return Err(fault.in_member(index)),
         }
     }

@@ -29,8 +29,8 @@ loop-index-preserved c =
     let all = c.args.members.now.items in
     let here = members_from_index c.deref-member-items.result.now all c.loop-index.index x c.deref-member-items.ensures.value c.loop-index-test.true
     c.member-item.is in
-    pair_more tree_in all c.loop-index.index x c.loop-index.pairs.entries here c.loop-index.invariant c.in_ok-name-in-Ok.name c.new.result
-    c.put.new.map.entries (tree_made _ c.new.result c.in-Ok.expr c.in-Ok.ensures.value c.new.ensures) c.in_ok-name-in-Ok.ensures.ok (search rules)
+    pair_more tree_in all c.loop-index.index x c.loop-index.pairs.entries here c.loop-index.invariant c.in_ok-name.name c.new.result
+    c.put.new.map.entries (tree_made _ c.new.result c.in-Ok.expr c.in-Ok.ensures.value c.new.ensures) c.in_ok-name.ensures.ok (search rules)
 
 pub returns-clause-value : goal.returns-clause-value
 returns-clause-value c =

@@ -1,14 +1,16 @@
-use Rattle.std.proofs.Common.{◌+◌, ◌*◌, ◌<◌, length, Some, None, option_map, codes, ap, sym, subst, ◌∙◌, arith, rules}
+use Rattle.std.proofs.Common.{◌+◌, ◌*◌, ◌<◌, length, Some, None, option_and_then, option_map, codes, ap, sym, subst, ◌∙◌, arith, rules}
 use Rattle.std.proofs.lemmas.Result.{IfErr-weaker, err_from_is_err_and}
 use Rattle.json.proofs.Trees.{member_smaller}
 use Rattle.json.specs.Find.{get}
 use Rattle.json.specs.Json.{object}
 use Rattle.json.specs.Tree.{json_tokens, members_tokens}
 use Rattle.json.specs.Value.{value_view, members_view}
-use Rattle.cedar_names.proofs.VariantLemmas.{variant-Boolean, variant-Long, variant-Record, variant-Set, variant-String}
-use Rattle.cedar_json.specs.Words.{RawName, additional_field, attributes_field, element_field, members_from, plain_members, raw_expr, raw_reference, record_expr, record_of, roll-RecordType, set_expr, text_held, type_by_word}
+use Rattle.cedar_names.proofs.VariantLemmas.{variant-Boolean, variant-Entity, variant-EntityOrCommon, variant-Long, variant-Record, variant-Set, variant-String}
+use Rattle.cedar_names.specs.Words.{named, reference_to}
+use Rattle.cedar_names.specs.declared.json_schema.reference_type.ReferenceType.TheVariants.{CommonOrEntity}
+use Rattle.cedar_json.specs.Words.{Entity, RawName, additional_field, attributes_field, element_field, members_from, plain_members, raw_expr, raw_reference, record_expr, record_of, roll-RecordType, set_expr, text_held, type_by_word, type_of}
 use Rattle.cedar_json.proofs.FieldLemmas.{get-smaller, nth_member-is, object_field-smaller, object_held}
-use Rattle.cedar_json.proofs.TypeLemmas.{all_read, attribute_read, attributes_field-held, attributes_field-none, described_too, element_field-held, members_from_index, no_annotations, no_attribute, no_required, no_type, one_more, raw_attribute-made, raw_record-made, type_by_word-other, type_with-known}
+use Rattle.cedar_json.proofs.TypeLemmas.{all_read, attribute_read, attributes_field-held, attributes_field-none, described_too, element_field-held, members_from_index, no_annotations, no_attribute, no_required, no_type, one_more, raw_attribute-made, raw_record-made, record_of-no_flag, type_by_word-either, type_by_word-entity, type_by_word-other, type_with-known, type_with-no_word, type_with-unknown}
 use Rattle.cedar_json.proofs.type_reading.+type_reading.Goals as goal
 
 -- a value describes no attribute where its field `required` is no flag
@@ -72,8 +74,8 @@ read_attributes-loop-index-preserved t c =
     let all = c.args.members.now.items in
     let here = members_from_index c.deref-member-items.result.now all c.loop-index.index x c.deref-member-items.ensures.value c.loop-index-test.true
     c.member-item.is in
-    one_more all c.loop-index.index x c.loop-index.attributes.entries here c.loop-index.invariant c.in_ok-from_str-in-Ok.field-0 c.in-Ok.attribute
-    c.put.new.map.entries c.in-Ok.ensures.value c.in_ok-from_str-in-Ok.ensures.ok (search rules)
+    one_more all c.loop-index.index x c.loop-index.attributes.entries here c.loop-index.invariant c.in_ok-name.name c.in-Ok.attribute
+    c.put.new.map.entries c.in-Ok.ensures.value c.in_ok-name.ensures.ok (search rules)
 
 -- where no member is left, all attributes were read
 pub read_attributes-returns-clause-value : goal.read_attributes-returns-clause-value
@@ -103,6 +105,25 @@ pub read_set-returns-in-Err-clause-value : goal.read_set-returns-in-Err-clause-v
 read_set-returns-in-Err-clause-value t c =
     λ other. ap (option_map set_expr) (element_field-held (value_view c.args.value.now) (value_view c.in_ok-held.held.now) c.in_ok-held.ensures.value
     ∙ c.in-Err.ensures.value (c.within.ensures.memory other))
+
+-- there is no type of such sets where there is no field `element`
+pub read_set-returns-in_err-held-clause-value : goal.read_set-returns-in_err-held-clause-value
+read_set-returns-in_err-held-clause-value t c =
+    let p = err_from_is_err_and c.from_residual.result c.from_residual.ensures.1 in
+    rw (p.1, p.2) (λ other. ap (λ o. option_map set_expr (option_and_then type_of o)) c.in_err-held.ensures.value)
+
+-- a value describes no type where its field `type` holds no text
+pub read_type_of-returns-in_err-word-clause-value : goal.read_type_of-returns-in_err-word-clause-value
+read_type_of-returns-in_err-word-clause-value t c =
+    let p = err_from_is_err_and c.from_residual.result c.from_residual.ensures.1 in
+    rw (p.1, p.2) (λ other. type_with-no_word c.args.row (value_view c.args.value.now) c.in_err-word.ensures.value)
+
+-- a value describes no type where not all of its fields are known
+pub read_type_of-returns-in_err-check_fields-clause-value : goal.read_type_of-returns-in_err-check_fields-clause-value
+read_type_of-returns-in_err-check_fields-clause-value t c =
+    let p = err_from_is_err_and c.from_residual-in_err-check_fields.result c.from_residual-in_err-check_fields.ensures.1 in
+    rw (p.1, p.2) (λ other. type_with-unknown c.args.row (value_view c.args.value.now) c.in_ok-word.word.now c.in_ok-word.ensures.value
+    c.in_err-check_fields.ensures.value)
 
 -- where all fields are known, the type is that of the word in the field `type`
 pub read_type_of-returns-clause-value : goal.read_type_of-returns-clause-value
@@ -151,6 +172,38 @@ read_type_by-returns-in-Record-clause-value t c =
     let named = ap (λ word. type_by_word word (element_field j) (attributes_field j) (additional_field j) (text_held (codes "name") j)) c.in-Record.is in
     described_too c.read_record.result (raw_expr None) _ _ named c.read_record.ensures.value
 
+-- the word `Entity` stands for the entity type that the field `name` refers to
+pub read_type_by-returns-in_ok-name-in-Entity-clause-value : goal.read_type_by-returns-in_ok-name-in-Entity-clause-value
+read_type_by-returns-in_ok-name-in-Entity-clause-value t c =
+    let j = value_view c.args.value.now in
+    type_by_word-entity c.args.word.now (element_field j) (attributes_field j) (additional_field j) (text_held (codes "name") j) c.in-Entity.is
+    ∙ ap (option_map (λ it. named (reference_to None Entity it))) c.in_ok-name-in-Entity.ensures.value
+    ∙ ap Some (sym (c.plain_type-in-Entity.ensures ∙ variant-Entity RawName (raw_reference None) c.in_ok-name-in-Entity.name))
+
+-- it stands for no type where the field `name` spells no name
+pub read_type_by-returns-in_err-name-in-Entity-clause-value : goal.read_type_by-returns-in_err-name-in-Entity-clause-value
+read_type_by-returns-in_err-name-in-Entity-clause-value t c =
+    let j = value_view c.args.value.now in
+    let p = err_from_is_err_and c.from_residual.result c.from_residual.ensures.1 in
+    rw (p.1, p.2) (λ other. type_by_word-entity c.args.word.now (element_field j) (attributes_field j) (additional_field j) (text_held (codes "name") j) c.in-Entity.is
+    ∙ ap (option_map (λ it. named (reference_to None Entity it))) (c.in_err-name-in-Entity.ensures.value other))
+
+-- the word `EntityOrCommon` stands for the type that the field `name` refers to
+pub read_type_by-returns-in_ok-type_name-in-EntityOrCommon-clause-value : goal.read_type_by-returns-in_ok-type_name-in-EntityOrCommon-clause-value
+read_type_by-returns-in_ok-type_name-in-EntityOrCommon-clause-value t c =
+    let j = value_view c.args.value.now in
+    type_by_word-either c.args.word.now (element_field j) (attributes_field j) (additional_field j) (text_held (codes "name") j) c.in-EntityOrCommon.is
+    ∙ ap (option_map (λ it. named (reference_to None CommonOrEntity it))) c.in_ok-type_name-in-EntityOrCommon.ensures.value
+    ∙ ap Some (sym (c.plain_type-in-EntityOrCommon.ensures ∙ variant-EntityOrCommon RawName (raw_reference None) c.in_ok-type_name-in-EntityOrCommon.type_name))
+
+-- it stands for no type where the field `name` spells no name
+pub read_type_by-returns-in_err-type_name-in-EntityOrCommon-clause-value : goal.read_type_by-returns-in_err-type_name-in-EntityOrCommon-clause-value
+read_type_by-returns-in_err-type_name-in-EntityOrCommon-clause-value t c =
+    let j = value_view c.args.value.now in
+    let p = err_from_is_err_and c.from_residual-in_err-type_name-in-EntityOrCommon.result c.from_residual-in_err-type_name-in-EntityOrCommon.ensures.1 in
+    rw (p.1, p.2) (λ other. type_by_word-either c.args.word.now (element_field j) (attributes_field j) (additional_field j) (text_held (codes "name") j) c.in-EntityOrCommon.is
+    ∙ ap (option_map (λ it. named (reference_to None CommonOrEntity it))) (c.in_err-type_name-in-EntityOrCommon.ensures.value other))
+
 -- the word `Extension` stands for the extension type that the field `name` tells
 pub read_type_by-returns-in-Extension-clause-value : goal.read_type_by-returns-in-Extension-clause-value
 read_type_by-returns-in-Extension-clause-value t c =
@@ -173,6 +226,14 @@ read_type_by-returns-in_default-clause-value t c =
       no_extension = c.in_default.not-Extension;
     }) in
     described_too c.common_type.result (raw_expr None) _ _ other c.common_type.ensures.value
+
+-- a value describes no record type where its field `additionalAttributes` is no flag
+pub read_record-returns-in_err-additional_attributes-clause-value : goal.read_record-returns-in_err-additional_attributes-clause-value
+read_record-returns-in_err-additional_attributes-clause-value t c =
+    let j = value_view c.args.value.now in
+    let p = err_from_is_err_and c.from_residual.result c.from_residual.ensures.1 in
+    rw (p.1, p.2) (λ other. ap (λ flag. record_of flag (attributes_field j)) c.in_err-additional_attributes.ensures.value
+    ∙ record_of-no_flag (attributes_field j))
 
 -- a value describes no record type where its field `attributes` holds no object
 pub read_record-returns-in_err-members-clause-value : goal.read_record-returns-in_err-members-clause-value

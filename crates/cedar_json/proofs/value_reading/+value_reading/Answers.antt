@@ -169,8 +169,8 @@ read_pairs-loop-index-preserved t c =
     let all = c.args.members.now.items in
     let here = members_from_index c.deref-member-items.result.now all c.loop-index.index x c.deref-member-items.ensures.value c.loop-index-test.true
     c.member-item.is in
-    pair_more tree_of all c.loop-index.index x c.loop-index.pairs.entries here c.loop-index.invariant c.in_ok-from_str-in-Ok.field-0 c.in-Ok.expr
-    c.put.new.map.entries c.in-Ok.ensures.value c.in_ok-from_str-in-Ok.ensures.ok (search rules)
+    pair_more tree_of all c.loop-index.index x c.loop-index.pairs.entries here c.loop-index.invariant c.in_ok-name.name c.in-Ok.expr
+    c.put.new.map.entries c.in-Ok.ensures.value c.in_ok-name.ensures.ok (search rules)
 
 -- where no member is left, all values were read
 pub read_pairs-returns-clause-value : goal.read_pairs-returns-clause-value
