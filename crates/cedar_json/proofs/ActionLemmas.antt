@@ -1,10 +1,10 @@
 -- Fields of actions that may be null, and the values of attributes.
-use Rattle.std.proofs.Common.{◌≡◌, List, Bool, true, false, Option, Some, None, option_and_then, option_map, refl, codes, ap, sym, ◌∙◌}
+use Rattle.std.proofs.Common.{◌≡◌, List, Bool, true, false, Option, Some, None, refl, codes, ap, sym, ◌∙◌}
 use Rattle.json.specs.Find.{get}
 use Rattle.json.specs.Json.{Json, null, boolean, number, string, array, object}
-use Rattle.cedar_names.specs.Words.{Expr, Reference, Requests, requests}
-use Rattle.cedar_json.specs.Words.{Pairs, RestrictedExpr, Tree, WrittenAction, WrittenParent, action_by, action_of, annotations_fit, flag_or, has_only, if_so, known_fields, optional, pairs_in, parents_of, references_in, requests_by, requests_of, shape_in, tree_of, unless_null, value_expr}
-use Rattle.cedar_json.specs.declared.fault.Row.TheVariants.{OfAction, OfAppliesTo}
+use Rattle.cedar_names.specs.Words.{Requests}
+use Rattle.cedar_json.specs.Words.{Pairs, RestrictedExpr, Tree, WrittenAction, WrittenParent, action_by, action_of, annotations_fit, flag_or, has_only, if_so, known_fields, optional, pairs_in, parents_of, requests_of, tree_of, unless_null, value_expr}
+use Rattle.cedar_json.specs.declared.fault.Row.TheVariants.{OfAction}
 use Rattle.cedar_below.specs.declared.value.Value.{Value as CedarValue}
 
 -- what a field holds that isn't null
@@ -107,40 +107,3 @@ module _ (j : Json) where
           ∙ ap (λ r. action_by (Some it.attributes) r member_of external) has_requests
           ∙ ap (λ m. action_by (Some it.attributes) (Some it.applies_to) m external) has_parents
           ∙ ap (action_by (Some it.attributes) (Some it.applies_to) (Some it.member_of)) has_flag
-
--- requests by their fields
-module _ (j : Json) where
-  abbrev asked_known : Bool
-  asked_known = has_only (known_fields OfAppliesTo j) j
-
-  abbrev principals : Option (List Reference)
-  principals = option_and_then references_in (get (codes "principalTypes") j)
-
-  abbrev resources : Option (List Reference)
-  resources = option_and_then references_in (get (codes "resourceTypes") j)
-
-  abbrev context : Option Expr
-  context = shape_in (get (codes "context") j)
-
-  pub requests-unknown : asked_known ≡ false → requests_of j ≡ None
-  requests-unknown e = ap (λ test. if_so test (requests_by principals resources context)) e
-
-  -- where all fields are known
-  module _ (is_known : asked_known ≡ true) where
-    by_types : requests_of j ≡ requests_by principals resources context
-    by_types = ap (λ test. if_so test (requests_by principals resources context)) is_known
-
-    pub requests-no_principals : principals ≡ None → requests_of j ≡ None
-    requests-no_principals e = by_types ∙ ap (λ o. requests_by o resources context) e
-
-    -- and principals are listed
-    module _ (p : List Reference) (has_principals : principals ≡ Some p) where
-      pub requests-no_resources : resources ≡ None → requests_of j ≡ None
-      requests-no_resources e =
-          by_types ∙ ap (λ o. requests_by o resources context) has_principals ∙ ap (λ o. requests_by (Some p) o context) e
-
-      -- the requests are those of the resources and the context, if there is one
-      pub requests-read : (r : List Reference) (o : Option Expr) → resources ≡ Some r → context ≡ o → requests_of j ≡ option_map (requests p r) o
-      requests-read r o has_resources has_context =
-          by_types ∙ ap (λ ps. requests_by ps resources context) has_principals
-          ∙ ap (λ rs. requests_by (Some p) rs context) has_resources ∙ ap (requests_by (Some p) (Some r)) has_context
