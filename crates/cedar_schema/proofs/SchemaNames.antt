@@ -24,6 +24,18 @@ Types = List (EntityType × ValidatorEntityType)
 abbrev Actions : Type 0
 Actions = List (EntityUID × ValidatorActionId)
 
+-- names of entity types that are keys in order are sorted
+pub names_of_types_sorted : (types : Types) → IsStrictlySortedBy ((entity_type_ord.ghosts).cmp) (keys_of types)
+    → IsStrictlySortedBy name_cmp (map type_name (keys_of types))
+names_of_types_sorted types =
+    IsStrictlySortedBy-map ((entity_type_ord.ghosts).cmp) name_cmp type_name entity_type_ord-name_cmp (keys_of types)
+
+-- uids of actions that are keys in order are sorted
+pub uids_of_actions_sorted : (actions : Actions) → IsStrictlySortedBy ((entity_uid_ord.ghosts).cmp) (keys_of actions)
+    → IsStrictlySortedBy uid_cmp (map uid_of (keys_of actions))
+uids_of_actions_sorted actions =
+    IsStrictlySortedBy-map ((entity_uid_ord.ghosts).cmp) uid_cmp uid_of entity_uid_ord-uid_cmp (keys_of actions)
+
 -- what is held by maps whose keys are sorted without duplicates is in order
 pub schema_in_order : (types : Types) (actions : Actions) (entities : List Entity)
     → IsStrictlySortedBy ((entity_type_ord.ghosts).cmp) (keys_of types)
@@ -32,10 +44,10 @@ pub schema_in_order : (types : Types) (actions : Actions) (entities : List Entit
 schema_in_order types actions entities names uids = record {
   entity_types =
       subst (IsStrictlySortedBy name_cmp) (sym (names_of_keys type_name plain_entry (λ e. refl) types))
-      (IsStrictlySortedBy-map ((entity_type_ord.ghosts).cmp) name_cmp type_name entity_type_ord-name_cmp (keys_of types) names);
+      (names_of_types_sorted types names);
   actions =
       subst (IsStrictlySortedBy uid_cmp) (sym (names_of_keys uid_of plain_action_entry (λ e. refl) actions))
-      (IsStrictlySortedBy-map ((entity_uid_ord.ghosts).cmp) uid_cmp uid_of entity_uid_ord-uid_cmp (keys_of actions) uids);
+      (uids_of_actions_sorted actions uids);
 }
 
 -- every schema is in order

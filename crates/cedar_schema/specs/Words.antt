@@ -1,5 +1,5 @@
 -- The words of clauses, from one place.
-pub use Rattle.cedar_below.specs.Words.{HoldsPairwise, Included, IsActionType, IsReserved, PlainName, PlainUid, SameItems, Text, TypeNamesFit, entities_of, extension_types, name_cmp, name_loc, name_of, name_text, plain_name, primitive_words, reserved_word, type_loc, type_name, uid_cmp, uid_loc, uid_of, uid_type_loc}
+pub use Rattle.cedar_below.specs.Words.{HoldsOfAll, HoldsPairwise, Included, IsActionType, IsReserved, PlainName, PlainUid, SameItems, Text, TypeNamesFit, entities_of, extension_types, name_cmp, name_loc, name_of, name_text, plain_name, primitive_words, reserved_word, type_loc, type_name, uid_cmp, uid_loc, uid_of, uid_type_loc}
 pub use Rattle.cedar_below.specs.declared.entity.Entity.{Entity}
 pub use Rattle.cedar_below.specs.declared.entity_type.EntityType.{EntityType}
 pub use Rattle.cedar_below.specs.declared.entity_uid.EntityUID.{EntityUID}

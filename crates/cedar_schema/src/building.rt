@@ -1,10 +1,8 @@
 //! The steps of the builder, one after another.
 
-ghost use Rattle.std.specs.Prelude.{◌≡◌, ◌⊎◌, IfErr, IfOk, OnOk, map};
-ghost use Rattle.std.specs.List.Sorted.{IsStrictlySortedBy};
-ghost use Rattle.std.specs.Map.{keys_of};
+ghost use Rattle.std.specs.Prelude.{◌≡◌, ◌⊎◌, IfErr, IfOk, OnOk};
 ghost use Rattle.std.specs.Result.{result_map_both};
-ghost use Rattle.cedar_schema.specs.Words.{AreKeysLocated, IsBuiltFrom, IsDeclaredSchema, IsFault, IsIllFormed, IsResolvedOver, ShowsFragments, TypeNamesFit, collected_common, conditional_bag, extension_types, fault_of, held_names, name_cmp, out_of_memory, parts_schema, resolved_bag, type_name, uid_cmp, uid_of};
+ghost use Rattle.cedar_schema.specs.Words.{AreKeysLocated, IsBuiltFrom, IsDeclaredSchema, IsFault, IsIllFormed, IsResolvedOver, ShowsFragments, TypeNamesFit, collected_common, conditional_bag, extension_types, fault_of, held_names, out_of_memory, parts_schema, resolved_bag};
 
 use crate::collecting::{Located, located_in};
 use crate::shared::Shared;
@@ -32,20 +30,6 @@ pub(crate) struct SchemaParts {
     pub(crate) action_entities: Entities,
     /// The common types and namespaces of the fragments, with where these were written.
     pub(crate) located: Shared<Located>,
-}
-
-/// That the names of entity types are sorted in their table.
-fn names_sorted(types: &Table<EntityType, ValidatorEntityType>)
-    ensures { IsStrictlySortedBy name_cmp (map type_name (keys_of types.now.entries)) }
-{
-    let _keys = types.keys();
-}
-
-/// That the uids of actions are sorted in their table.
-fn uids_ascend(actions: &Table<EntityUID, ValidatorActionId>)
-    ensures { IsStrictlySortedBy uid_cmp (map uid_of (keys_of actions.now.entries)) }
-{
-    let _keys = actions.keys();
 }
 
 /// What fragments over full names declare, where the names of entity types are these, and so are
@@ -90,8 +74,8 @@ fn build_resolved(
     let entity_types = entity_types(alloc, declared, &known)?;
     let actions = actions(alloc, declared_actions, &entity_types, &known)?;
     let action_entities = action_entities(alloc, &actions)?;
-    names_sorted(&entity_types);
-    uids_ascend(&actions);
+    entity_types.keys_ascend();
+    actions.keys_ascend();
     Ok(SchemaParts {
         entity_types,
         actions,

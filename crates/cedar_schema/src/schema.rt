@@ -122,13 +122,11 @@ impl Content {
 
 impl ValidatorSchema {
     ghost use Rattle.std.specs.Prelude.{◌≡◌, ◌⊎◌, List, [], ◌∷◌, IfErr, IfOk, OnOk, None};
-    ghost use Rattle.std.specs.Iterator.{Drains, IsFinite};
+    ghost use Rattle.std.specs.Iterator.{IsFiniteIterable};
     ghost use Rattle.std.specs.Result.{result_map_both};
-    ghost use Rattle.cedar_schema_elements.specs.declared.action_id.ValidatorActionId.{ValidatorActionId as ActionOfSchema};
-    ghost use Rattle.cedar_schema.specs.Words.{AreKeysLocated, ClosesSchema, HoldsPairwise, IsActionCopied, IsBuiltFrom, IsSchemaFault, IsTypeCopied, IsValidSchema, NamesAllOfADefinition, NamesAllWithAttributes, SameSchema, Shows, ShowsFragments, ShowsWritten, TypeNamesFit, action_entries, action_of_uid, common_entries, conditional_bag, entity_type_named, extension_types, fault_of, last_named, last_of_uid, located_of, namespace_entries, out_of_memory, parts_schema, raw_bag, raw_declarations, raw_fragment, schema_entries, schema_of, shown_common_type, shown_entry, type_name, uid_of, written_common_names};
+    ghost use Rattle.cedar_schema.specs.Words.{AreKeysLocated, ClosesSchema, HoldsOfAll, HoldsPairwise, IsActionCopied, IsBuiltFrom, IsSchemaFault, IsTypeCopied, IsValidSchema, NamesAllOfADefinition, NamesAllWithAttributes, SameSchema, Shows, ShowsFragments, ShowsWritten, TypeNamesFit, action_entries, action_of_uid, common_entries, conditional_bag, entity_type_named, extension_types, fault_of, last_named, last_of_uid, located_of, namespace_entries, out_of_memory, parts_schema, raw_bag, raw_declarations, raw_fragment, schema_entries, schema_of, shown_common_type, shown_entry, type_name, uid_of, written_common_names};
     ghost use Rattle.cedar_below.specs.declared.entity_type.EntityType.{EntityType as Name};
     ghost use Rattle.cedar_below.specs.declared.entity_uid.EntityUID.{EntityUID as Uid};
-    ghost use Rattle.cedar_schema_elements.specs.declared.entity_type.ValidatorEntityType.{ValidatorEntityType as EntityTypeOfSchema};
 
     /// The schema that declares nothing.
     pub fn empty(alloc: Global) -> Self
@@ -137,13 +135,10 @@ impl ValidatorSchema {
         ensures common_types { common_entries (located_of result) ≡ [] }
         ensures namespaces { namespace_entries (located_of result) ≡ [] }
     {
-        let action_entities = Entities::new(alloc);
-        // That no entities are in order is known from their iterator.
-        let _in_order = action_entities.iter();
         let content = Content {
             entity_types: Table::new(alloc),
             action_ids: Table::new(alloc),
-            action_entities,
+            action_entities: Entities::new(alloc),
             environments: Vec::new(alloc),
         };
         ValidatorSchema {
@@ -177,9 +172,8 @@ impl ValidatorSchema {
             located,
         } = parts;
         let environments = environments(alloc, &actions)?;
-        // That names and uids are in order is known from their iterators.
-        let _names = entity_types.keys();
-        let _uids = actions.keys();
+        entity_types.keys_ascend();
+        actions.keys_ascend();
         let content = Content {
             entity_types,
             action_ids: actions,
@@ -377,18 +371,18 @@ impl ValidatorSchema {
         T: IntoIterator<Item = ValidatorEntityType>,
         A: IntoIterator<Item = ValidatorActionId> + Drop,
     >(alloc: Global, entity_types: T, actions: A) -> M<Self>
-        requires entity_types { (it : T.IntoIter) → T.into_iter_gives entity_types it
-            → T.IntoIter.can_next it × IsFinite (T.IntoIter.remaining it) }
-        requires actions { (it : A.IntoIter) → A.into_iter_gives actions it
-            → A.IntoIter.can_next it × IsFinite (A.IntoIter.remaining it) }
+        requires entity_types { IsFiniteIterable T.into_iter_gives T.IntoIter.can_next
+            T.IntoIter.remaining entity_types }
+        requires actions { IsFiniteIterable A.into_iter_gives A.IntoIter.can_next
+            A.IntoIter.remaining actions }
         ensures entity_types { IfOk result (λ schema.
-            (it : T.IntoIter) × (xs : List EntityTypeOfSchema)
-            × T.into_iter_gives entity_types it × Drains T.IntoIter.next_gives it xs
-            × ((name : Name) → entity_type_named schema (type_name name)
+            HoldsOfAll T.into_iter_gives T.IntoIter.next_gives entity_types
+            (λ xs. (name : Name) → entity_type_named schema (type_name name)
             ≡ last_named (type_name name) xs)) }
-        ensures actions { IfOk result (λ schema. (it : A.IntoIter) × (xs : List ActionOfSchema)
-            × A.into_iter_gives actions it × Drains A.IntoIter.next_gives it xs
-            × ((uid : Uid) → action_of_uid schema (uid_of uid) ≡ last_of_uid (uid_of uid) xs)) }
+        ensures actions { IfOk result (λ schema.
+            HoldsOfAll A.into_iter_gives A.IntoIter.next_gives actions
+            (λ xs. (uid : Uid) → action_of_uid schema (uid_of uid)
+            ≡ last_of_uid (uid_of uid) xs)) }
         ensures common_types { IfOk result (λ schema. common_entries (located_of schema) ≡ []) }
         ensures namespaces { IfOk result (λ schema. namespace_entries (located_of schema) ≡ []) }
         ensures keys { IfOk result (λ schema.

@@ -4,6 +4,7 @@ use Rattle.std.proofs.lemmas.Result.{err_from_is_err_and}
 use Rattle.cedar_fragments.proofs.SoundFragments.{fragments_have_no_fault}
 use Rattle.cedar_schema.proofs.DeclaredParts.{declared_parts}
 use Rattle.cedar_schema.proofs.ReadySteps.{actions_of, ready, types_of}
+use Rattle.cedar_schema.proofs.SchemaNames.{names_of_types_sorted, uids_of_actions_sorted}
 use Rattle.cedar_schema.proofs.SurePieces.{pieces_well}
 use Rattle.cedar_schema.proofs.building.build_resolved.Goals as goal
 use Rattle.cedar_schema.proofs.building.build_resolved.Goals.{After-entity_type_names-names}
@@ -115,6 +116,8 @@ returns-clause-declared c over =
     let built = c.in_ok-entity_types.ensures.declared bag given (ready_here here over _ refl refl written sound) in
     let acting = acting_here here over _ refl refl written sound c.in_ok-entity_types.entity_types built in
     declared_parts bag given c.in_ok-entity_types.entity_types.entries c.in_ok-actions.actions.entries
-    (entities_of c.in_ok-action_entities.action_entities) built c.names_sorted.ensures
-    (c.in_ok-actions.ensures.declared bag given acting) c.uids_ascend.ensures
+    (entities_of c.in_ok-action_entities.action_entities) built
+    (names_of_types_sorted c.in_ok-entity_types.entity_types.entries c.keys_ascend.ensures)
+    (c.in_ok-actions.ensures.declared bag given acting)
+    (uids_of_actions_sorted c.in_ok-actions.actions.entries c.keys_ascend-2.ensures)
     (c.in_ok-action_entities.ensures (map plain_entry c.in_ok-entity_types.entity_types.entries))

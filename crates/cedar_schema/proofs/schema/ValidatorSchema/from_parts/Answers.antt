@@ -12,7 +12,7 @@ invariant_of-content c =
     record {
       entities_of_actions = merely c.requires.entities;
       environments_of_actions = merely (c.in_ok-environments.ensures (map plain_entry types) entities);
-      in_order = merely (schema_in_order types actions entities c.keys-names.ensures.ordered c.keys-uids.ensures.ordered);
+      in_order = merely (schema_in_order types actions entities c.keys_ascend.ensures c.keys_ascend-2.ensures);
       under_names = merely c.requires.under_names;
       types_located = c.requires.keys.of_types;
       actions_located = c.requires.keys.of_actions;
