@@ -15,11 +15,11 @@ const PHOTOS: &str = r#"{"": {
   "actions": {"view": {"appliesTo": {"principalTypes": ["User"], "resourceTypes": ["Photo"]}}}}}"#;
 
 /// Shows what a schema answers of users.
-fn show(rt: &impl Print, schema: &ValidatorSchema, user: EntityType) -> Result<(), Fail> {
-    for ancestor in schema.ancestors(&user).ok_or("no user")? {
+fn show(rt: &impl Print, schema: &ValidatorSchema, user: &EntityType) -> Result<(), Fail> {
+    for ancestor in schema.ancestors(user).ok_or("no user")? {
         println!(rt; "{user} in {ancestor}")?;
     }
-    let ty = schema.get_entity_type(&user).ok_or("no user")?;
+    let ty = schema.get_entity_type(user).ok_or("no user")?;
     println!(rt; "home: {}", ty.attr("home").ok_or("no home")?.attr_type)?;
     for env in schema.unlinked_request_envs(ValidationMode::Strict) {
         println!(rt; "{} {} {}", env.principal, env.action, env.resource)?;
@@ -32,7 +32,7 @@ fn show_text(rt: &impl Print, alloc: Global, text: &str) -> Result<(), Fail> {
     let extensions = cedar_extensions(alloc)?;
     let fragment = fragment_from_json(alloc, text, 0)?;
     match ValidatorSchema::from_schema_frag(alloc, fragment, &extensions) {
-        Ok(schema) => show(rt, &schema, EntityType::from_str(alloc, "User")?),
+        Ok(schema) => show(rt, &schema, &EntityType::from_str(alloc, "User")?),
         Err(SchemaError::TypeNotDefined(error)) => Ok(println!(rt; "refused: {error}")?),
         Err(error) => Err(error.into()),
     }
