@@ -49,6 +49,8 @@ impl Entities {
         ensures inserted { OnOk result (entity_at self.new (entity_uid entity) ≡ Some entity) }
         ensures others { OnOk result ((uid : PlainUid) → uid ≢ entity_uid entity
             → entity_at self.new uid ≡ entity_at self.old uid) }
+        ensures ordered { OnOk result
+            (IsStrictlySortedBy uid_cmp (map entity_uid (entities_of self.new))) }
         ensures refused { OnErr result (entities_of self.new ≡ entities_of self.old) }
     {
         let uid = entity.uid().clone()?;

@@ -1,5 +1,5 @@
 -- The entities of actions, as they are collected one after another.
-use Rattle.std.proofs.Common.{◌≡◌, ◌≢◌, ◌⊎◌, ◌↔◌, ◌++◌, Bool, true, false, List, [], ◌∷◌, Some, IsSome, is_some, find, string_bytes, map, ap, sym, subst, ◌∙◌, refl, inl, inr, arith, append_assoc, Contains}
+use Rattle.std.proofs.Common.{◌≡◌, ◌≢◌, ◌⊎◌, ◌↔◌, ◌++◌, Bool, true, false, List, [], ◌∷◌, Some, IsSome, is_some, find, string_bytes, map, ap, sym, subst, ◌∙◌, refl, inl, inr, tt, arith, append_assoc, Contains}
 use Rattle.std.proofs.lemmas.Bool.{false≢true, cond-true, cond-false}
 use Rattle.std.proofs.lemmas.List.{append-nil}
 use Rattle.std.proofs.lemmas.Option.{same_Some}
@@ -166,15 +166,18 @@ pub record EntitiesSoFar (all : List Item) (entities : Entities) (left : List It
   pub each : (uid : PlainUid) (entity : Entity) → entity_at entities uid ≡ Some entity
       → IsEntityOf (Lists all uid) uid (plain_action_entity entity) × Defines done uid
   pub complete : (uid : PlainUid) → Defines done uid → IsSome (entity_at entities uid)
+  pub ordered : IsStrictlySortedBy uid_cmp (map entity_uid (entities_of entities))
 
 module _ (all : List Item) where
   -- at first none is
   pub entities_none : (left : List Item) (entities : Entities) → left ≡ all → entities_of entities ≡ [] → EntitiesSoFar all entities left
+  unfolding IsStrictlySortedBy
   entities_none left entities same nothing = record {
     done = [];
     split = sym same;
     each = λ uid entity found. absurd (false≢true (ap is_some (ap (find (has_uid uid)) (sym nothing) ∙ found)));
     complete = λ uid defined. absurd (omega (arith, defined.1.1));
+    ordered = rw nothing tt;
   }
 
   module _ (left rest : List Item) (entities : Entities) (key : EntityUID) (it : ValidatorActionId)
@@ -196,6 +199,7 @@ module _ (all : List Item) where
         | inl left ↦ so_far.complete uid left
         | inr last ↦ absurd (external_undefined (action_of it).kind external last.1)
       ];
+      ordered = so_far.ordered;
     }
 
     -- the entity of one more is put in
@@ -203,12 +207,13 @@ module _ (all : List Item) where
         → IsEntityOf (Lists all (uid_of key)) (uid_of key) (plain_action_entity entity)
         → entity_at new (entity_uid entity) ≡ Some entity
         → ((uid : PlainUid) → uid ≢ entity_uid entity → entity_at new uid ≡ entity_at entities uid)
-        → EntitiesSoFar all new rest
-    entities_put other new entity of_it inserted others = record {
+        → IsStrictlySortedBy uid_cmp (map entity_uid (entities_of new)) → EntitiesSoFar all new rest
+    entities_put other new entity of_it inserted others ordered = record {
       done = More;
       split = next_entity_split;
       each = λ uid found_one found. each_at uid found_one (is_eq (uid_cmp uid (entity_uid entity))) refl found;
       complete = λ uid defined. complete_at uid (is_eq (uid_cmp uid (entity_uid entity))) refl defined;
+      ordered = ordered;
     }
       where
         its_own : uid_of key ≡ entity_uid entity
@@ -243,9 +248,8 @@ module _ (all : List Item) where
 
   -- where none is left, they are the entities of the actions
   pub entities_all : (left : List Item) (entities : Entities) → left ≡ [] → EntitiesSoFar all entities left
-      → IsStrictlySortedBy uid_cmp (map entity_uid (entities_of entities)) → (types : List (PlainName × SchemaEntityType))
-      → AreActionEntities (schema_with types all (entities_of entities))
-  entities_all left entities nothing so_far ordered types = record {
+      → (types : List (PlainName × SchemaEntityType)) → AreActionEntities (schema_with types all (entities_of entities))
+  entities_all left entities nothing so_far types = record {
     entities = λ it among.
         let entity = Contains-preimage plain_action_entity (entities_of entities) it among in
         let both = so_far.each (entity_uid entity.0) entity.0 (found_itself (entities_of entities) entity.0 once entity.1) in
@@ -261,11 +265,11 @@ module _ (all : List Item) where
         let found = found_among (entities_of entities) uid (so_far.complete uid (rw whole ((plain_defines all uid).1 defined))) in
         rw found.2 at (Contains-image (λ (it : ActionEntity). it.uid) (map plain_action_entity (entities_of entities)) (plain_action_entity found.0)
         (Contains-image plain_action_entity (entities_of entities) found.0 found.1));
-    in_order = rw (map-map (λ (it : ActionEntity). it.uid) plain_action_entity (entities_of entities)) ordered;
+    in_order = rw (map-map (λ (it : ActionEntity). it.uid) plain_action_entity (entities_of entities)) so_far.ordered;
   }
     where
       whole : so_far.done ≡ all
       whole = sym (so_far.split ∙ (ap (λ others. so_far.done ++ others) nothing ∙ append-nil so_far.done))
 
       once : (uid : PlainUid) → ¬ Twice (map entity_uid (entities_of entities)) uid
-      once uid = Twice-sorted_by_name uid_cmp uid_cmp-total (map entity_uid (entities_of entities)) uid ordered
+      once uid = Twice-sorted_by_name uid_cmp uid_cmp-total (map entity_uid (entities_of entities)) uid so_far.ordered

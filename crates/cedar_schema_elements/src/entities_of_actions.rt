@@ -47,7 +47,5 @@ pub fn action_entities(alloc: Global, actions: &Table<EntityUID, ValidatorAction
             entities.insert(action_entity(alloc, &mut uppers, uid)?)?;
         }
     }
-    // That the entities are in order is known from their iterator.
-    let _in_order = entities.iter();
     Ok(entities)
 }

@@ -35,7 +35,7 @@ put c =
           (λ is. false≢true (sym c.if-not-is_external.true ∙ c.is_external.ensures.1 is)) c.insert.new.self entity
           (same_entity (IsUpper cmp uid_of c.loop-uid.uppers uid) (Lists actions (uid_of uid)) (uid_of uid) (plain_action_entity entity) here
           c.in_ok-action_entity.ensures.entity)
-          c.in_ok-insert.ensures.inserted c.in_ok-insert.ensures.others,
+          c.in_ok-insert.ensures.inserted c.in_ok-insert.ensures.others c.in_ok-insert.ensures.ordered,
       left_rest actions _ _ c.loop-uid.uppers uid c.in-Some.action.now c.in-Some.ensures.steps c.loop-uid.invariant.1
           c.action_entity.new.uppers c.in_ok-action_entity.ensures.others,
     )
@@ -48,5 +48,4 @@ loop-uid-preserved-in_ok-insert-2 c = put (goal.at.loop-uid-preserved-in_ok-inse
 
 pub returns : goal.returns
 returns c = λ types.
-    entities_all c.args.actions.now.entries _ c.loop-uid.entities c.in-None.ensures.steps.0 c.loop-uid.invariant.0
-    c.iter-in_order.ensures.ordered types
+    entities_all c.args.actions.now.entries _ c.loop-uid.entities c.in-None.ensures.steps.0 c.loop-uid.invariant.0 types
