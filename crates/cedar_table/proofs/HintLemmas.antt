@@ -96,15 +96,15 @@ module _ {K V : Type 0} (eq : K → K → Bool) (cmp : K → K → Ordering) (wr
     (alike : (a b : K) → eq a b ≡ true → writes a ≡ writes b) (ties : (a b : K) → eq a b ≡ is_eq (cmp a b)) (hints : Hints)
     (entries : List (K × V)) (hinted : AreHinted writes hints (keys_of entries)) (complete : IsTrue hints.complete) (key : K) where
   -- where hints are complete, a key isn't there if it stands at no place to which a hint leads
-  pub not_there : ((place : ℕ) → LeadsTo hints.rows.items (hash_by hints.seed (writes key)) place
+  pub not_there : ((place : ℕ) → LeadsTo hints.rows.items (hash_by hints.begun (writes key)) place
       → ¬ StandsAt cmp entries key place)
       → lookup (is_at (cmp key)) entries ≡ None
   not_there nowhere = none_from_no_some (lookup (is_at (cmp key)) entries) (λ value found.
       let it = place_from_lookup (is_at (cmp key)) entries value found in
       let same : writes key ≡ writes it.1 = alike key it.1 (ties key it.1 ∙ it.3) in
-      let leads : LeadsTo hints.rows.items (hash_by hints.seed (writes key)) it.0 =
-      subst (λ input. LeadsTo hints.rows.items (hash_by hints.seed input) it.0) (sym same)
-      (subst (λ each. IfSome each (λ other. LeadsTo hints.rows.items (hash_by hints.seed (writes other)) it.0))
+      let leads : LeadsTo hints.rows.items (hash_by hints.begun (writes key)) it.0 =
+      subst (λ input. LeadsTo hints.rows.items (hash_by hints.begun input) it.0) (sym same)
+      (subst (λ each. IfSome each (λ other. LeadsTo hints.rows.items (hash_by hints.begun (writes other)) it.0))
       (slice_get-map (λ (entry : K × V). entry.0) entries it.0 ∙ ap (option_map (λ (entry : K × V). entry.0)) it.2)
       (hinted complete it.0)) in
       nowhere it.0 leads (

@@ -1,16 +1,15 @@
 -- Rows of hints: where in a list of entries a key may stand, by the hash of the key.
 use Rattle.std.specs.Prelude.{◌≡◌, ◌≢◌, ◌+◌, ◌-◌, ◌/◌, ◌%◌, ◌^◌, ◌<◌, ℕ, IfSome, IsSomeAnd, IsTrue, List, Option, bit_and, length, slice_get}
-use Rattle.std.specs.Hash.{HashWrites, u64}
+use Rattle.std.specs.Hash.{HashWrites}
 use Rattle.std.specs.Hash.FoldHasher as folding
 use Rattle.std.specs.List.{fold}
+use Rattle.std.specs.declared.hash.FoldHasher.{FoldHasher}
 use Rattle.cedar_table.specs.declared.hints.Hint.{Hint}
 use Rattle.cedar_table.specs.declared.hints.Hints.{Hints}
 
--- the hash of what a key is made of, begun with a number
-abbrev pub hash_by : ℕ → HashWrites → ℕ
-hash_by seed writes =
-    let begun = fold folding.write folding.initial (u64 seed) in
-    folding.finish (fold folding.write begun writes)
+-- the hash of what a key is made of, as a hasher goes on with it
+abbrev pub hash_by : FoldHasher → HashWrites → ℕ
+hash_by begun writes = folding.finish (fold folding.write begun writes)
 
 -- the part of a hash that a hint keeps
 abbrev pub tag_of : ℕ → ℕ
@@ -34,11 +33,12 @@ pub record LeadsTo (rows : List (Option Hint)) (hash place : ℕ) : Type 0 where
       → RowHas rows hash earlier (λ hint. hint.tag ≢ tag_of hash)
 
 -- a hint leads to the key at each place
-abbrev pub LeadToAll : {K : Type 0} → (K → HashWrites) → ℕ → List (Option Hint) → List K → Type 0
-LeadToAll writes seed rows keys = (place : ℕ)
-    → IfSome (slice_get keys place) (λ key. LeadsTo rows (hash_by seed (writes key)) place)
+abbrev pub LeadToAll : {K : Type 0} → (K → HashWrites) → FoldHasher → List (Option Hint) → List K
+    → Type 0
+LeadToAll writes begun rows keys = (place : ℕ)
+    → IfSome (slice_get keys place) (λ key. LeadsTo rows (hash_by begun (writes key)) place)
 
 -- where the hints are said to be complete, one leads to each key
 abbrev pub AreHinted : {K : Type 0} → (K → HashWrites) → Hints → List K → Type 0
 AreHinted writes hints keys =
-    IsTrue hints.complete → LeadToAll writes hints.seed hints.rows.items keys
+    IsTrue hints.complete → LeadToAll writes hints.begun hints.rows.items keys

@@ -32,20 +32,26 @@ pub(crate) struct Hint {
 /// that are looked at for its hash; where all of these were taken there is none.
 #[derive(Drop)]
 pub(crate) struct Hints {
-    /// What hashes begin with.
-    seed: u64,
+    /// What hashes begin with, as a hasher that was given it.
+    begun: FoldHasher,
     /// The rows.
     rows: Vec<Option<Hint>>,
     /// Whether a hint leads to each entry, so that a key to which none leads isn't there.
     pub(crate) complete: bool,
 }
 
-/// The hash of a key, begun with a number.
-fn hash_of<K: Hash>(seed: u64, key: &K) -> u64
-    ensures { result ≡ hash_by seed (K.hash_input key.now) }
+/// The hasher that was given a number.
+fn begun_with(seed: u64) -> FoldHasher {
+    let mut begun = FoldHasher::default();
+    begun.write_u64(seed);
+    begun
+}
+
+/// The hash of a key, as a hasher goes on with it.
+fn hash_of<K: Hash>(begun: &FoldHasher, key: &K) -> u64
+    ensures { result ≡ hash_by begun.now (K.hash_input key.now) }
 {
-    let mut state = FoldHasher::default();
-    state.write_u64(seed);
+    let mut state = *begun;
     key.hash(&mut state);
     state.finish()
 }
@@ -106,20 +112,28 @@ fn rows_for(entries: usize) -> usize {
 }
 
 /// Rows with hints to entries. Out of memory is the only refusal.
-fn hint_rows<K: Hash, V>(alloc: Global, seed: u64, entries: &[(K, V)]) -> M<Vec<Option<Hint>>> {
+fn hint_rows<K: Hash, V>(
+    alloc: Global,
+    begun: &FoldHasher,
+    entries: &[(K, V)],
+) -> M<Vec<Option<Hint>>> {
     let mut rows = vec![in alloc; None; rows_for(entries.len())]?;
     for (place, entry) in entries.iter().enumerate() {
-        put_hint(&mut rows, hash_of(seed, &entry.0), place);
+        put_hint(&mut rows, hash_of(begun, &entry.0), place);
     }
     Ok(rows)
 }
 
 /// Whether a hint leads to each entry.
-fn lead_to_all<K: Hash, V>(rows: &[Option<Hint>], seed: u64, entries: &[(K, V)]) -> bool
-    ensures { IsTrue result → LeadToAll K.hash_input seed rows.now (keys_of entries.now) }
+fn lead_to_all<K: Hash, V>(
+    rows: &[Option<Hint>],
+    begun: &FoldHasher,
+    entries: &[(K, V)],
+) -> bool
+    ensures { IsTrue result → LeadToAll K.hash_input begun.now rows.now (keys_of entries.now) }
 {
     for (place, entry) in entries.iter().enumerate() {
-        if place_hinted(rows, hash_of(seed, &entry.0)) != Some(place) {
+        if place_hinted(rows, hash_of(begun, &entry.0)) != Some(place) {
             return false;
         }
     }
@@ -132,7 +146,7 @@ impl Hints {
         ensures { result.complete ≡ false }
     {
         Hints {
-            seed: SEEDS[0],
+            begun: FoldHasher::default(),
             rows: Vec::new(alloc),
             complete: false,
         }
@@ -143,18 +157,20 @@ impl Hints {
         ensures { IfOk result (λ hints. AreHinted K.hash_input hints (keys_of entries.now)) }
     {
         for seed in SEEDS {
-            let rows = hint_rows(alloc, seed, entries)?;
-            if lead_to_all(&rows, seed, entries) {
+            let begun = begun_with(seed);
+            let rows = hint_rows(alloc, &begun, entries)?;
+            if lead_to_all(&rows, &begun, entries) {
                 return Ok(Hints {
-                    seed,
+                    begun,
                     rows,
                     complete: true,
                 });
             }
         }
+        let begun = begun_with(SEEDS[0]);
         Ok(Hints {
-            seed: SEEDS[0],
-            rows: hint_rows(alloc, SEEDS[0], entries)?,
+            begun,
+            rows: hint_rows(alloc, &begun, entries)?,
             complete: false,
         })
     }
@@ -162,10 +178,10 @@ impl Hints {
     /// Where the entry of a key may stand, if there is a hint.
     pub(crate) fn guess<K: Hash>(&self, key: &K) -> Option<usize>
         ensures found { IfSome result (LeadsTo self.now.rows.items
-            (hash_by self.now.seed (K.hash_input key.now))) }
+            (hash_by self.now.begun (K.hash_input key.now))) }
         ensures lacking { IfNone result ((place : ℕ) → ¬ LeadsTo self.now.rows.items
-            (hash_by self.now.seed (K.hash_input key.now)) place) }
+            (hash_by self.now.begun (K.hash_input key.now)) place) }
     {
-        place_hinted(&self.rows, hash_of(self.seed, key))
+        place_hinted(&self.rows, hash_of(&self.begun, key))
     }
 }

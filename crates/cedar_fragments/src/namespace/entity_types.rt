@@ -92,7 +92,7 @@ pub(crate) fn entity_references(
     ensures { IfOk result (λ it. map (positional_reference entity) it.items
         ≡ map (raw_reference (namespace_name namespace.entry) entity) names.items) }
 {
-    let mut references = Vec::new(alloc);
+    let mut references = Vec::with_capacity(alloc, names.len())?;
     for name in names {
         let kind = ReferenceType::Entity;
         references.push(name.conditionally_qualify_with(alloc, namespace, kind)?)?;

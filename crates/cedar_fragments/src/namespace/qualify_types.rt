@@ -120,7 +120,7 @@ pub(crate) fn qualify_entity_types(
         (IsRefusedAmong (held_names all_defs.now)
         (Contains (map (positional_reference entity) names.items))) }
 {
-    let mut qualified = Vec::new(all_defs.alloc);
+    let mut qualified = Vec::with_capacity(all_defs.alloc, names.len())?;
     for name in names {
         qualified.push(resolve_at(name, ReferenceType::Entity, all_defs)?)?;
     }
