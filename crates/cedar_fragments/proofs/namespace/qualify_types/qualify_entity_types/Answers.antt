@@ -8,13 +8,13 @@ use Rattle.cedar_fragments.proofs.FragmentLemmas.{exit_holds}
 use Rattle.cedar_fragments.proofs.namespace.qualify_types.qualify_entity_types.Goals as goal
 
 pub loop-name-init : goal.loop-name-init
-loop-name-init c = turn_none _ _ _ _ _ _ c.into_iter-name-iterator.ensures.into_iter_gives.0 c.new-qualified.ensures.items
+loop-name-init c = turn_none _ _ _ _ _ _ c.into_iter-name-iterator.ensures.into_iter_gives.0 c.in_ok-qualified.ensures.items
 
 pub returns-in_err-resolve_at-clause-refused : goal.returns-in_err-resolve_at-clause-refused
 returns-in_err-resolve_at-clause-refused c =
     let names = held_names c.args.all_defs.now in
     let among = turn_next _ _ _ _ _ _ _ c.in-Some.name c.in-Some.ensures.steps.0 c.loop-name.invariant in
-    exit_holds _ _ _ c.from_residual.ensures.1
+    exit_holds _ _ _ c.from_residual-in_err-resolve_at.ensures.1
     (refused_one names (Contains (map (positional_reference Entity) c.args.names.items)) (positional_reference Entity c.in-Some.name)
     (Contains-image (positional_reference Entity) c.args.names.items c.in-Some.name among) _ c.in_err-resolve_at.ensures.refused)
 
