@@ -125,11 +125,7 @@ fn hint_rows<K: Hash, V>(
 }
 
 /// Whether a hint leads to each entry.
-fn lead_to_all<K: Hash, V>(
-    rows: &[Option<Hint>],
-    begun: &FoldHasher,
-    entries: &[(K, V)],
-) -> bool
+fn lead_to_all<K: Hash, V>(rows: &[Option<Hint>], begun: &FoldHasher, entries: &[(K, V)]) -> bool
     ensures { IsTrue result → LeadToAll K.hash_input begun.now rows.now (keys_of entries.now) }
 {
     for (place, entry) in entries.iter().enumerate() {
