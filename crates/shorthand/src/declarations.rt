@@ -36,6 +36,12 @@ pub fn nothing(alloc: Global) -> NamespaceDefinition<RawName> {
     }
 }
 
+/// Adds an entry to a map. Answers whether its key is new.
+pub(crate) fn add<K: Ord + Drop, V: Drop>(map: &mut BTreeMap<K, V>, key: K, value: V) -> M<bool> {
+    let old = map.insert(key, value)?;
+    Ok(old.is_none())
+}
+
 /// Declares the common type `T = type`. Answers whether its name is new.
 fn add_common_type(
     alloc: Global,
@@ -49,8 +55,7 @@ fn add_common_type(
     let id = CommonTypeId::from_str(alloc, name)?;
     let ty = written_type(alloc, body)?;
     let declared = CommonType { ty, loc };
-    let old = definition.common_types.insert(id, declared)?;
-    Ok(old.is_none())
+    Ok(add(&mut definition.common_types, id, declared)?)
 }
 
 /// Declares an entity type. Answers whether its name is new.
@@ -62,8 +67,7 @@ fn add_entity_type(
 ) -> Result<bool, Fail> {
     let (name, declared) = entity_type(alloc, text, external)?;
     let id = unreserved_id(alloc, name)?;
-    let old = definition.entity_types.insert(id, declared)?;
-    Ok(old.is_none())
+    Ok(add(&mut definition.entity_types, id, declared)?)
 }
 
 /// Declares an action. Answers whether its id is new.
@@ -75,8 +79,7 @@ fn add_action(
 ) -> Result<bool, Fail> {
     let (id, declared) = action(alloc, text, external)?;
     let id = id_text(alloc, id)?;
-    let old = definition.actions.insert(id, declared)?;
-    Ok(old.is_none())
+    Ok(add(&mut definition.actions, id, declared)?)
 }
 
 /// Adds a declaration without its namespace to a definition. Answers whether its id is new there.

@@ -69,16 +69,27 @@ pub fn entity_type(alloc: Global, text: &str) -> Result<EntityType, Fail> {
     Ok(EntityType::new(name(alloc, text)?))
 }
 
-/// The entity types that stand between commas, or none for `-`.
-pub fn entity_types(alloc: Global, text: &str) -> Result<Vec<EntityType>, Fail> {
-    let mut types = Vec::new(alloc);
+/// What the parts of a text between commas spell, or nothing for `-`.
+fn listed<T: Drop, F: Fn(Global, &str) -> Result<T, Fail> + Drop>(
+    alloc: Global,
+    text: &str,
+    read: F,
+) -> Result<Vec<T>, Fail>
+    requires { F.IsAlwaysCallable read }
+{
+    let mut items = Vec::new(alloc);
     if text == NONE {
-        return Ok(types);
+        return Ok(items);
     }
     for part in text.split(',') {
-        types.push(entity_type(alloc, part)?)?;
+        items.push(read(alloc, part)?)?;
     }
-    Ok(types)
+    Ok(items)
+}
+
+/// The entity types that stand between commas, or none for `-`.
+pub fn entity_types(alloc: Global, text: &str) -> Result<Vec<EntityType>, Fail> {
+    listed(alloc, text, entity_type)
 }
 
 /// The uid whose type stands before the last `::` of a text, and its id behind it.
@@ -92,14 +103,7 @@ pub fn uid(alloc: Global, text: &str) -> Result<EntityUID, Fail> {
 
 /// The uids that stand between commas, or none for `-`.
 pub fn uids(alloc: Global, text: &str) -> Result<Vec<EntityUID>, Fail> {
-    let mut uids = Vec::new(alloc);
-    if text == NONE {
-        return Ok(uids);
-    }
-    for part in text.split(',') {
-        uids.push(uid(alloc, part)?)?;
-    }
-    Ok(uids)
+    listed(alloc, text, uid)
 }
 
 /// The reference that is written as such a text.
@@ -109,12 +113,5 @@ pub fn raw(alloc: Global, text: &str) -> Result<RawName, Fail> {
 
 /// The references that are written between commas, or none for `-`.
 pub fn raws(alloc: Global, text: &str) -> Result<Vec<RawName>, Fail> {
-    let mut names = Vec::new(alloc);
-    if text == NONE {
-        return Ok(names);
-    }
-    for part in text.split(',') {
-        names.push(raw(alloc, part)?)?;
-    }
-    Ok(names)
+    listed(alloc, text, raw)
 }

@@ -6,6 +6,7 @@
 //! record inside a record has leaves and sets alone, and one attribute at most. A type and the name
 //! of an attribute may have a location behind them, `{a@1: Set<Long@2>@3}`.
 
+use crate::declarations::add;
 use crate::names::{located_at, raw, unreserved_id};
 use cedar_below::Loc;
 use cedar_names::json_schema::{RawName, RecordType, Type, TypeOfAttribute, TypeVariant};
@@ -104,10 +105,10 @@ fn add_attribute(
     };
     let attribute = TypeOfAttribute { ty, required, loc };
     let name = String::from_str(alloc, name)?;
-    match record.attributes.insert(name, attribute)? {
-        Some(_) => Err(Fail::new(format_args!("an attribute twice: {written}"))),
-        None => Ok(()),
+    if add(&mut record.attributes, name, attribute)? {
+        return Ok(());
     }
+    Err(Fail::new(format_args!("an attribute twice: {written}")))
 }
 
 /// The name of an attribute, and the text of its type.
