@@ -4,23 +4,26 @@
 use cedar_json::{cedar_extensions, fragment_from_json};
 use cedar_schema::below::{EntityType, ValidationMode};
 use cedar_schema::{SchemaError, Type, ValidatorSchema};
-use std::alloc::Global;
 use std::test::Fail;
 
 /// Users in groups, who view photos.
-const PHOTOS: &str = r#"{"": {
-  "commonTypes": {"Address": {"type": "Record", "attributes": {"city": {"type": "String"}}}},
-  "entityTypes": {"Group": {}, "Photo": {}, "User": {"memberOfTypes": ["Group"],
-    "shape": {"type": "Record", "attributes": {"home": {"type": "Address"}}}}},
+const PHOTOS: &str = r#"{"": {"commonTypes": {"Town": {"type": "String"}},
+  "entityTypes": {"Group": {}, "Photo": {}, "User": {"memberOfTypes": ["Group"], "shape": {
+    "type": "Record", "attributes": {"home": {"type": "Town"},
+    "boss": {"type": "Entity", "name": "User"}, "team": {"type": "Entity", "name": "Group"}}}}},
   "actions": {"view": {"appliesTo": {"principalTypes": ["User"], "resourceTypes": ["Photo"]}}}}}"#;
 
 /// Shows what a schema answers of users.
-fn show(rt: &impl Print, schema: &ValidatorSchema, user: &EntityType) -> Result<(), Fail> {
+fn show(rt: &HostRuntime, schema: &ValidatorSchema, user: &EntityType) -> Result<(), Fail> {
     for ancestor in schema.ancestors(user).ok_or("no user")? {
         println!(rt; "{user} in {ancestor}")?;
     }
     let ty = schema.get_entity_type(user).ok_or("no user")?;
-    println!(rt; "home: {}", ty.attr("home").ok_or("no home")?.attr_type)?;
+    let home = &ty.attr("home").ok_or("no home")?.attr_type;
+    let boss = &ty.attr("boss").ok_or("no boss")?.attr_type;
+    let team = &ty.attr("team").ok_or("no team")?.attr_type;
+    let either = Type::least_upper_bound(rt.alloc(), boss, team, ValidationMode::Permissive)?;
+    println!(rt; "home: {home}, boss or team: {either}")?;
     for env in schema.unlinked_request_envs(ValidationMode::Strict) {
         println!(rt; "{} {} {}", env.principal, env.action, env.resource)?;
     }
@@ -28,7 +31,8 @@ fn show(rt: &impl Print, schema: &ValidatorSchema, user: &EntityType) -> Result<
 }
 
 /// Shows the schema that a text declares, or which type it names that isn't there.
-fn show_text(rt: &impl Print, alloc: Global, text: &str) -> Result<(), Fail> {
+fn show_text(rt: &HostRuntime, text: &str) -> Result<(), Fail> {
+    let alloc = rt.alloc();
     let extensions = cedar_extensions(alloc)?;
     let fragment = fragment_from_json(alloc, text, 0)?;
     match ValidatorSchema::from_schema_frag(alloc, fragment, &extensions) {
@@ -39,12 +43,7 @@ fn show_text(rt: &impl Print, alloc: Global, text: &str) -> Result<(), Fail> {
 }
 
 fn main(rt: HostRuntime) -> Result<(), Fail> {
-    let alloc = rt.alloc();
-    show_text(&rt, alloc, PHOTOS)?;
-    let user = Type::named_entity_reference(alloc, EntityType::from_str(alloc, "User")?)?;
-    let group = Type::named_entity_reference(alloc, EntityType::from_str(alloc, "Group")?)?;
-    let either = Type::least_upper_bound(alloc, &user, &group, ValidationMode::Permissive)?;
-    println!(rt; "{either}")?;
+    show_text(&rt, PHOTOS)?;
     let teams = r#"{"": {"entityTypes": {"User": {"memberOfTypes": ["Team"]}}, "actions": {}}}"#;
-    show_text(&rt, alloc, teams)
+    show_text(&rt, teams)
 }
