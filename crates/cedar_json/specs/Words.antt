@@ -8,7 +8,7 @@ pub use Rattle.cedar_below.specs.declared.name_fault.NameFault.{NameFault}
 pub use Rattle.cedar_below.specs.declared.name_fault.NameFault.TheVariants.{NoCommonType, NotAName, Reserved}
 pub use Rattle.cedar_below.specs.declared.unreserved_id.UnreservedId.{UnreservedId}
 pub use Rattle.cedar_below.specs.declared.value.RestrictedExpr.{RestrictedExpr, fold-roll-RestrictedExpr, roll-RestrictedExpr}
-pub use Rattle.cedar_names.specs.Words.{Expr, attribute_step, common_type_text, members_from, plain_members, raw_attribute, raw_expr, raw_name, raw_record, raw_reference, raw_variant, record_expr, record_step, reserved_type_words, set_expr, type_step, variant_step}
+pub use Rattle.cedar_names.specs.Words.{Expr, Reference, Requests, attribute_step, common_type_text, members_from, plain_members, raw_attribute, raw_expr, raw_name, raw_record, raw_reference, raw_variant, record_expr, record_step, reserved_type_words, set_expr, type_step, variant_step}
 pub use Rattle.cedar_names.specs.declared.json_schema.common_type_id.CommonTypeId.{CommonTypeId}
 pub use Rattle.cedar_names.specs.declared.json_schema.raw_name.RawName.{RawName}
 pub use Rattle.cedar_names.specs.declared.json_schema.reference_type.ReferenceType.TheVariants.{Common, Entity}

@@ -9,10 +9,8 @@ ghost use Rattle.json.specs.Value.{members_view, value_view};
 ghost use Rattle.cedar_json.specs.Words.{Expr, IsTrueOf, PlainName, Text, WrittenAction, WrittenDefinition, WrittenEntity, action_of, actions_in, common_key, common_type_of, common_type_text, common_types_in, definition_of, entity_of, entity_types_in, entries_of, field_or, fragment_of, id_key, member_at, name_cmp, namespace_key, plain_name, raw_expr, text_cmp, unreserved_id_text, written_action, written_actions, written_common_types, written_definition, written_entity, written_entity_types, written_fragment, written_namespaces};
 ghost use Rattle.cedar_below.proofs.Names.{name_ord-name_cmp};
 
-use crate::action_reading::read_action;
 use crate::annotations::check_annotations;
-use crate::described::{Described, Entry, entries_field, read_entries};
-use crate::entity_reading::read_entity_type;
+use crate::described::{Described, Entry, described_field, field_or_else};
 use crate::fault::{Fault, FaultKind, Row, Wanted};
 use crate::fields::{check_fields, members_of};
 use crate::place_table::Cursor;
@@ -79,22 +77,6 @@ impl Entry for CommonType<RawName> {
     }
 }
 
-impl Described for EntityType<RawName> {
-    ghost Plain = { WrittenEntity };
-
-    ghost describes = { entity_of };
-
-    ghost shown = { written_entity };
-
-    fn read(
-        alloc: Global,
-        value: &Value<'_>,
-        cursor: Cursor<'_>,
-    ) -> Result<EntityType<RawName>, Fault> {
-        read_entity_type(alloc, value, cursor)
-    }
-}
-
 impl Entry for EntityType<RawName> {
     type Key = UnreservedId;
 
@@ -128,22 +110,6 @@ impl Entry for EntityType<RawName> {
     }
 }
 
-impl Described for ActionType<RawName> {
-    ghost Plain = { WrittenAction };
-
-    ghost describes = { action_of };
-
-    ghost shown = { written_action };
-
-    fn read(
-        alloc: Global,
-        value: &Value<'_>,
-        cursor: Cursor<'_>,
-    ) -> Result<ActionType<RawName>, Fault> {
-        read_action(alloc, value, cursor)
-    }
-}
-
 impl Entry for ActionType<RawName> {
     type Key = String;
 
@@ -168,26 +134,6 @@ impl Entry for ActionType<RawName> {
     }
 }
 
-/// The common types that the field `commonTypes` describes; none where it is absent.
-fn common_types_field(
-    alloc: Global,
-    value: &Value<'_>,
-    cursor: Cursor<'_>,
-) -> Result<BTreeMap<CommonTypeId, CommonType<RawName>>, Fault>
-    ensures value { MatchResult result
-        (λ all. field_or [] common_types_in (get (codes "commonTypes") (value_view value.now))
-        ≡ Some (written_common_types all))
-        (λ fault. fault ≢ Fault.Memory
-        → field_or [] common_types_in (get (codes "commonTypes") (value_view value.now)) ≡ None) }
-    ensures place { IfErr result (λ fault. IsTrueOf fault (value_view value.now)) }
-{
-    let name = "commonTypes";
-    if value.get(name).is_none() {
-        return Ok(BTreeMap::new(alloc));
-    }
-    entries_field::<CommonType<RawName>>(alloc, value, name, cursor)
-}
-
 impl Described for NamespaceDefinition<RawName> {
     ghost Plain = { WrittenDefinition };
 
@@ -203,10 +149,10 @@ impl Described for NamespaceDefinition<RawName> {
     ) -> Result<NamespaceDefinition<RawName>, Fault> {
         check_fields(alloc, value, Row::OfDefinition)?;
         check_annotations(alloc, value)?;
-        let common_types = common_types_field(alloc, value, cursor)?;
-        let entity_types =
-            entries_field::<EntityType<RawName>>(alloc, value, "entityTypes", cursor)?;
-        let actions = entries_field::<ActionType<RawName>>(alloc, value, "actions", cursor)?;
+        let common_types =
+            field_or_else(alloc, value, "commonTypes", BTreeMap::new(alloc), cursor)?;
+        let entity_types = described_field(alloc, value, "entityTypes", cursor)?;
+        let actions = described_field(alloc, value, "actions", cursor)?;
         Ok(NamespaceDefinition {
             common_types,
             entity_types,
@@ -267,8 +213,6 @@ pub(crate) fn read_fragment(
         (λ fault. fault ≢ Fault.Memory → fragment_of (value_view value.now) ≡ None) }
     ensures place { IfErr result (λ fault. IsTrueOf fault (value_view value.now)) }
 {
-    let Some(members) = members_of(value) else {
-        return Err(Fault::here(alloc, FaultKind::Wants(Wanted::Object)));
-    };
-    Ok(Fragment(read_entries::<NamespaceDefinition<RawName>>(alloc, members, cursor)?))
+    let namespaces = Described::read(alloc, value, cursor)?;
+    Ok(Fragment(namespaces))
 }
