@@ -201,18 +201,3 @@ impl Entry for NamespaceDefinition<RawName> {
         }
     }
 }
-
-/// The fragment that a value describes.
-pub(crate) fn read_fragment(
-    alloc: Global,
-    value: &Value<'_>,
-    cursor: Cursor<'_>,
-) -> Result<Fragment<RawName>, Fault>
-    ensures value { MatchResult result
-        (λ it. fragment_of (value_view value.now) ≡ Some (written_fragment it))
-        (λ fault. fault ≢ Fault.Memory → fragment_of (value_view value.now) ≡ None) }
-    ensures place { IfErr result (λ fault. IsTrueOf fault (value_view value.now)) }
-{
-    let namespaces = Described::read(alloc, value, cursor)?;
-    Ok(Fragment(namespaces))
-}

@@ -13,7 +13,7 @@ use crate::fault::{Fault, FaultKind, Row};
 use crate::fields::{check_fields, flag_field, text};
 use crate::place_table::Cursor;
 use crate::spelling::read_name;
-use crate::type_reading::{plain_type, read_type};
+use crate::type_reading::plain_type;
 use cedar_below::{Eid, NonEmpty};
 use cedar_names::json_schema::{
     AttributesOrContext, EntityType, EntityTypeKind, RawName, RecordType, StandardEntityType, Type,
@@ -83,16 +83,9 @@ pub(crate) fn shape_field(
         (λ fault. fault ≢ Fault.Memory → shape_in (get name.now (value_view value.now)) ≡ None) }
     ensures place { IfErr result (λ fault. IsTrueOf fault (value_view value.now)) }
 {
-    match value.get(name) {
-        None => {
-            let record = TypeVariant::Record(empty_record(alloc));
-            Ok(AttributesOrContext(plain_type(record, None)))
-        }
-        Some(held) => match read_type(alloc, held, cursor.field(value, name)) {
-            Ok(ty) => Ok(AttributesOrContext(ty)),
-            Err(fault) => Err(fault.within(name)),
-        },
-    }
+    let absent = plain_type(TypeVariant::Record(empty_record(alloc)), None);
+    let ty = field_or_else(alloc, value, name, absent, cursor)?;
+    Ok(AttributesOrContext(ty))
 }
 
 /// The closed record type without attributes.
@@ -121,7 +114,7 @@ fn tags_field(
     let name = "tags";
     match value.get(name) {
         None => Ok(None),
-        Some(held) => match read_type(alloc, held, cursor.field(value, name)) {
+        Some(held) => match Type::read(alloc, held, cursor.field(value, name)) {
             Ok(ty) => Ok(Some(ty)),
             Err(fault) => Err(fault.within(name)),
         },
