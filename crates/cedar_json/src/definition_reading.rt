@@ -149,8 +149,13 @@ impl Described for NamespaceDefinition<RawName> {
     ) -> Result<NamespaceDefinition<RawName>, Fault> {
         check_fields(alloc, value, Row::OfDefinition)?;
         check_annotations(alloc, value)?;
-        let common_types =
-            field_or_else(alloc, value, "commonTypes", BTreeMap::new(alloc), cursor)?;
+        let common_types = field_or_else(
+            alloc,
+            value,
+            "commonTypes",
+            BTreeMap::new(alloc),
+            cursor,
+        )?;
         let entity_types = described_field(alloc, value, "entityTypes", cursor)?;
         let actions = described_field(alloc, value, "actions", cursor)?;
         Ok(NamespaceDefinition {
@@ -174,8 +179,9 @@ impl Entry for NamespaceDefinition<RawName> {
     ghost shown_key = { option_map plain_name };
 
     ghost same_order = { elim [
-        None ↦ elim [ None ↦ refl | Some b ↦ refl ]
-        | Some a ↦ elim [ None ↦ refl | Some b ↦ name_ord-name_cmp a b ] ] };
+      | None ↦ elim [ None ↦ refl | Some b ↦ refl ]
+      | Some a ↦ elim [ None ↦ refl | Some b ↦ name_ord-name_cmp a b ]
+    ] };
 
     /// The namespace that a key names, with the location of the key.
     fn read_key(

@@ -132,8 +132,7 @@ fn read_standard(
         (λ fault. fault ≢ Fault.Memory → standard_of (value_view value.now) ≡ None) }
     ensures place { IfErr result (λ fault. IsTrueOf fault (value_view value.now)) }
 {
-    let member_of_types =
-        field_or_else(alloc, value, "memberOfTypes", Vec::new(alloc), cursor)?;
+    let member_of_types = field_or_else(alloc, value, "memberOfTypes", Vec::new(alloc), cursor)?;
     let shape = shape_field(alloc, value, "shape", cursor)?;
     let tags = tags_field(alloc, value, cursor)?;
     Ok(StandardEntityType {
