@@ -1,23 +1,20 @@
 //! Reading definitions of namespaces, and fragments.
 
 ghost use Rattle.std.proofs.Common.{refl};
-ghost use Rattle.std.specs.Prelude.{◌≡◌, ◌≢◌, [], Option, Some, None, MatchResult, IfErr, codes, option_map, string_bytes};
+ghost use Rattle.std.specs.Prelude.{Option, Some, None, option_map, string_bytes};
 ghost use Rattle.std.specs.Option.{option_cmp};
-ghost use Rattle.json.specs.Find.{as_object, get};
-ghost use Rattle.json.specs.Json.{Json, object};
-ghost use Rattle.json.specs.Value.{members_view, value_view};
-ghost use Rattle.cedar_json.specs.Words.{Expr, IsTrueOf, PlainName, Text, WrittenAction, WrittenDefinition, WrittenEntity, action_of, actions_in, common_key, common_type_of, common_type_text, common_types_in, definition_of, entity_of, entity_types_in, entries_of, field_or, fragment_of, id_key, member_at, name_cmp, namespace_key, plain_name, raw_expr, text_cmp, unreserved_id_text, written_action, written_actions, written_common_types, written_definition, written_entity, written_entity_types, written_fragment, written_namespaces};
+ghost use Rattle.cedar_json.specs.Words.{Expr, PlainName, Text, WrittenDefinition, common_key, common_type_of, common_type_text, definition_of, id_key, name_cmp, namespace_key, plain_name, raw_expr, text_cmp, unreserved_id_text, written_definition};
 ghost use Rattle.cedar_below.proofs.Names.{name_ord-name_cmp};
 
 use crate::annotations::check_annotations;
 use crate::described::{Described, Entry, described_field, field_or_else};
-use crate::fault::{Fault, FaultKind, Row, Wanted};
-use crate::fields::{check_fields, members_of};
+use crate::fault::{Fault, FaultKind, Row};
+use crate::fields::check_fields;
 use crate::place_table::Cursor;
 use crate::type_reading::read_type_of;
 use cedar_below::{Name, NameFault, UnreservedId};
 use cedar_names::json_schema::{
-    ActionType, CommonType, CommonTypeId, EntityType, Fragment, NamespaceDefinition, RawName,
+    ActionType, CommonType, CommonTypeId, EntityType, NamespaceDefinition, RawName,
 };
 use json::Value;
 use std::alloc::Global;

@@ -2,9 +2,8 @@
 
 ghost use Rattle.std.specs.Prelude.{◌≡◌, ◌≢◌, Option, Some, None, MatchResult, IfErr, codes, map, option_map};
 ghost use Rattle.json.specs.Find.{as_str, get};
-ghost use Rattle.json.specs.Json.{array};
-ghost use Rattle.json.specs.Value.{items_view, value_view};
-ghost use Rattle.cedar_json.specs.Words.{Entity, IsTrueOf, Reference, Text, WrittenEntity, all_of, body_by, choices_in, eid_text, empty_record, entity_of, entity_reference, items_of, parents_in, raw_expr, raw_record, raw_reference, references_in, shape_in, standard_of, tags_in, written_entity, written_kind};
+ghost use Rattle.json.specs.Value.{value_view};
+ghost use Rattle.cedar_json.specs.Words.{Entity, IsTrueOf, Reference, Text, WrittenEntity, body_by, choices_in, eid_text, empty_record, entity_of, entity_reference, items_of, raw_expr, raw_record, raw_reference, shape_in, standard_of, tags_in, written_entity, written_kind};
 ghost use Rattle.cedar_names.specs.declared.json_schema.entity_type.EntityTypeKind.TheVariants as kind;
 
 use crate::annotations::check_annotations;
