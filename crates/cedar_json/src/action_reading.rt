@@ -1,13 +1,12 @@
 //! Reading declarations of actions.
 
-ghost use Rattle.std.proofs.Common.{refl};
-ghost use Rattle.std.specs.Prelude.{◌≡◌, ◌≢◌, Some, None, MatchResult, IfErr, codes, option_map, string_bytes};
+ghost use Rattle.std.specs.Prelude.{◌≡◌, ◌≢◌, Some, None, MatchResult, IfErr, codes, option_map};
 ghost use Rattle.json.specs.Find.{get};
 ghost use Rattle.json.specs.Value.{value_view};
-ghost use Rattle.cedar_json.specs.Words.{IsTrueOf, Requests, Text, Tree, WrittenAction, WrittenParent, action_of, optional, pairs_in, parent_of, requests_of, text_cmp, tree_of, value_expr, value_of, written_action, written_pairs, written_parent, written_requests};
+ghost use Rattle.cedar_json.specs.Words.{IsTrueOf, Requests, Tree, WrittenAction, WrittenParent, action_of, optional, pairs_in, parent_of, requests_of, tree_of, value_expr, value_of, written_action, written_pairs, written_parent, written_requests};
 
 use crate::annotations::check_annotations;
-use crate::described::{Described, Entry, described_field, optional_field};
+use crate::described::{Described, described_field, optional_field};
 use crate::entity_reading::shape_field;
 use crate::fault::{Fault, Row};
 use crate::fields::{check_fields, flag_field, text_field};
@@ -79,30 +78,6 @@ impl Described for CedarValue {
     fn read(alloc: Global, value: &Value<'_>, _cursor: Cursor<'_>) -> Result<CedarValue, Fault> {
         let expr = read_expr(alloc, value)?;
         Ok(CedarValue::new(expr))
-    }
-}
-
-impl Entry for CedarValue {
-    type Key = String;
-
-    ghost PlainKey = { Text };
-
-    ghost order = { text_cmp };
-
-    ghost key_of = { Some };
-
-    ghost shown_key = { string_bytes };
-
-    ghost same_order = { λ a b. refl };
-
-    /// The name of an attribute, which is any text.
-    fn read_key(
-        alloc: Global,
-        key: &str,
-        _index: usize,
-        _cursor: Cursor<'_>,
-    ) -> Result<String, Fault> {
-        Ok(String::from_str(alloc, key)?)
     }
 }
 

@@ -7,15 +7,13 @@ ghost use Rattle.cedar_json.specs.Words.{Expr, PlainName, Text, WrittenDefinitio
 ghost use Rattle.cedar_below.proofs.Names.{name_ord-name_cmp};
 
 use crate::annotations::check_annotations;
-use crate::described::{Described, Entry, described_field, field_or_else};
+use crate::described::{Described, Key, described_field, field_or_else};
 use crate::fault::{Fault, FaultKind, Row};
 use crate::fields::check_fields;
 use crate::place_table::Cursor;
 use crate::type_reading::read_type_of;
 use cedar_below::{Name, NameFault, UnreservedId};
-use cedar_names::json_schema::{
-    ActionType, CommonType, CommonTypeId, EntityType, NamespaceDefinition, RawName,
-};
+use cedar_names::json_schema::{CommonType, CommonTypeId, NamespaceDefinition, RawName};
 use json::Value;
 use std::alloc::Global;
 use std::collections::BTreeMap;
@@ -40,9 +38,7 @@ impl Described for CommonType<RawName> {
     }
 }
 
-impl Entry for CommonType<RawName> {
-    type Key = CommonTypeId;
-
+impl Key for CommonTypeId {
     ghost PlainKey = { Text };
 
     ghost order = { text_cmp };
@@ -74,9 +70,7 @@ impl Entry for CommonType<RawName> {
     }
 }
 
-impl Entry for EntityType<RawName> {
-    type Key = UnreservedId;
-
+impl Key for UnreservedId {
     ghost PlainKey = { Text };
 
     ghost order = { text_cmp };
@@ -107,9 +101,7 @@ impl Entry for EntityType<RawName> {
     }
 }
 
-impl Entry for ActionType<RawName> {
-    type Key = String;
-
+impl Key for String {
     ghost PlainKey = { Text };
 
     ghost order = { text_cmp };
@@ -120,7 +112,7 @@ impl Entry for ActionType<RawName> {
 
     ghost same_order = { λ a b. refl };
 
-    /// The id of an action, which is any text.
+    /// The id of an action or the name of an attribute, which is any text.
     fn read_key(
         alloc: Global,
         key: &str,
@@ -164,9 +156,7 @@ impl Described for NamespaceDefinition<RawName> {
     }
 }
 
-impl Entry for NamespaceDefinition<RawName> {
-    type Key = Option<Name>;
-
+impl Key for Option<Name> {
     ghost PlainKey = { Option PlainName };
 
     ghost order = { option_cmp name_cmp };

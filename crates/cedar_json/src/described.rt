@@ -34,27 +34,23 @@ pub(crate) trait Described: Sized {
         ensures place { IfErr result (λ fault. IsTrueOf fault (value_view value.now)) };
 }
 
-/// What a member of an object describes, read into a map under what its key stands for.
+/// What a key of an object stands for, under which a map holds what the member describes.
 ///
-/// The ghost members are the plain data of keys, with their order, and what a text stands for.
-pub(crate) trait Entry: Described {
-    type Key: Ord + Drop;
-
+/// The ghost members are the plain data of keys with their order, what a text stands for, and what
+/// a key does.
+pub(crate) trait Key: Ord {
     ghost PlainKey: { Type 0 };
 
     ghost order: { PlainKey → PlainKey → Ordering };
 
     ghost key_of: { Text → Option PlainKey };
 
-    ghost shown_key: { Self.Key → PlainKey };
+    ghost shown_key: { Self → PlainKey };
 
     /// What the key of the member at an index stands for.
-    fn read_key(
-        alloc: Global,
-        key: &str,
-        index: usize,
-        cursor: Cursor<'_>,
-    ) -> Result<Self::Key, Fault>
+    fn read_key(alloc: Global, key: &str, index: usize, cursor: Cursor<'_>) -> Result<Self, Fault>
+    where
+        Self: Sized,
         ensures value { MatchResult result
             (λ it. key_of key.now ≡ Some (shown_key it))
             (λ fault. fault ≢ Fault.Memory → key_of key.now ≡ None) }
@@ -62,27 +58,27 @@ pub(crate) trait Entry: Described {
             ≡ Some (key.now, held)
             → IsTrueOf fault j) };
 
-    ghost same_order: { (a b : Self.Key) → Self.Key.cmp a b ≡ order (shown_key a) (shown_key b) };
+    ghost same_order: { (a b : Self) → Self.cmp a b ≡ order (shown_key a) (shown_key b) };
 }
 
 /// What some members describe.
-fn read_entries<T: Entry + Drop>(
+fn read_entries<K: Key + Drop, T: Described + Drop>(
     alloc: Global,
     members: &Vec<(&str, Value<'_>)>,
     cursor: Cursor<'_>,
-) -> Result<BTreeMap<T::Key, T>, Fault>
+) -> Result<BTreeMap<K, T>, Fault>
     ensures value { MatchResult result
-        (λ all. entries_of T.order T.key_of T.describes (members_view members.now.items) []
-        ≡ Some (map (λ entry. (T.shown_key entry.0, T.shown entry.1)) all.entries))
+        (λ all. entries_of K.order K.key_of T.describes (members_view members.now.items) []
+        ≡ Some (map (λ entry. (K.shown_key entry.0, T.shown entry.1)) all.entries))
         (λ fault. fault ≢ Fault.Memory
-        → entries_of T.order T.key_of T.describes (members_view members.now.items) [] ≡ None) }
+        → entries_of K.order K.key_of T.describes (members_view members.now.items) [] ≡ None) }
     ensures place { IfErr result
         (λ fault. IsTrueOf fault (object (members_view members.now.items))) }
 {
     let mut all = BTreeMap::new(alloc);
     let mut at = cursor.first();
     for (index, member) in members.iter().enumerate() {
-        let key = T::read_key(alloc, member.0, index, at)?;
+        let key = K::read_key(alloc, member.0, index, at)?;
         match T::read(alloc, &member.1, at) {
             Ok(it) => put(&mut all, key, it)?,
             Err(fault) => return Err(fault.in_member(index)),
@@ -128,16 +124,16 @@ impl<T: Described + Drop> Described for Vec<T> {
     }
 }
 
-impl<K: Ord + Drop, T: Entry<Key = K> + Drop> Described for BTreeMap<K, T> {
-    ghost Plain = { List (T.PlainKey × T.Plain) };
+impl<K: Key + Drop, T: Described + Drop> Described for BTreeMap<K, T> {
+    ghost Plain = { List (K.PlainKey × T.Plain) };
 
-    ghost describes = { entries_in T.order T.key_of T.describes };
+    ghost describes = { entries_in K.order K.key_of T.describes };
 
-    ghost shown = { λ all. map (λ entry. (T.shown_key entry.0, T.shown entry.1)) all.entries };
+    ghost shown = { λ all. map (λ entry. (K.shown_key entry.0, T.shown entry.1)) all.entries };
 
     fn read(alloc: Global, value: &Value<'_>, cursor: Cursor<'_>) -> Result<BTreeMap<K, T>, Fault> {
         match members_of(value) {
-            Some(members) => read_entries::<T>(alloc, members, cursor),
+            Some(members) => read_entries::<K, T>(alloc, members, cursor),
             None => Err(Fault::here(alloc, FaultKind::Wants(Wanted::Object))),
         }
     }

@@ -5,7 +5,7 @@ use Rattle.cedar_json.proofs.described.read_entries.Given as goal
 
 abbrev pub invariant-loop-index : goal.invariant-loop-index
 invariant-loop-index g l =
-    let is = g.T.Entry in
+    let is = g.K.Key in
     let describes = g.T.Described.describes in
     entries_of is.order is.key_of describes (members_view l.members.items) []
     ≡ entries_of is.order is.key_of describes (members_view (drop l.index l.members.items))
