@@ -147,7 +147,8 @@ pub(crate) fn described_field<T: Described + Drop>(
     cursor: Cursor<'_>,
 ) -> Result<T, Fault>
     ensures value { MatchResult result
-        (λ it. option_and_then T.describes (get name.now (value_view value.now)) ≡ Some (T.shown it))
+        (λ it. option_and_then T.describes (get name.now (value_view value.now))
+        ≡ Some (T.shown it))
         (λ fault. fault ≢ Fault.Memory
         → option_and_then T.describes (get name.now (value_view value.now)) ≡ None) }
     ensures place { IfErr result (λ fault. IsTrueOf fault (value_view value.now)) }
