@@ -1,8 +1,10 @@
 -- Fields of actions that may be null, and the values of attributes.
-use Rattle.std.proofs.Common.{◌≡◌, Option, Some, None, ap, sym, ◌∙◌}
-use Rattle.json.specs.Json.{Json, null, boolean, number, string, array, object}
-use Rattle.cedar_json.specs.Words.{RestrictedExpr, Tree, tree_of, unless_null, value_expr}
-use Rattle.cedar_below.specs.declared.value.Value.{Value as CedarValue}
+use Rattle.std.proofs.Common.{◌≡◌, [], Option, Some, None, option_and_then, option_map, ap, refl, sym, ◌∙◌}
+use Rattle.std.specs.BTreeMap.{insert_entry}
+use Rattle.json.specs.Find.{as_object}
+use Rattle.json.specs.Json.{Json, null, boolean, number, string, array, object, Members, no_members, member}
+use Rattle.cedar_json.specs.Words.{Pairs, Tree, entries_in, entries_of, field_or, optional, pairs_in, pairs_of, text_cmp, unless_null, value_of}
+use Rattle.cedar_json.proofs.ValueLemmas.{pairs_of-member, pairs_of-none}
 
 -- what a field holds that isn't null
 pub unless_null-held : (o : Option Json) (k : Json) → unless_null o ≡ Some k → o ≡ Some k
@@ -14,11 +16,32 @@ unless_null-held (Some (string s)) k e = e
 unless_null-held (Some (array js)) k e = e
 unless_null-held (Some (object ms)) k e = e
 
--- the tree that a value stands for
-abbrev pub tree_in : CedarValue → Tree
-tree_in value = tree_of (value_expr value)
+-- members that are entries under their keys are the pairs that they describe
+entries_of-pairs : (ms : Members) (before : Pairs) → entries_of text_cmp Some value_of ms before ≡ pairs_of ms before
+entries_of-pairs no_members before = sym (pairs_of-none before)
+entries_of-pairs (member key j rest) before =
+    by (λ value. entries_of-pairs rest (insert_entry text_cmp before key value)) (value_of j)
+    ∙ sym (pairs_of-member key j rest before)
+  where
+    with_value : Tree → Pairs
+    with_value value = insert_entry text_cmp before key value
 
--- a value with the tree of an expression stands for what it is made of
-pub tree_made : (o : Option Tree) (value : CedarValue) (expr : RestrictedExpr) → o ≡ Some (tree_of expr) → value_expr value ≡ expr
-    → o ≡ Some (tree_in value)
-tree_made o value expr is made = is ∙ ap (λ e. Some (tree_of e)) (sym made)
+    by : ((value : Tree) → entries_of text_cmp Some value_of rest (with_value value) ≡ pairs_of rest (with_value value))
+        → (o : Option Tree) → option_and_then (λ value. entries_of text_cmp Some value_of rest (with_value value)) o
+        ≡ option_and_then (λ value. pairs_of rest (with_value value)) o
+    by others None = refl
+    by others (Some value) = others value
+
+entries_in-pairs : (o : Option Members)
+    → option_and_then (λ ms. entries_of text_cmp Some value_of ms []) o ≡ option_and_then (λ ms. pairs_of ms []) o
+entries_in-pairs None = refl
+entries_in-pairs (Some ms) = entries_of-pairs ms []
+
+-- what a field describes as entries it describes as pairs
+pub optional-pairs : (held : Option Json) → optional (entries_in text_cmp Some value_of) held ≡ optional pairs_in held
+optional-pairs held = by (unless_null held)
+  where
+    by : (o : Option Json) → field_or None (λ j. option_map Some (entries_in text_cmp Some value_of j)) o
+        ≡ field_or None (λ j. option_map Some (pairs_in j)) o
+    by None = refl
+    by (Some j) = ap (option_map Some) (entries_in-pairs (as_object j))

@@ -75,10 +75,14 @@ some_begun : {A : Type 0} (o : Option A) (rest : Option (List A))
 some_begun None rest e = absurd (cc)
 some_begun (Some first) rest e = some_first first rest e
 
--- where no item describes anything there is none
-pub all_of-nothing : {A : Type 0} (f : Json → Option A) (js : Items) → all_of f js ≡ Some [] → js ≡ no_items
+all_of-nothing : {A : Type 0} (f : Json → Option A) (js : Items) → all_of f js ≡ Some [] → js ≡ no_items
 all_of-nothing f no_items e = refl
 all_of-nothing f (item j rest) e = absurd (some_begun (f j) (all_of f rest) e)
+
+-- where the items of an array describe nothing there is none
+pub none_listed : {A : Type 0} (f : Json → Option A) (o : Option Items) → option_and_then (all_of f) o ≡ Some [] → o ≡ Some no_items
+none_listed f None e = absurd (cc)
+none_listed f (Some js) e = ap Some (all_of-nothing f js e)
 
 -- a list without length has no items
 pub no_length : {A : Type 0} (xs : List A) → length xs ≡ 0 → xs ≡ []

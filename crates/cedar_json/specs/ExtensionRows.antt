@@ -1,5 +1,6 @@
 -- The table from which Cedar's extensions are made.
 use Rattle.std.specs.Prelude.{◌≡◌, List, [], ◌∷◌, Some, map, ⊤}
+use Rattle.std.specs.Borrow.{Bor}
 use Rattle.std.specs.BTreeMap.{insert_entry}
 use Rattle.cedar_below.specs.Words.{CoreTy, PlainName, Text, core_extension, core_long, core_text, core_truth, name_cmp}
 use Rattle.cedar_json.specs.CedarExtensions.{Signature, unqualified}
@@ -11,6 +12,11 @@ use Rattle.cedar_json.specs.declared.extensions.Row.{Row}
 -- the text spells a name without a path that isn't reserved
 abbrev pub SpellsName : Text → Type 0
 SpellsName base = plain_name_in base ≡ Some (unqualified base)
+
+-- and so do all texts of a list
+abbrev pub AreNames : List (Bor Text) → Type 0
+AreNames [] = ⊤
+AreNames (name ∷ rest) = SpellsName name.now × AreNames rest
 
 -- the type of a kind
 abbrev pub kind_type : Kind → CoreTy

@@ -8,7 +8,7 @@ pub use Rattle.cedar_below.specs.declared.name_fault.NameFault.{NameFault}
 pub use Rattle.cedar_below.specs.declared.name_fault.NameFault.TheVariants.{NoCommonType, NotAName, Reserved}
 pub use Rattle.cedar_below.specs.declared.unreserved_id.UnreservedId.{UnreservedId}
 pub use Rattle.cedar_below.specs.declared.value.RestrictedExpr.{RestrictedExpr, fold-roll-RestrictedExpr, roll-RestrictedExpr}
-pub use Rattle.cedar_names.specs.Words.{Expr, attribute_step, common_type_text, members_from, plain_members, raw_attribute, raw_expr, raw_name, raw_record, raw_reference, raw_variant, record_expr, record_step, reserved_type_words, set_expr, type_step, variant_step}
+pub use Rattle.cedar_names.specs.Words.{Expr, Reference, Requests, attribute_step, common_type_text, members_from, plain_members, raw_attribute, raw_expr, raw_name, raw_record, raw_reference, raw_variant, record_expr, record_step, reserved_type_words, set_expr, type_step, variant_step}
 pub use Rattle.cedar_names.specs.declared.json_schema.common_type_id.CommonTypeId.{CommonTypeId}
 pub use Rattle.cedar_names.specs.declared.json_schema.raw_name.RawName.{RawName}
 pub use Rattle.cedar_names.specs.declared.json_schema.reference_type.ReferenceType.TheVariants.{Common, Entity}
@@ -17,9 +17,9 @@ pub use Rattle.cedar_names.specs.declared.json_schema.type_of.Type.{«Type»}
 pub use Rattle.cedar_names.specs.declared.json_schema.type_of.TypeOfAttribute.{TypeOfAttribute, fold-roll-TypeOfAttribute, roll-TypeOfAttribute}
 pub use Rattle.cedar_json.specs.ActionFormat.{WrittenAction, WrittenParent, action_by, action_of, optional, pairs_in, parent_by, parent_of, parents_of, requests_by, requests_of, unless_null, written_action, written_pairs, written_parent, written_requests}
 pub use Rattle.cedar_json.specs.CedarExtensions.{Signature, cedar_function, cedar_type_names, signature, signatures, unqualified}
-pub use Rattle.cedar_json.specs.DefinitionFormat.{WrittenDefinition, WrittenFragment, actions_in, common_key, common_type_of, common_types_in, definition_by, definition_of, entity_types_in, entries_of, fragment_of, id_key, namespace_key, written_actions, written_common_types, written_definition, written_entity_types, written_fragment, written_namespaces}
+pub use Rattle.cedar_json.specs.DefinitionFormat.{WrittenDefinition, WrittenFragment, actions_in, common_key, common_type_of, common_types_in, definition_by, definition_of, entity_types_in, entries_in, entries_of, fragment_of, id_key, namespace_key, written_actions, written_common_types, written_definition, written_entity_types, written_fragment, written_namespaces}
 pub use Rattle.cedar_json.specs.EntityFormat.{WrittenEntity, at_least_one, body_by, choices_in, empty_record, entity_by, entity_of, entity_reference, parents_in, references_in, shape_in, standard_by, standard_of, tags_in, written_entity, written_kind}
-pub use Rattle.cedar_json.specs.ExtensionRows.{AreKinds, AreRows, IsKind, IsRow, SpellsName, inserted, kind_type, row_signature}
+pub use Rattle.cedar_json.specs.ExtensionRows.{AreKinds, AreNames, AreRows, IsKind, IsRow, SpellsName, inserted, kind_type, row_signature}
 pub use Rattle.cedar_json.specs.Fields.{IsOther, annotations_fit, are_annotations, flag_or, further_fields, has_only, is_among, is_text_or_null, keys_among, known_fields, nth_member, own_fields, text_held, texts_of, type_fields, type_word}
 pub use Rattle.cedar_json.specs.Lists.{all_of, field_or}
 pub use Rattle.cedar_json.specs.Place.{IsFault, IsTrueOf, member_at, step_into}

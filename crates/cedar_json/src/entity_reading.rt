@@ -1,18 +1,18 @@
 //! Reading declarations of entity types.
 
-ghost use Rattle.std.specs.Prelude.{◌≡◌, ◌≢◌, Some, None, MatchResult, IfErr, codes, map, option_map};
+ghost use Rattle.std.specs.Prelude.{◌≡◌, ◌≢◌, Option, Some, None, MatchResult, IfErr, codes, map, option_map};
 ghost use Rattle.json.specs.Find.{as_str, get};
-ghost use Rattle.json.specs.Json.{array};
-ghost use Rattle.json.specs.Value.{items_view, value_view};
-ghost use Rattle.cedar_json.specs.Words.{Entity, IsTrueOf, all_of, body_by, choices_in, eid_text, empty_record, entity_of, entity_reference, items_of, parents_in, raw_expr, raw_record, raw_reference, references_in, shape_in, standard_of, tags_in, written_entity, written_kind};
+ghost use Rattle.json.specs.Value.{value_view};
+ghost use Rattle.cedar_json.specs.Words.{Entity, IsTrueOf, Reference, Text, WrittenEntity, body_by, choices_in, eid_text, empty_record, entity_of, entity_reference, items_of, raw_expr, raw_record, raw_reference, shape_in, standard_of, tags_in, written_entity, written_kind};
 ghost use Rattle.cedar_names.specs.declared.json_schema.entity_type.EntityTypeKind.TheVariants as kind;
 
 use crate::annotations::check_annotations;
+use crate::described::{Described, field_or_else};
 use crate::fault::{Fault, FaultKind, Row};
-use crate::fields::{array_items, check_fields, flag_field, text};
+use crate::fields::{check_fields, flag_field, text};
 use crate::place_table::Cursor;
 use crate::spelling::read_name;
-use crate::type_reading::{plain_type, read_type};
+use crate::type_reading::plain_type;
 use cedar_below::{Eid, NonEmpty};
 use cedar_names::json_schema::{
     AttributesOrContext, EntityType, EntityTypeKind, RawName, RecordType, StandardEntityType, Type,
@@ -22,116 +22,51 @@ use json::Value;
 use std::alloc::Global;
 use std::collections::BTreeMap;
 
-/// The name of an entity type that a value spells.
-pub(crate) fn read_reference(
-    alloc: Global,
-    value: &Value<'_>,
-    cursor: Cursor<'_>,
-) -> Result<RawName, Fault>
-    ensures value { MatchResult result
-        (λ name. entity_reference (value_view value.now) ≡ Some (raw_reference None Entity name))
-        (λ fault. fault ≢ Fault.Memory → entity_reference (value_view value.now) ≡ None) }
-    ensures place { IfErr result (λ fault. IsTrueOf fault (value_view value.now)) }
-{
-    let text = text(alloc, value)?;
-    read_name(alloc, text, cursor.loc())
-}
+impl Described for RawName {
+    ghost Plain = { Reference };
 
-/// The names of entity types that some values spell.
-fn read_reference_items(
-    alloc: Global,
-    items: &Vec<Value<'_>>,
-    cursor: Cursor<'_>,
-) -> Result<Vec<RawName>, Fault>
-    ensures value { MatchResult result
-        (λ names. all_of entity_reference (items_view items.now.items)
-        ≡ Some (map (raw_reference None Entity) names.items))
-        (λ fault. fault ≢ Fault.Memory → all_of entity_reference (items_view items.now.items)
-        ≡ None) }
-    ensures place { IfErr result (λ fault. IsTrueOf fault (array (items_view items.now.items))) }
-{
-    let mut names = Vec::new(alloc);
-    let mut at = cursor.first();
-    for (index, item) in items.iter().enumerate() {
-        match read_reference(alloc, item, at) {
-            Ok(name) => names.push(name)?,
-            Err(fault) => return Err(fault.in_item(index)),
-        }
-        at = at.next();
+    ghost describes = { entity_reference };
+
+    ghost shown = { raw_reference None Entity };
+
+    /// The name of an entity type that a value spells.
+    fn read(alloc: Global, value: &Value<'_>, cursor: Cursor<'_>) -> Result<RawName, Fault> {
+        let text = text(alloc, value)?;
+        read_name(alloc, text, cursor.loc())
     }
-    Ok(names)
 }
 
-/// The names of entity types that an array lists.
-pub(crate) fn read_references(
-    alloc: Global,
-    value: &Value<'_>,
-    cursor: Cursor<'_>,
-) -> Result<Vec<RawName>, Fault>
-    ensures value { MatchResult result
-        (λ names. references_in (value_view value.now)
-        ≡ Some (map (raw_reference None Entity) names.items))
-        (λ fault. fault ≢ Fault.Memory → references_in (value_view value.now) ≡ None) }
-    ensures place { IfErr result (λ fault. IsTrueOf fault (value_view value.now)) }
-{
-    let items = array_items(alloc, value)?;
-    read_reference_items(alloc, items, cursor)
-}
+impl Described for Eid {
+    ghost Plain = { Text };
 
-/// The ids that some values are.
-fn read_id_items(alloc: Global, items: &Vec<Value<'_>>) -> Result<Vec<Eid>, Fault>
-    ensures value { MatchResult result
-        (λ ids. all_of as_str (items_view items.now.items) ≡ Some (map eid_text ids.items))
-        (λ fault. fault ≢ Fault.Memory → all_of as_str (items_view items.now.items) ≡ None) }
-    ensures place { IfErr result (λ fault. IsTrueOf fault (array (items_view items.now.items))) }
-{
-    let mut ids = Vec::new(alloc);
-    for (index, item) in items.iter().enumerate() {
-        match text(alloc, item) {
-            Ok(id) => ids.push(Eid(String::from_str(alloc, id)?))?,
-            Err(fault) => return Err(fault.in_item(index)),
-        }
+    ghost describes = { as_str };
+
+    ghost shown = { eid_text };
+
+    /// The id that a value is.
+    fn read(alloc: Global, value: &Value<'_>, _cursor: Cursor<'_>) -> Result<Eid, Fault> {
+        let id = text(alloc, value)?;
+        Ok(Eid(String::from_str(alloc, id)?))
     }
-    Ok(ids)
 }
 
 /// The ids that an array lists, at least one.
-fn read_choices(alloc: Global, value: &Value<'_>) -> Result<NonEmpty<Eid>, Fault>
+fn read_choices(
+    alloc: Global,
+    value: &Value<'_>,
+    cursor: Cursor<'_>,
+) -> Result<NonEmpty<Eid>, Fault>
     ensures value { MatchResult result
         (λ choices. choices_in (value_view value.now) ≡ Some (map eid_text (items_of choices)))
         (λ fault. fault ≢ Fault.Memory → choices_in (value_view value.now) ≡ None) }
     ensures place { IfErr result (λ fault. IsTrueOf fault (value_view value.now)) }
 {
-    let items = array_items(alloc, value)?;
-    let mut ids = read_id_items(alloc, items)?;
+    let mut ids = Vec::<Eid>::read(alloc, value, cursor)?;
     if ids.is_empty() {
         return Err(Fault::here(alloc, FaultKind::NoChoices));
     }
     let head = ids.remove(0);
     Ok(NonEmpty { head, tail: ids })
-}
-
-/// The parents that the field `memberOfTypes` lists; none where it is absent.
-fn parents_field(
-    alloc: Global,
-    value: &Value<'_>,
-    cursor: Cursor<'_>,
-) -> Result<Vec<RawName>, Fault>
-    ensures value { MatchResult result
-        (λ names. parents_in (get (codes "memberOfTypes") (value_view value.now))
-        ≡ Some (map (raw_reference None Entity) names.items))
-        (λ fault. fault ≢ Fault.Memory
-        → parents_in (get (codes "memberOfTypes") (value_view value.now)) ≡ None) }
-    ensures place { IfErr result (λ fault. IsTrueOf fault (value_view value.now)) }
-{
-    let name = "memberOfTypes";
-    match value.get(name) {
-        None => Ok(Vec::new(alloc)),
-        Some(held) => match read_references(alloc, held, cursor.field(value, name)) {
-            Ok(names) => Ok(names),
-            Err(fault) => Err(fault.within(name)),
-        },
-    }
 }
 
 /// The type of a shape or a context that a field describes; the closed record without attributes
@@ -147,16 +82,9 @@ pub(crate) fn shape_field(
         (λ fault. fault ≢ Fault.Memory → shape_in (get name.now (value_view value.now)) ≡ None) }
     ensures place { IfErr result (λ fault. IsTrueOf fault (value_view value.now)) }
 {
-    match value.get(name) {
-        None => {
-            let record = TypeVariant::Record(empty_record(alloc));
-            Ok(AttributesOrContext(plain_type(record, None)))
-        }
-        Some(held) => match read_type(alloc, held, cursor.field(value, name)) {
-            Ok(ty) => Ok(AttributesOrContext(ty)),
-            Err(fault) => Err(fault.within(name)),
-        },
-    }
+    let absent = plain_type(TypeVariant::Record(empty_record(alloc)), None);
+    let ty = field_or_else(alloc, value, name, absent, cursor)?;
+    Ok(AttributesOrContext(ty))
 }
 
 /// The closed record type without attributes.
@@ -185,7 +113,7 @@ fn tags_field(
     let name = "tags";
     match value.get(name) {
         None => Ok(None),
-        Some(held) => match read_type(alloc, held, cursor.field(value, name)) {
+        Some(held) => match Type::read(alloc, held, cursor.field(value, name)) {
             Ok(ty) => Ok(Some(ty)),
             Err(fault) => Err(fault.within(name)),
         },
@@ -203,7 +131,7 @@ fn read_standard(
         (λ fault. fault ≢ Fault.Memory → standard_of (value_view value.now) ≡ None) }
     ensures place { IfErr result (λ fault. IsTrueOf fault (value_view value.now)) }
 {
-    let member_of_types = parents_field(alloc, value, cursor)?;
+    let member_of_types = field_or_else(alloc, value, "memberOfTypes", Vec::new(alloc), cursor)?;
     let shape = shape_field(alloc, value, "shape", cursor)?;
     let tags = tags_field(alloc, value, cursor)?;
     Ok(StandardEntityType {
@@ -231,29 +159,32 @@ fn read_kind(
         return Ok(EntityTypeKind::Standard(read_standard(alloc, value, cursor)?));
     };
     check_fields(alloc, value, Row::OfEnumeratedType)?;
-    match read_choices(alloc, held) {
+    match read_choices(alloc, held, cursor.field(value, "enum")) {
         Ok(choices) => Ok(EntityTypeKind::Enum { choices }),
         Err(fault) => Err(fault.within("enum")),
     }
 }
 
-/// The declaration of an entity type that a value describes.
-pub(crate) fn read_entity_type(
-    alloc: Global,
-    value: &Value<'_>,
-    cursor: Cursor<'_>,
-) -> Result<EntityType<RawName>, Fault>
-    ensures value { MatchResult result
-        (λ it. entity_of (value_view value.now) ≡ Some (written_entity it))
-        (λ fault. fault ≢ Fault.Memory → entity_of (value_view value.now) ≡ None) }
-    ensures place { IfErr result (λ fault. IsTrueOf fault (value_view value.now)) }
-{
-    let external = flag_field(alloc, value, "external", false)?;
-    check_annotations(alloc, value)?;
-    let kind = read_kind(alloc, value, cursor)?;
-    Ok(EntityType {
-        kind,
-        external,
-        loc: cursor.key_loc(),
-    })
+impl Described for EntityType<RawName> {
+    ghost Plain = { WrittenEntity };
+
+    ghost describes = { entity_of };
+
+    ghost shown = { written_entity };
+
+    /// The declaration of an entity type that a value describes.
+    fn read(
+        alloc: Global,
+        value: &Value<'_>,
+        cursor: Cursor<'_>,
+    ) -> Result<EntityType<RawName>, Fault> {
+        let external = flag_field(alloc, value, "external", false)?;
+        check_annotations(alloc, value)?;
+        let kind = read_kind(alloc, value, cursor)?;
+        Ok(EntityType {
+            kind,
+            external,
+            loc: cursor.key_loc(),
+        })
+    }
 }

@@ -1,7 +1,7 @@
 //! The extensions of Cedar.
 
 ghost use Rattle.std.specs.Prelude.{◌≡◌, [], IfOk, map, option_map};
-ghost use Rattle.cedar_json.specs.Words.{AreKinds, AreRows, IsKind, IsRow, PlainName, SpellsName, TypeNamesFit, cedar_function, cedar_type_names, core_ty_of, extension_types, function_named, inserted, kind_type, name_cmp, plain_name, row_signature, signature, signatures, unqualified};
+ghost use Rattle.cedar_json.specs.Words.{AreKinds, AreNames, AreRows, IsKind, IsRow, PlainName, SpellsName, TypeNamesFit, cedar_function, cedar_type_names, core_ty_of, extension_types, function_named, inserted, kind_type, name_cmp, plain_name, row_signature, signature, signatures, texts_of, unqualified};
 
 use crate::fault::Fault;
 use crate::spelling::read_plain_name;
@@ -47,6 +47,9 @@ macro_rules! row {
         Row { name: $name, arguments: &[$($argument),*], result: $result }
     };
 }
+
+/// The names of Cedar's extension types.
+const TYPES: &[&str] = &["ipaddr", "decimal", "datetime", "duration"];
 
 /// The functions of Cedar's extension types.
 const FUNCTIONS: &[Row] = &[
@@ -139,15 +142,16 @@ fn functions_of(alloc: Global, rows: &[Row]) -> M<BTreeMap<Name, ExtensionFuncti
     Ok(all)
 }
 
-/// The names of Cedar's extension types.
-fn type_names(alloc: Global) -> M<Vec<Name>>
-    ensures { IfOk result (λ names. map plain_name names.items ≡ cedar_type_names) }
+/// The names that some texts spell.
+fn names_of(alloc: Global, texts: &[&str]) -> M<Vec<Name>>
+    requires { AreNames texts.now }
+    ensures { IfOk result (λ names. map plain_name names.items
+        ≡ map unqualified (texts_of texts.now)) }
 {
     let mut names = Vec::new(alloc);
-    names.push(spelled(alloc, "ipaddr")?)?;
-    names.push(spelled(alloc, "decimal")?)?;
-    names.push(spelled(alloc, "datetime")?)?;
-    names.push(spelled(alloc, "duration")?)?;
+    for text in texts {
+        names.push(spelled(alloc, *text)?)?;
+    }
     Ok(names)
 }
 
@@ -160,5 +164,5 @@ pub fn cedar_extensions(alloc: Global) -> M<Extensions>
     ensures fit { IfOk result (λ it. TypeNamesFit (extension_types it)) }
 {
     let functions = functions_of(alloc, FUNCTIONS)?;
-    Ok(Extensions::new(type_names(alloc)?, functions))
+    Ok(Extensions::new(names_of(alloc, TYPES)?, functions))
 }

@@ -98,7 +98,7 @@ pub enum FaultKind {
 }
 
 /// Why a JSON value is refused, or out of memory.
-#[derive(Debug, Drop)]
+#[derive(Drop)]
 pub(crate) enum Fault {
     /// What is wrong with the value to which the steps lead, the last of them first.
     At(Vec<Step>, FaultKind),

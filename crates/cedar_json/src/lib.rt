@@ -9,6 +9,7 @@
 mod action_reading;
 mod annotations;
 mod definition_reading;
+mod described;
 mod entity_reading;
 mod extensions;
 mod fault;

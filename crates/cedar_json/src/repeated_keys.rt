@@ -1,11 +1,10 @@
 //! Keys that come twice in an object.
 
 ghost use Rattle.std.specs.Prelude.{◌≡◌, ◌≢◌, Some, IfErr, IfOk, MatchOption, OnOk};
-ghost use Rattle.json.specs.Find.{at};
 ghost use Rattle.json.specs.Json.{Json, array, object};
 ghost use Rattle.json.specs.Strict.{AreDistinct, HasUniqueKeys, ItemsHaveUniqueKeys, MembersHaveUniqueKeys, keys};
 ghost use Rattle.json.specs.Value.{items_view, members_view, value_view};
-ghost use Rattle.cedar_json.specs.Words.{IsRepeatIn, IsRepeated, Text, member_at, step_into};
+ghost use Rattle.cedar_json.specs.Words.{IsRepeatIn, IsRepeated, step_into};
 
 use crate::fault::Step;
 use cedar_below::{M, Memory};
@@ -36,21 +35,6 @@ impl Repeat {
             },
             Repeat::Memory => Repeat::Memory,
         }
-    }
-
-    /// The same repeat, seen from the object that has the member.
-    fn in_member(self, index: usize) -> Repeat
-        ensures { (j : Json) (m : Text × Json) → member_at index j ≡ Some m
-            → IsRepeatIn self m.1 → IsRepeatIn result j }
-    {
-        self.behind(Step::Member(index))
-    }
-
-    /// The same repeat, seen from the array that has the item.
-    fn in_item(self, index: usize) -> Repeat
-        ensures { (j k : Json) → at index j ≡ Some k → IsRepeatIn self k → IsRepeatIn result j }
-    {
-        self.behind(Step::Item(index))
     }
 }
 
@@ -103,7 +87,7 @@ fn check_items(alloc: Global, items: &Vec<Value<'_>>) -> Result<(), Repeat>
     for (index, item) in items.iter().enumerate() {
         match check_keys(alloc, item) {
             Ok(()) => {}
-            Err(repeat) => return Err(repeat.in_item(index)),
+            Err(repeat) => return Err(repeat.behind(Step::Item(index))),
         }
     }
     Ok(())
@@ -132,7 +116,7 @@ fn check_members(alloc: Global, members: &Vec<(&str, Value<'_>)>) -> Result<(), 
     for (index, member) in members.iter().enumerate() {
         match check_keys(alloc, &member.1) {
             Ok(()) => {}
-            Err(repeat) => return Err(repeat.in_member(index)),
+            Err(repeat) => return Err(repeat.behind(Step::Member(index))),
         }
     }
     Ok(())

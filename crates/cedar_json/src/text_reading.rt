@@ -6,7 +6,7 @@ ghost use Rattle.json.specs.Strict.{HasUniqueKeys};
 ghost use Rattle.json.specs.Value.{value_view};
 ghost use Rattle.cedar_json.specs.Words.{Describes, IsFaultOf, WrittenFragment, fragment_of, written_fragment};
 
-use crate::definition_reading::read_fragment;
+use crate::described::Described;
 use crate::fault::{Fault, FaultKind};
 use crate::place_table::Places;
 use crate::repeated_keys::{Repeat, check_keys};
@@ -107,8 +107,8 @@ fn fragment_in(
     let Ok(places) = Places::of(alloc, text, source) else {
         return Err(JsonSchemaFault::Memory);
     };
-    match read_fragment(alloc, value, places.cursor()) {
-        Ok(fragment) => Ok(fragment),
+    match Described::read(alloc, value, places.cursor()) {
+        Ok(namespaces) => Ok(Fragment(namespaces)),
         Err(Fault::At(steps, fault)) => {
             match place_at(alloc, value, places.cursor(), steps, faulty_key(fault)) {
                 Ok(at) => Err(JsonSchemaFault::OutOfShape { at, fault }),

@@ -3,9 +3,10 @@
 ghost use Rattle.std.specs.Prelude.{◌≡◌, ◌≢◌, [], Some, None, MatchResult, IfErr, codes, option_and_then, option_map};
 ghost use Rattle.json.specs.Json.{object};
 ghost use Rattle.json.specs.Value.{value_view, members_view};
-ghost use Rattle.cedar_json.specs.Words.{Common, IsTrueOf, additional_field, attribute_of, attributes_field, attributes_of, element_field, extension_in, plain_members, raw_attribute, raw_expr, raw_name, raw_variant, record_of, reference_in, set_expr, spelled_name, text_held, type_by_word, type_of, type_with};
+ghost use Rattle.cedar_json.specs.Words.{Common, Expr, IsTrueOf, additional_field, attribute_of, attributes_field, attributes_of, element_field, extension_in, plain_members, raw_attribute, raw_expr, raw_name, raw_variant, record_of, reference_in, set_expr, spelled_name, text_held, type_by_word, type_of, type_with};
 
 use crate::annotations::check_annotations;
+use crate::described::Described;
 use crate::fault::{Fault, Row};
 use crate::fields::{check_fields, field, flag_field, object_field, text_field};
 use crate::place_table::Cursor;
@@ -84,18 +85,17 @@ fn common_type(
     }
 }
 
-/// The type that a JSON value describes.
-pub(crate) fn read_type(
-    alloc: Global,
-    value: &Value<'_>,
-    cursor: Cursor<'_>,
-) -> Result<Type<RawName>, Fault>
-    ensures value { MatchResult result
-        (λ ty. type_of (value_view value.now) ≡ Some (raw_expr None ty))
-        (λ fault. fault ≢ Fault.Memory → type_of (value_view value.now) ≡ None) }
-    ensures place { IfErr result (λ fault. IsTrueOf fault (value_view value.now)) }
-{
-    read_type_of(alloc, value, Row::OfType, cursor)
+impl Described for Type<RawName> {
+    ghost Plain = { Expr };
+
+    ghost describes = { type_of };
+
+    ghost shown = { raw_expr None };
+
+    /// The type that a JSON value describes.
+    fn read(alloc: Global, value: &Value<'_>, cursor: Cursor<'_>) -> Result<Type<RawName>, Fault> {
+        read_type_of(alloc, value, Row::OfType, cursor)
+    }
 }
 
 /// The type that an object of a kind describes.

@@ -1,11 +1,12 @@
-use Rattle.std.proofs.Common.{codes, sym}
+use Rattle.std.proofs.Common.{◌≡◌, ◌≢◌, MatchResult, None, Some, codes, option_map, subst}
 use Rattle.json.specs.Find.{get}
 use Rattle.json.specs.Value.{value_view}
-use Rattle.cedar_json.proofs.ActionLemmas.{unless_null-held}
+use Rattle.cedar_json.specs.Words.{written_pairs}
+use Rattle.cedar_json.specs.declared.fault.Fault.TheVariants.{Memory}
+use Rattle.cedar_json.proofs.ActionLemmas.{optional-pairs}
 use Rattle.cedar_json.proofs.action_reading.attributes_field.Goals as goal
 
-pub returns-in-Err-clause-place : goal.returns-in-Err-clause-place
-returns-in-Err-clause-place c =
-    let j = value_view c.args.value.now in
-    let k = value_view c.in-Some.held.now in
-    c.within.ensures.place j k (unless_null-held (get (codes "attributes") j) k (sym c.in-Some.ensures)) c.in-Err.ensures.place
+pub returns-clause-value : goal.returns-clause-value
+returns-clause-value c =
+    subst (λ held. MatchResult c.optional_field.result (λ all. held ≡ Some (option_map written_pairs all)) (λ fault. fault ≢ Memory → held ≡ None))
+    (optional-pairs (get (codes "attributes") (value_view c.args.value.now))) c.optional_field.ensures.value

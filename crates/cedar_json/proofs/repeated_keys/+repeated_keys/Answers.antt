@@ -1,3 +1,4 @@
+use Rattle.std.proofs.Common.{Some, ap, option_and_then}
 use Rattle.json.specs.Json.{array, object}
 use Rattle.json.specs.Value.{items_view, members_view, value_view}
 use Rattle.cedar_json.proofs.FieldLemmas.{nth_member-is}
@@ -9,11 +10,11 @@ check_items-returns-in-Err-clause-place t c =
     let x = c.item-item.result in
     let here = get_item-is c.deref-item-items.result.now c.args.items.now.items c.loop-index.index x c.deref-item-items.ensures.value
     c.loop-index-test.true c.item-item.is in
-    c.in_item.ensures (array (items_view c.args.items.now.items)) (value_view x) here c.in-Err.ensures.place
+    c.behind.ensures (array (items_view c.args.items.now.items)) (value_view x) here c.in-Err.ensures.place
 
 pub check_members-returns-in-Err-clause-place : goal.check_members-returns-in-Err-clause-place
 check_members-returns-in-Err-clause-place t c =
     let x = c.member-item.result in
     let here = nth_member-is c.deref-member-items.result.now c.args.members.now.items c.loop-index.index x c.deref-member-items.ensures.value
     c.loop-index-test.true c.member-item.is in
-    c.in_member.ensures (object (members_view c.args.members.now.items)) (x.0.now, value_view x.1) here c.in-Err.ensures.place
+    c.behind.ensures (object (members_view c.args.members.now.items)) (value_view x.1) (ap (option_and_then (λ m. Some m.1)) here) c.in-Err.ensures.place

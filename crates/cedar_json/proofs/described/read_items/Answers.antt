@@ -1,36 +1,35 @@
-use Rattle.std.proofs.Common.{None, rules}
+use Rattle.std.proofs.Common.{rules}
 use Rattle.json.specs.Json.{array}
 use Rattle.json.specs.Value.{items_view, value_view}
-use Rattle.cedar_json.specs.Words.{Entity, entity_reference, raw_reference}
 use Rattle.cedar_json.proofs.ListLemmas.{all_made, get_item-is, item_more, items_from_index, no_item}
-use Rattle.cedar_json.proofs.entity_reading.read_reference_items.Goals as goal
+use Rattle.cedar_json.proofs.described.read_items.Goals as goal
 
 pub returns-in-Err-clause-value : goal.returns-in-Err-clause-value
-returns-in-Err-clause-value c =
+returns-in-Err-clause-value g c =
     let x = c.item-item.result in
     let all = c.args.items.now.items in
     let here = items_from_index c.deref-item-items.result.now all c.loop-index.index x c.deref-item-items.ensures.value c.loop-index-test.true
     c.item-item.is in
-    λ other. no_item entity_reference (raw_reference None Entity) all c.loop-index.index x c.loop-index.names.items here c.loop-index.invariant
+    λ other. no_item g.T.Described.describes g.T.Described.shown all c.loop-index.index x c.loop-index.all.items here c.loop-index.invariant
     (c.in-Err.ensures.value (c.in_item.ensures.memory other))
 
 pub returns-in-Err-clause-place : goal.returns-in-Err-clause-place
-returns-in-Err-clause-place c =
+returns-in-Err-clause-place g c =
     let x = c.item-item.result in
     let here = get_item-is c.deref-item-items.result.now c.args.items.now.items c.loop-index.index x c.deref-item-items.ensures.value
     c.loop-index-test.true c.item-item.is in
     c.in_item.ensures.place (array (items_view c.args.items.now.items)) (value_view x) here c.in-Err.ensures.place
 
 pub loop-index-preserved : goal.loop-index-preserved
-loop-index-preserved c =
+loop-index-preserved g c =
     let x = c.item-item.result in
     let all = c.args.items.now.items in
     let here = items_from_index c.deref-item-items.result.now all c.loop-index.index x c.deref-item-items.ensures.value c.loop-index-test.true
     c.item-item.is in
-    item_more entity_reference (raw_reference None Entity) all c.loop-index.index x c.loop-index.names.items here c.loop-index.invariant c.in-Ok.name c.push.new.self.items
+    item_more g.T.Described.describes g.T.Described.shown all c.loop-index.index x c.loop-index.all.items here c.loop-index.invariant c.in-Ok.it c.push.new.self.items
     c.in-Ok.ensures.value (search rules)
 
 pub returns-clause-value : goal.returns-clause-value
-returns-clause-value c =
-    all_made entity_reference (raw_reference None Entity) c.deref-item-items.result.now c.args.items.now.items c.loop-index.index c.loop-index.names.items
+returns-clause-value g c =
+    all_made g.T.Described.describes g.T.Described.shown c.deref-item-items.result.now c.args.items.now.items c.loop-index.index c.loop-index.all.items
     c.deref-item-items.ensures.value c.loop-index-test.false c.loop-index.invariant

@@ -1,6 +1,6 @@
 use Rattle.std.proofs.Common.{◌≢◌, Some, ap, arith, length, option_map, sym, ◌∙◌}
 use Rattle.cedar_json.proofs.NameLemmas.{namespace_key-name, no_plain_name, plain_name_in-none, plain_name_in-read, plain_name_in-reserved, reserved_name}
-use Rattle.cedar_json.proofs.definition_reading.read_namespace_key.Goals as goal
+use Rattle.cedar_json.proofs.definition_reading.OptionNameKey.read_key.Goals as goal
 
 pub returns-in-Ok-clause-value : goal.returns-in-Ok-clause-value
 returns-in-Ok-clause-value c =

@@ -1,0 +1,219 @@
+//! What JSON values describe, read by one trait for each kind of declaration.
+
+ghost use Rattle.std.specs.Prelude.{◌≡◌, ◌≢◌, [], List, Option, Some, None, MatchResult, IfErr, map, option_and_then, option_map};
+ghost use Rattle.std.specs.declared.cmp.Ordering.{Ordering};
+ghost use Rattle.json.specs.Find.{as_array, get};
+ghost use Rattle.json.specs.Json.{Json, array, object};
+ghost use Rattle.json.specs.Value.{items_view, members_view, value_view};
+ghost use Rattle.cedar_json.specs.Words.{IsTrueOf, Text, all_of, entries_in, entries_of, field_or, member_at, optional, unless_null};
+
+use crate::fault::{Fault, FaultKind, Wanted};
+use crate::fields::{array_items, field, members_of};
+use crate::place_table::Cursor;
+use cedar_below::put;
+use json::Value;
+use std::alloc::Global;
+use std::collections::BTreeMap;
+
+/// What a JSON value describes.
+///
+/// The ghost members are what contracts speak of: the plain data, that of a JSON value, and that of
+/// what is read.
+pub(crate) trait Described: Sized {
+    ghost Plain: { Type 0 };
+
+    ghost describes: { Json → Option Plain };
+
+    ghost shown: { Self → Plain };
+
+    /// What the value describes.
+    fn read(alloc: Global, value: &Value<'_>, cursor: Cursor<'_>) -> Result<Self, Fault>
+        ensures value { MatchResult result
+            (λ it. describes (value_view value.now) ≡ Some (shown it))
+            (λ fault. fault ≢ Fault.Memory → describes (value_view value.now) ≡ None) }
+        ensures place { IfErr result (λ fault. IsTrueOf fault (value_view value.now)) };
+}
+
+/// What a key of an object stands for, under which a map holds what the member describes.
+///
+/// The ghost members are the plain data of keys with their order, what a text stands for, and what
+/// a key does.
+pub(crate) trait Key: Ord {
+    ghost PlainKey: { Type 0 };
+
+    ghost order: { PlainKey → PlainKey → Ordering };
+
+    ghost key_of: { Text → Option PlainKey };
+
+    ghost shown_key: { Self → PlainKey };
+
+    /// What the key of the member at an index stands for.
+    fn read_key(alloc: Global, key: &str, index: usize, cursor: Cursor<'_>) -> Result<Self, Fault>
+    where
+        Self: Sized,
+        ensures value { MatchResult result
+            (λ it. key_of key.now ≡ Some (shown_key it))
+            (λ fault. fault ≢ Fault.Memory → key_of key.now ≡ None) }
+        ensures place { IfErr result (λ fault. (j held : Json) → member_at index j
+            ≡ Some (key.now, held)
+            → IsTrueOf fault j) };
+
+    ghost same_order: { (a b : Self) → Self.cmp a b ≡ order (shown_key a) (shown_key b) };
+}
+
+/// What some members describe.
+fn read_entries<K: Key + Drop, T: Described + Drop>(
+    alloc: Global,
+    members: &Vec<(&str, Value<'_>)>,
+    cursor: Cursor<'_>,
+) -> Result<BTreeMap<K, T>, Fault>
+    ensures value { MatchResult result
+        (λ all. entries_of K.order K.key_of T.describes (members_view members.now.items) []
+        ≡ Some (map (λ entry. (K.shown_key entry.0, T.shown entry.1)) all.entries))
+        (λ fault. fault ≢ Fault.Memory
+        → entries_of K.order K.key_of T.describes (members_view members.now.items) [] ≡ None) }
+    ensures place { IfErr result
+        (λ fault. IsTrueOf fault (object (members_view members.now.items))) }
+{
+    let mut all = BTreeMap::new(alloc);
+    let mut at = cursor.first();
+    for (index, member) in members.iter().enumerate() {
+        let key = K::read_key(alloc, member.0, index, at)?;
+        match T::read(alloc, &member.1, at) {
+            Ok(it) => put(&mut all, key, it)?,
+            Err(fault) => return Err(fault.in_member(index)),
+        }
+        at = at.next();
+    }
+    Ok(all)
+}
+
+/// What some items describe.
+fn read_items<T: Described + Drop>(
+    alloc: Global,
+    items: &Vec<Value<'_>>,
+    cursor: Cursor<'_>,
+) -> Result<Vec<T>, Fault>
+    ensures value { MatchResult result
+        (λ all. all_of T.describes (items_view items.now.items) ≡ Some (map T.shown all.items))
+        (λ fault. fault ≢ Fault.Memory → all_of T.describes (items_view items.now.items) ≡ None) }
+    ensures place { IfErr result (λ fault. IsTrueOf fault (array (items_view items.now.items))) }
+{
+    let mut all = Vec::new(alloc);
+    let mut at = cursor.first();
+    for (index, item) in items.iter().enumerate() {
+        match T::read(alloc, item, at) {
+            Ok(it) => all.push(it)?,
+            Err(fault) => return Err(fault.in_item(index)),
+        }
+        at = at.next();
+    }
+    Ok(all)
+}
+
+impl<T: Described + Drop> Described for Vec<T> {
+    ghost Plain = { List T.Plain };
+
+    ghost describes = { λ j. option_and_then (all_of T.describes) (as_array j) };
+
+    ghost shown = { λ all. map T.shown all.items };
+
+    fn read(alloc: Global, value: &Value<'_>, cursor: Cursor<'_>) -> Result<Vec<T>, Fault> {
+        let items = array_items(alloc, value)?;
+        read_items::<T>(alloc, items, cursor)
+    }
+}
+
+impl<K: Key + Drop, T: Described + Drop> Described for BTreeMap<K, T> {
+    ghost Plain = { List (K.PlainKey × T.Plain) };
+
+    ghost describes = { entries_in K.order K.key_of T.describes };
+
+    ghost shown = { λ all. map (λ entry. (K.shown_key entry.0, T.shown entry.1)) all.entries };
+
+    fn read(alloc: Global, value: &Value<'_>, cursor: Cursor<'_>) -> Result<BTreeMap<K, T>, Fault> {
+        match members_of(value) {
+            Some(members) => read_entries::<K, T>(alloc, members, cursor),
+            None => Err(Fault::here(alloc, FaultKind::Wants(Wanted::Object))),
+        }
+    }
+}
+
+/// What a field describes.
+pub(crate) fn described_field<T: Described + Drop>(
+    alloc: Global,
+    value: &Value<'_>,
+    name: &'static str,
+    cursor: Cursor<'_>,
+) -> Result<T, Fault>
+    ensures value { MatchResult result
+        (λ it. option_and_then T.describes (get name.now (value_view value.now))
+        ≡ Some (T.shown it))
+        (λ fault. fault ≢ Fault.Memory
+        → option_and_then T.describes (get name.now (value_view value.now)) ≡ None) }
+    ensures place { IfErr result (λ fault. IsTrueOf fault (value_view value.now)) }
+{
+    let held = field(alloc, value, name)?;
+    match T::read(alloc, held, cursor.field(value, name)) {
+        Ok(it) => Ok(it),
+        Err(fault) => Err(fault.within(name)),
+    }
+}
+
+/// What a field describes that may be absent, with what its absence means.
+pub(crate) fn field_or_else<T: Described + Drop>(
+    alloc: Global,
+    value: &Value<'_>,
+    name: &'static str,
+    absent: T,
+    cursor: Cursor<'_>,
+) -> Result<T, Fault>
+    ensures value { MatchResult result
+        (λ it. field_or (T.shown absent) T.describes (get name.now (value_view value.now))
+        ≡ Some (T.shown it))
+        (λ fault. fault ≢ Fault.Memory
+        → field_or (T.shown absent) T.describes (get name.now (value_view value.now)) ≡ None) }
+    ensures place { IfErr result (λ fault. IsTrueOf fault (value_view value.now)) }
+{
+    match value.get(name) {
+        None => Ok(absent),
+        Some(held) => match T::read(alloc, held, cursor.field(value, name)) {
+            Ok(it) => Ok(it),
+            Err(fault) => Err(fault.within(name)),
+        },
+    }
+}
+
+/// What a field holds, where `null` stands for absence.
+fn written<'v, 'a>(value: &'v Value<'a>, name: &str) -> Option<&'v Value<'a>>
+    ensures { option_map (λ held. value_view held.now) result
+        ≡ unless_null (get name.now (value_view value.now)) }
+{
+    match value.get(name) {
+        Some(Value::Null) => None,
+        held => held,
+    }
+}
+
+/// What a field describes that may be absent or `null`, or None there.
+pub(crate) fn optional_field<T: Described + Drop>(
+    alloc: Global,
+    value: &Value<'_>,
+    name: &'static str,
+    cursor: Cursor<'_>,
+) -> Result<Option<T>, Fault>
+    ensures value { MatchResult result
+        (λ it. optional T.describes (get name.now (value_view value.now))
+        ≡ Some (option_map T.shown it))
+        (λ fault. fault ≢ Fault.Memory
+        → optional T.describes (get name.now (value_view value.now)) ≡ None) }
+    ensures place { IfErr result (λ fault. IsTrueOf fault (value_view value.now)) }
+{
+    match written(value, name) {
+        None => Ok(None),
+        Some(held) => match T::read(alloc, held, cursor.field(value, name)) {
+            Ok(it) => Ok(Some(it)),
+            Err(fault) => Err(fault.within(name)),
+        },
+    }
+}
