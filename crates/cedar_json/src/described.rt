@@ -99,7 +99,7 @@ fn read_items<T: Described + Drop>(
         (λ fault. fault ≢ Fault.Memory → all_of T.describes (items_view items.now.items) ≡ None) }
     ensures place { IfErr result (λ fault. IsTrueOf fault (array (items_view items.now.items))) }
 {
-    let mut all = Vec::new(alloc);
+    let mut all = Vec::with_capacity(alloc, items.len())?;
     let mut at = cursor.first();
     for (index, item) in items.iter().enumerate() {
         match T::read(alloc, item, at) {

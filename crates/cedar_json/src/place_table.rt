@@ -10,6 +10,9 @@ use cedar_below::{Loc, M};
 use json::{Reader, Scratch, Token, Value};
 use std::alloc::Global;
 
+/// How many bytes a text has for each value in it, about. A text without blanks has fewer.
+const BYTES_A_VALUE: usize = 24;
+
 /// Some bytes of a text, from the first of them up to the one after the last.
 #[derive(Clone, Copy)]
 struct Span {
@@ -110,7 +113,7 @@ impl Places {
         let mut scratch = Scratch::new(alloc);
         let mut reader = Reader::new(text, &mut scratch)?;
         let mut listing = Listing {
-            entries: Vec::new(alloc),
+            entries: Vec::with_capacity(alloc, text.len() / BYTES_A_VALUE)?,
             open: Vec::new(alloc),
             key: None,
         };
