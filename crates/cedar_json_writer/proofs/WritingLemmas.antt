@@ -1,11 +1,33 @@
 -- Tokens that are written one after another, and what is free of flaws.
-use Rattle.std.proofs.Common.{◌≡◌, List, [], ◌∷◌, ◌++◌, Some, None, ap, sym, subst, ◌∙◌, append_assoc}
+use Rattle.std.proofs.Common.{◌≡◌, List, [], ◌∷◌, ◌++◌, Err, IfErr, Ok, OnOk, Result, Some, None, ap, sym, subst, ◌∙◌, append_assoc}
 use Rattle.std.proofs.lemmas.List.Elements.{Contains-append_left, Contains-append_right}
 use Rattle.json.specs.Json.{Json, array, object, Items, no_items, item, Members, no_members, member}
 use Rattle.json.specs.Token.{Token, begin_array, begin_object, end_array, end_object, key}
 use Rattle.json.specs.Tree.{items_tokens, json_tokens, members_tokens}
-use Rattle.cedar_json_writer.specs.Words.{AddsField, AddsFields, AddsValue, Flaw, IsFlawOf, IsFree, Text, WriteFault, flaw_of}
+use Rattle.cedar_json_writer.specs.Words.{AddsField, AddsFields, AddsValue, Flaw, IsChecked, IsFlawOf, IsFree, Text, WriteFault, flaw_of}
 use Rattle.cedar_json_writer.specs.declared.fault.WriteFault.TheVariants as fault
+
+-- what follows from the clause of a success is one too
+pub on_ok : {A E P Q : Type 0} (r : Result A E) → OnOk r P → (P → Q) → OnOk r Q
+on_ok (Ok a) is so = so is
+on_ok (Err e) is so = tt
+
+-- want of memory is no flaw, so it is one of any list
+pub memory_flaw : {A : Type 0} (flaws : List Flaw) (r : Result A WriteFault) → IfErr r (λ f. f ≡ fault.Memory) → IfErr r (IsFlawOf flaws)
+memory_flaw flaws (Ok a) is = tt
+memory_flaw flaws (Err f) is = subst (IsFlawOf flaws) (sym is) tt
+
+-- what is free before a step that only memory may stop is checked behind it
+pub checked : {A : Type 0} {flaws : List Flaw} {Sound : Type 0} (r : Result A WriteFault) → IfErr r (λ f. f ≡ fault.Memory) → IsFree flaws Sound
+    → IsChecked r flaws Sound
+checked (Ok a) is free = free
+checked {A} {flaws} (Err f) is free = subst (IsFlawOf flaws) (sym is) tt
+
+-- what is checked of a part is checked of what has the part's flaws and is sound where it is
+pub checked_as : {A : Type 0} {one all : List Flaw} {SoundOne Sound : Type 0} (r : Result A WriteFault) → IsChecked r one SoundOne
+    → (IsFree one SoundOne → IsFree all Sound) → ((f : WriteFault) → IsFlawOf one f → IsFlawOf all f) → IsChecked r all Sound
+checked_as (Ok a) is free flaw = free is
+checked_as (Err f) is free flaw = flaw f is
 
 -- a flaw of the first of two lists is one of both
 pub flaw_left : (xs ys : List Flaw) (f : WriteFault) → IsFlawOf xs f → IsFlawOf (xs ++ ys) f
@@ -28,6 +50,11 @@ field_added old keyed new name j named added rest =
     ap (λ l. l ++ members_tokens rest) (added ∙ ap (λ l. l ++ json_tokens j) named)
     ∙ append_assoc (old ++ key name ∷ []) (json_tokens j) (members_tokens rest)
     ∙ append_assoc old (key name ∷ []) (json_tokens j ++ members_tokens rest)
+
+-- so it is where the value is the last that is written
+pub field_by : {A E : Type 0} (r : Result A E) (old keyed new : List Token) (name : Text) (j : Json) → keyed ≡ old ++ key name ∷ []
+    → OnOk r (AddsValue keyed new j) → OnOk r (AddsField old new name (Some j))
+field_by r old keyed new name j named added = on_ok r added (λ is. field_added old keyed new name j named is)
 
 -- nothing is a field that is left out
 pub field_absent : (old new : List Token) (name : Text) → new ≡ old → AddsField old new name None

@@ -6,7 +6,7 @@ ghost use Rattle.cedar_json_writer.specs.Words.{AddsField, AddsValue, IfThere, I
 
 use crate::entity_types::write_shape_field;
 use crate::fault::WriteFault;
-use crate::fields::{write_flag, write_name_field, write_names, write_text_field};
+use crate::fields::{close_object, write_flag, write_name_field, write_names, write_text_field};
 use crate::values::write_attribute_values;
 use cedar_below::{M, Value};
 use cedar_names::json_schema::{ActionEntityUID, ActionType, ApplySpec, RawName};
@@ -63,8 +63,7 @@ fn write_member_of_field(
         return Ok(());
     };
     out.token(Token::Key("memberOf"))?;
-    write_parents(alloc, out, parents)?;
-    Ok(())
+    write_parents(alloc, out, parents)
 }
 
 /// Writes the object of the requests that an action is for.
@@ -84,8 +83,7 @@ fn write_requests(
     out.token(Token::Key("resourceTypes"))?;
     write_names(alloc, out, &it.resource_types)?;
     write_shape_field(alloc, out, "context", &it.context.0)?;
-    out.token(Token::EndObject)?;
-    Ok(())
+    close_object(out)
 }
 
 /// Writes the field for the requests that an action is for, where they are written.
@@ -104,8 +102,7 @@ fn write_applies_to_field(
         return Ok(());
     };
     out.token(Token::Key("appliesTo"))?;
-    write_requests(alloc, out, it)?;
-    Ok(())
+    write_requests(alloc, out, it)
 }
 
 /// Writes the field for attributes, where some are written.
@@ -124,8 +121,7 @@ fn write_attributes_field(
         return Ok(());
     };
     out.token(Token::Key("attributes"))?;
-    write_attribute_values(alloc, out, values)?;
-    Ok(())
+    write_attribute_values(alloc, out, values)
 }
 
 /// Writes the object of an action.
@@ -144,6 +140,5 @@ pub(crate) fn write_action(
     write_member_of_field(alloc, out, &it.member_of)?;
     write_attributes_field(alloc, out, &it.attributes)?;
     write_flag(out, "external", false, it.external)?;
-    out.token(Token::EndObject)?;
-    Ok(())
+    close_object(out)
 }

@@ -8,6 +8,7 @@ ghost use Rattle.cedar_json_writer.specs.Words.{AddsField, AddsValue, IsChecked,
 use crate::actions::write_action;
 use crate::entity_types::write_entity_type;
 use crate::fault::WriteFault;
+use crate::fields::close_object;
 use crate::types::write_type;
 use cedar_below::{M, Name, UnreservedId};
 use cedar_names::json_schema::{
@@ -33,8 +34,7 @@ fn write_common_types(
         out.token(Token::Key(id.as_str()))?;
         write_type(alloc, out, &it.ty)?;
     }
-    out.token(Token::EndObject)?;
-    Ok(())
+    close_object(out)
 }
 
 /// Writes the field for common types, where there are some.
@@ -52,8 +52,7 @@ fn write_common_types_field(
         return Ok(());
     }
     out.token(Token::Key("commonTypes"))?;
-    write_common_types(alloc, out, all)?;
-    Ok(())
+    write_common_types(alloc, out, all)
 }
 
 /// Writes the object of entity types.
@@ -74,8 +73,7 @@ fn write_entity_types(
         out.token(Token::Key(id.as_str()))?;
         write_entity_type(alloc, out, it)?;
     }
-    out.token(Token::EndObject)?;
-    Ok(())
+    close_object(out)
 }
 
 /// Writes the object of actions.
@@ -94,8 +92,7 @@ fn write_actions(
         out.token(Token::Key(id.as_str()))?;
         write_action(alloc, out, it)?;
     }
-    out.token(Token::EndObject)?;
-    Ok(())
+    close_object(out)
 }
 
 /// Writes the object of a definition.
@@ -115,8 +112,7 @@ fn write_definition(
     out.token(Token::Key("actions"))?;
     write_actions(alloc, out, &it.actions)?;
     write_common_types_field(alloc, out, &it.common_types)?;
-    out.token(Token::EndObject)?;
-    Ok(())
+    close_object(out)
 }
 
 /// Writes the key of a namespace.
@@ -150,6 +146,5 @@ pub(crate) fn write_fragment(
         write_namespace_key(alloc, out, name)?;
         write_definition(alloc, out, definition)?;
     }
-    out.token(Token::EndObject)?;
-    Ok(())
+    close_object(out)
 }

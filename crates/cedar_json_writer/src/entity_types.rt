@@ -5,7 +5,7 @@ ghost use Rattle.cedar_json_writer.specs.Words.{AddsField, AddsFields, AddsValue
 ghost use Rattle.cedar_names.specs.declared.json_schema.entity_type.EntityTypeKind.TheVariants as kind;
 
 use crate::fault::WriteFault;
-use crate::fields::{write_flag, write_ids, write_names};
+use crate::fields::{close_object, write_flag, write_ids, write_names};
 use crate::types::write_type;
 use cedar_below::M;
 use cedar_names::json_schema::{
@@ -56,8 +56,7 @@ pub(crate) fn write_shape_field(
         return Ok(());
     }
     out.token(Token::Key(name))?;
-    write_type(alloc, out, ty)?;
-    Ok(())
+    write_type(alloc, out, ty)
 }
 
 /// Writes the field for parents, where there are some.
@@ -69,8 +68,7 @@ fn write_parents_field(alloc: Global, out: &mut Pretty, parents: &Vec<RawName>) 
         return Ok(());
     }
     out.token(Token::Key("memberOfTypes"))?;
-    write_names(alloc, out, parents)?;
-    Ok(())
+    write_names(alloc, out, parents)
 }
 
 /// Writes the field for the type of the tags, where there is one.
@@ -88,8 +86,7 @@ fn write_tags_field(
         return Ok(());
     };
     out.token(Token::Key("tags"))?;
-    write_type(alloc, out, ty)?;
-    Ok(())
+    write_type(alloc, out, ty)
 }
 
 /// Writes the fields of an entity type that lists no ids.
@@ -105,8 +102,7 @@ fn write_standard(
 {
     write_parents_field(alloc, out, &it.member_of_types)?;
     write_shape_field(alloc, out, "shape", &it.shape.0)?;
-    write_tags_field(alloc, out, &it.tags)?;
-    Ok(())
+    write_tags_field(alloc, out, &it.tags)
 }
 
 /// Writes the fields of an entity type but for `external`.
@@ -144,6 +140,5 @@ pub(crate) fn write_entity_type(
     out.token(Token::BeginObject)?;
     write_kind(alloc, out, &it.kind)?;
     write_flag(out, "external", false, it.external)?;
-    out.token(Token::EndObject)?;
-    Ok(())
+    close_object(out)
 }

@@ -1,15 +1,26 @@
 //! Fields and arrays that are written.
 
-ghost use Rattle.std.specs.Prelude.{◌≡◌, ◌++◌, ◌∷◌, [], Some, None, OnOk, map};
+ghost use Rattle.std.specs.Prelude.{◌≡◌, ◌++◌, ◌∷◌, [], Some, None, OnOk, IfErr, map};
 ghost use Rattle.json.specs.Json.{string};
+ghost use Rattle.json.specs.Token.{end_object};
 ghost use Rattle.json.specs.Tree.{items_tokens};
 ghost use Rattle.json.specs.Value.{items_of as spec_items};
 ghost use Rattle.cedar_json_writer.specs.Words.{AddsField, AddsValue, Entity, eid_text, flag_held, items_of, name_of, name_text, raw_reference, reference_array, text_array};
 
+use crate::fault::WriteFault;
 use cedar_below::{Eid, InternalName, M, NonEmpty};
 use cedar_names::json_schema::RawName;
 use json::{Pretty, Token};
 use std::alloc::Global;
+
+/// Writes the bracket that closes an object.
+pub(crate) fn close_object(out: &mut Pretty) -> Result<(), WriteFault>
+    ensures written { OnOk result (out.new ≡ out.old ++ end_object ∷ []) }
+    ensures fault { IfErr result (λ fault. fault ≡ WriteFault.Memory) }
+{
+    out.token(Token::EndObject)?;
+    Ok(())
+}
 
 /// Writes a field that holds a text.
 pub(crate) fn write_text_field(out: &mut Pretty, name: &str, text: &str) -> M<()>

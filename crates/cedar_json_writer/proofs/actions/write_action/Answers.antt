@@ -1,8 +1,23 @@
+use Rattle.std.proofs.Common.{option_map}
 use Rattle.cedar_json.specs.ActionFormat.{written_action}
-use Rattle.cedar_json_writer.proofs.WrittenActions.{action_free, groups_sound}
+use Rattle.cedar_json_writer.specs.Words.{flag_held, pairs_document, parent_array, requests_document}
+use Rattle.cedar_json_writer.proofs.WritingLemmas.{checked, on_ok}
+use Rattle.cedar_json_writer.proofs.WrittenActions.{action_added, action_free, groups_sound}
+use Rattle.std.proofs.Common.{false as no}
 use Rattle.cedar_json_writer.proofs.actions.write_action.Goals as goal
+
+pub returns-clause-written : goal.returns-clause-written
+returns-clause-written c =
+    let it = written_action c.args.it.now in
+    on_ok c.close_object.result c.close_object.ensures.written
+    (λ ended. action_added c.args.out.now c.token.new.self c.write_applies_to_field.new.out c.write_member_of_field.new.out
+    c.write_attributes_field.new.out c.write_flag.new.out c.close_object.new.out (option_map requests_document it.applies_to)
+    (option_map parent_array it.member_of) (option_map pairs_document it.attributes) (flag_held no it.external) c.in_ok-token.ensures.ok
+    c.in_ok-write_applies_to_field.ensures.written c.in_ok-write_member_of_field.ensures c.in_ok-write_attributes_field.ensures.written
+    c.in_ok-write_flag.ensures ended)
 
 pub returns-clause-checked : goal.returns-clause-checked
 returns-clause-checked c =
-    action_free (written_action c.args.it.now) c.in_ok-write_applies_to_field.ensures.checked (groups_sound c.args.it.now.member_of)
-    c.in_ok-write_attributes_field.ensures.checked
+    checked c.close_object.result c.close_object.ensures.fault
+    (action_free (written_action c.args.it.now) c.in_ok-write_applies_to_field.ensures.checked (groups_sound c.args.it.now.member_of)
+    c.in_ok-write_attributes_field.ensures.checked)

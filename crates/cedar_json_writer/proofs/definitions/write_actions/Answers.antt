@@ -4,7 +4,7 @@ use Rattle.json.specs.Token.{key}
 use Rattle.cedar_json_writer.proofs.WrittenDefinitions.{declarations_free, declared_shape}
 use Rattle.std.proofs.Common.{Global, Some as some, String, string_bytes, string_cmp}
 use Rattle.cedar_json_writer.specs.Words.{SoundAction, Text, action_document, action_flaws, written_action}
-use Rattle.cedar_json_writer.proofs.WritingLemmas.{member_flaw, members_added, members_free, turn}
+use Rattle.cedar_json_writer.proofs.WritingLemmas.{checked, member_flaw, members_added, members_free, on_ok, turn}
 use Rattle.cedar_json_writer.proofs.definitions.write_actions.Goals as goal
 
 pub loop-id-preserved : goal.loop-id-preserved
@@ -16,14 +16,14 @@ loop-id-preserved c =
 
 pub returns-clause-written : goal.returns-clause-written
 returns-clause-written c =
-    members_added (declared_shape {K = String Global} string_bytes (λ (id : Text). id) written_action action_document action_flaws SoundAction) c.args.out.now c.token.new.self c.loop-id.out c.token-2.new.self
-    c.args.all.now.entries c.loop-id.id-iterator c.loop-id.invariant c.in-None.ensures.steps.0 c.in_ok-token.ensures.ok c.in_ok-token-3.ensures.ok
+    on_ok c.close_object.result c.close_object.ensures.written (λ ended. members_added (declared_shape {K = String Global} string_bytes (λ (id : Text). id) written_action action_document action_flaws SoundAction) c.args.out.now c.token.new.self c.loop-id.out c.close_object.new.out
+    c.args.all.now.entries c.loop-id.id-iterator c.loop-id.invariant c.in-None.ensures.steps.0 c.in_ok-token.ensures.ok ended)
 
 pub returns-clause-checked : goal.returns-clause-checked
 returns-clause-checked c =
-    declarations_free {K = String Global} string_bytes written_action action_document action_flaws SoundAction some (λ id. refl) string_cmp (λ a b. refl) c.args.all.now.entries c.into_iter-id-iterator.ensures.into_iter_gives.5
+    checked c.close_object.result c.close_object.ensures.fault (declarations_free {K = String Global} string_bytes written_action action_document action_flaws SoundAction some (λ id. refl) string_cmp (λ a b. refl) c.args.all.now.entries c.into_iter-id-iterator.ensures.into_iter_gives.5
     (members_free (declared_shape {K = String Global} string_bytes (λ (id : Text). id) written_action action_document action_flaws SoundAction) c.token.new.self c.loop-id.out c.args.all.now.entries c.loop-id.id-iterator c.loop-id.invariant
-    c.in-None.ensures.steps.0)
+    c.in-None.ensures.steps.0))
 
 pub returns-in_err-write_action-clause-checked : goal.returns-in_err-write_action-clause-checked
 returns-in_err-write_action-clause-checked c =

@@ -6,7 +6,7 @@ use Rattle.cedar_json_writer.specs.Words.{CommonType, RawName, SoundType, Text, 
 use Rattle.cedar_names.specs.contracts.json_schema.common_type_id.CommonTypeIdOrd.TheImpl as common_type_ord
 use Rattle.cedar_json.proofs.NameLemmas.{common_key-read}
 use Rattle.std.proofs.Common.{None as nothing}
-use Rattle.cedar_json_writer.proofs.WritingLemmas.{member_flaw, members_added, members_free, turn}
+use Rattle.cedar_json_writer.proofs.WritingLemmas.{checked, member_flaw, members_added, members_free, on_ok, turn}
 use Rattle.cedar_json_writer.proofs.definitions.write_common_types.Goals as goal
 
 pub loop-id-preserved : goal.loop-id-preserved
@@ -18,14 +18,14 @@ loop-id-preserved c =
 
 pub returns-clause-written : goal.returns-clause-written
 returns-clause-written c =
-    members_added (declared_shape common_type_text (λ (id : Text). id) (λ (it : CommonType RawName). raw_expr nothing it.ty) type_document type_flaws SoundType) c.args.out.now c.token.new.self c.loop-id.out c.token-2.new.self
-    c.args.all.now.entries c.loop-id.id-iterator c.loop-id.invariant c.in-None.ensures.steps.0 c.in_ok-token.ensures.ok c.in_ok-token-3.ensures.ok
+    on_ok c.close_object.result c.close_object.ensures.written (λ ended. members_added (declared_shape common_type_text (λ (id : Text). id) (λ (it : CommonType RawName). raw_expr nothing it.ty) type_document type_flaws SoundType) c.args.out.now c.token.new.self c.loop-id.out c.close_object.new.out
+    c.args.all.now.entries c.loop-id.id-iterator c.loop-id.invariant c.in-None.ensures.steps.0 c.in_ok-token.ensures.ok ended)
 
 pub returns-clause-checked : goal.returns-clause-checked
 returns-clause-checked c =
-    declarations_free common_type_text (λ (it : CommonType RawName). raw_expr nothing it.ty) type_document type_flaws SoundType common_key (λ id. common_key-read id (common_type_text id) refl) ((common_type_ord.ghosts).cmp) (λ a b. refl) c.args.all.now.entries c.into_iter-id-iterator.ensures.into_iter_gives.5
+    checked c.close_object.result c.close_object.ensures.fault (declarations_free common_type_text (λ (it : CommonType RawName). raw_expr nothing it.ty) type_document type_flaws SoundType common_key (λ id. common_key-read id (common_type_text id) refl) ((common_type_ord.ghosts).cmp) (λ a b. refl) c.args.all.now.entries c.into_iter-id-iterator.ensures.into_iter_gives.5
     (members_free (declared_shape common_type_text (λ (id : Text). id) (λ (it : CommonType RawName). raw_expr nothing it.ty) type_document type_flaws SoundType) c.token.new.self c.loop-id.out c.args.all.now.entries c.loop-id.id-iterator c.loop-id.invariant
-    c.in-None.ensures.steps.0)
+    c.in-None.ensures.steps.0))
 
 pub returns-in_err-write_type-clause-checked : goal.returns-in_err-write_type-clause-checked
 returns-in_err-write_type-clause-checked c =

@@ -5,7 +5,7 @@ use Rattle.cedar_json_writer.proofs.WrittenDefinitions.{declarations_free, decla
 use Rattle.cedar_json_writer.specs.Words.{SoundBody, Text, WrittenEntity, body_flaws, entity_type_document, id_key, unreserved_id_text, written_entity}
 use Rattle.cedar_below.specs.contracts.unreserved_id.UnreservedIdOrd.TheImpl as unreserved_id_ord
 use Rattle.cedar_json_writer.proofs.WrittenTypes.{id_key-read}
-use Rattle.cedar_json_writer.proofs.WritingLemmas.{member_flaw, members_added, members_free, turn}
+use Rattle.cedar_json_writer.proofs.WritingLemmas.{checked, member_flaw, members_added, members_free, on_ok, turn}
 use Rattle.cedar_json_writer.proofs.definitions.write_entity_types.Goals as goal
 
 pub loop-id-preserved : goal.loop-id-preserved
@@ -17,14 +17,14 @@ loop-id-preserved c =
 
 pub returns-clause-written : goal.returns-clause-written
 returns-clause-written c =
-    members_added (declared_shape unreserved_id_text (λ (id : Text). id) written_entity entity_type_document (λ (it : WrittenEntity). body_flaws it.body) (λ (it : WrittenEntity). SoundBody it.body)) c.args.out.now c.token.new.self c.loop-id.out c.token-2.new.self
-    c.args.all.now.entries c.loop-id.id-iterator c.loop-id.invariant c.in-None.ensures.steps.0 c.in_ok-token.ensures.ok c.in_ok-token-3.ensures.ok
+    on_ok c.close_object.result c.close_object.ensures.written (λ ended. members_added (declared_shape unreserved_id_text (λ (id : Text). id) written_entity entity_type_document (λ (it : WrittenEntity). body_flaws it.body) (λ (it : WrittenEntity). SoundBody it.body)) c.args.out.now c.token.new.self c.loop-id.out c.close_object.new.out
+    c.args.all.now.entries c.loop-id.id-iterator c.loop-id.invariant c.in-None.ensures.steps.0 c.in_ok-token.ensures.ok ended)
 
 pub returns-clause-checked : goal.returns-clause-checked
 returns-clause-checked c =
-    declarations_free unreserved_id_text written_entity entity_type_document (λ (it : WrittenEntity). body_flaws it.body) (λ (it : WrittenEntity). SoundBody it.body) id_key id_key-read ((unreserved_id_ord.ghosts).cmp) (λ a b. refl) c.args.all.now.entries c.into_iter-id-iterator.ensures.into_iter_gives.5
+    checked c.close_object.result c.close_object.ensures.fault (declarations_free unreserved_id_text written_entity entity_type_document (λ (it : WrittenEntity). body_flaws it.body) (λ (it : WrittenEntity). SoundBody it.body) id_key id_key-read ((unreserved_id_ord.ghosts).cmp) (λ a b. refl) c.args.all.now.entries c.into_iter-id-iterator.ensures.into_iter_gives.5
     (members_free (declared_shape unreserved_id_text (λ (id : Text). id) written_entity entity_type_document (λ (it : WrittenEntity). body_flaws it.body) (λ (it : WrittenEntity). SoundBody it.body)) c.token.new.self c.loop-id.out c.args.all.now.entries c.loop-id.id-iterator c.loop-id.invariant
-    c.in-None.ensures.steps.0)
+    c.in-None.ensures.steps.0))
 
 pub returns-in_err-write_entity_type-clause-checked : goal.returns-in_err-write_entity_type-clause-checked
 returns-in_err-write_entity_type-clause-checked c =

@@ -2,7 +2,7 @@ use Rattle.std.proofs.Common.{◌++◌, ◌∷◌, [], List, ℕ, ap, subst, ◌
 use Rattle.std.proofs.lemmas.Result.{err_from_is_err_and}
 use Rattle.json.specs.Token.{key}
 use Rattle.cedar_json_writer.specs.Words.{AddsValue, IsFlawOf, RestrictedExpr, Tree, Value, tree_of, value_document, value_expr, value_flaws}
-use Rattle.cedar_json_writer.proofs.WritingLemmas.{member_flaw, members_added, members_free, turn}
+use Rattle.cedar_json_writer.proofs.WritingLemmas.{checked, member_flaw, members_added, members_free, on_ok, turn}
 use Rattle.cedar_json_writer.proofs.WrittenValues.{FreeValue, pairs_free, pairs_shape}
 use Rattle.cedar_json_writer.proofs.values.write_attribute_values.Goals as goal
 
@@ -23,15 +23,15 @@ loop-name-preserved c =
 
 pub returns-clause-written : goal.returns-clause-written
 returns-clause-written c =
-    members_added (pairs_shape view) c.args.out.now c.token.new.self c.loop-name.out c.token-2.new.self
+    on_ok c.close_object.result c.close_object.ensures.written (λ ended. members_added (pairs_shape view) c.args.out.now c.token.new.self c.loop-name.out c.close_object.new.out
     c.args.values.now.entries c.loop-name.name-iterator c.loop-name.invariant
-    c.in-None.ensures.steps.0 c.in_ok-token.ensures.ok c.in_ok-token-3.ensures.ok
+    c.in-None.ensures.steps.0 c.in_ok-token.ensures.ok ended)
 
 pub returns-clause-checked : goal.returns-clause-checked
 returns-clause-checked c =
-    pairs_free view c.args.values.now.entries c.into_iter-name-iterator.ensures.into_iter_gives.5
+    checked c.close_object.result c.close_object.ensures.fault (pairs_free view c.args.values.now.entries c.into_iter-name-iterator.ensures.into_iter_gives.5
     (members_free (pairs_shape view) c.token.new.self c.loop-name.out c.args.values.now.entries c.loop-name.name-iterator c.loop-name.invariant
-    c.in-None.ensures.steps.0)
+    c.in-None.ensures.steps.0))
 
 pub returns-in_err-write_value-clause-checked : goal.returns-in_err-write_value-clause-checked
 returns-in_err-write_value-clause-checked c =
