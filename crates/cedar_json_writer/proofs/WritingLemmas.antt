@@ -1,5 +1,5 @@
 -- Tokens that are written one after another, and what is free of flaws.
-use Rattle.std.proofs.Common.{◌≡◌, List, [], ◌∷◌, ◌++◌, Err, IfErr, Ok, OnOk, Result, Some, None, ap, sym, subst, ◌∙◌, append_assoc}
+use Rattle.std.proofs.Common.{◌≡◌, List, [], ◌∷◌, ◌++◌, Err, IfErr, Ok, OnOk, Result, Some, None, ap, refl, sym, subst, ◌∙◌, append_assoc}
 use Rattle.std.proofs.lemmas.List.Elements.{Contains-append_left, Contains-append_right}
 use Rattle.json.specs.Json.{Json, array, object, Items, no_items, item, Members, no_members, member}
 use Rattle.json.specs.Token.{Token, begin_array, begin_object, end_array, end_object, key}
@@ -72,6 +72,12 @@ object_added old opened inside new fields begun added ended =
     ended ∙ added no_members ∙ ap (λ l. l ++ members_tokens (fields no_members)) begun
     ∙ append_assoc old (begin_object ∷ []) (members_tokens (fields no_members))
 
+-- an object that is written behind its key is a field
+pub object_by : (old opened new : List Token) (name : Text) (j : Json) → opened ≡ old ++ key name ∷ begin_object ∷ []
+    → (opened ≡ (old ++ key name ∷ []) ++ begin_object ∷ [] → AddsValue (old ++ key name ∷ []) new j) → AddsField old new name (Some j)
+object_by old opened new name j begun added =
+    field_added old (old ++ key name ∷ []) new name j refl (added (begun ∙ sym (append_assoc old (key name ∷ []) (begin_object ∷ []))))
+
 -- a list whose items are written each under a text: its members, what can't be written of it, and what makes it sound
 pub record MembersShape (E : Type 0) : Type 1 where
   pub members : List E → Members
@@ -104,15 +110,21 @@ module _ {E : Type 0} (shape : MembersShape E) where
   }
 
   -- after one more
-  pub turn : (old now keyed new : List Token) (all left rest : List E) (e : E) → SoFar shape old now all left → left ≡ e ∷ rest
-      → keyed ≡ now ++ key (shape.text e) ∷ [] → AddsValue keyed new (shape.document e) → IsFree (shape.flaws_of e) (shape.SoundOne e)
-      → SoFar shape old new all rest
-  turn old now keyed new all left rest e so_far is named added free = record {
+  pub turn : (old now new : List Token) (all left rest : List E) (e : E) → SoFar shape old now all left → left ≡ e ∷ rest
+      → AddsField now new (shape.text e) (Some (shape.document e)) → IsFree (shape.flaws_of e) (shape.SoundOne e) → SoFar shape old new all rest
+  turn old now new all left rest e so_far is added free = record {
     tokens = so_far.tokens ∙ ap (λ es. now ++ members_tokens (shape.members es)) is ∙ ap (λ ms. now ++ members_tokens ms) (shape.one_more e rest)
-        ∙ sym (field_added now keyed new (shape.text e) (shape.document e) named added (shape.members rest));
+        ∙ sym (added (shape.members rest));
     same_flaws = so_far.same_flaws ∙ ap shape.flaws is ∙ shape.more_flaws e rest ∙ ap (λ xs. xs ++ shape.flaws rest) free.flawless;
     sound = λ it. so_far.sound (subst shape.Sound (sym is) (shape.more_sound e rest free.sound it));
   }
+
+  -- after a key with a value
+  pub turn_by : (old now keyed new : List Token) (all left rest : List E) (e : E) → SoFar shape old now all left → left ≡ e ∷ rest
+      → keyed ≡ now ++ key (shape.text e) ∷ [] → AddsValue keyed new (shape.document e) → IsFree (shape.flaws_of e) (shape.SoundOne e)
+      → SoFar shape old new all rest
+  turn_by old now keyed new all left rest e so_far is named added free =
+      turn old now new all left rest e so_far is (field_added now keyed new (shape.text e) (shape.document e) named added) free
 
   -- where none is left
   pub members_added : (old opened now new : List Token) (all left : List E) → SoFar shape opened now all left → left ≡ []

@@ -40,8 +40,7 @@ fn write_tags(
     if tags.is_empty() {
         return Ok(());
     }
-    out.token(Token::Key("tags"))?;
-    write_attribute_values(alloc, out, tags)
+    write_attribute_values(alloc, out, "tags", tags)
 }
 
 /// Writes the object of an entity.
@@ -57,8 +56,7 @@ fn write_entity(alloc: Global, out: &mut Pretty, entity: &Entity) -> Result<(), 
     out.token(Token::BeginObject)?;
     out.token(Token::Key("uid"))?;
     write_uid(alloc, out, entity.uid())?;
-    out.token(Token::Key("attrs"))?;
-    write_attribute_values(alloc, out, entity.attrs())?;
+    write_attribute_values(alloc, out, "attrs", entity.attrs())?;
     out.token(Token::Key("parents"))?;
     write_ancestors(alloc, out, entity)?;
     write_tags(alloc, out, entity.tags())?;

@@ -2,7 +2,7 @@
 
 ghost use Rattle.std.specs.Prelude.{◌≡◌, ◌++◌, ◌∷◌, [], Some, None, OnOk, IfErr, map};
 ghost use Rattle.json.specs.Json.{string};
-ghost use Rattle.json.specs.Token.{end_object};
+ghost use Rattle.json.specs.Token.{begin_object, end_object, key};
 ghost use Rattle.json.specs.Tree.{items_tokens};
 ghost use Rattle.json.specs.Value.{items_of as spec_items};
 ghost use Rattle.cedar_json_writer.specs.Words.{AddsField, AddsValue, Entity, eid_text, flag_held, items_of, name_of, name_text, raw_reference, reference_array, text_array};
@@ -12,6 +12,15 @@ use cedar_below::{Eid, InternalName, M, NonEmpty};
 use cedar_names::json_schema::RawName;
 use json::{Pretty, Token};
 use std::alloc::Global;
+
+/// Writes a key, and the bracket that opens its object.
+pub(crate) fn open_object(out: &mut Pretty, name: &str) -> M<()>
+    ensures { OnOk result (out.new ≡ out.old ++ key name.now ∷ begin_object ∷ []) }
+{
+    out.token(Token::Key(name))?;
+    out.token(Token::BeginObject)?;
+    Ok(())
+}
 
 /// Writes the bracket that closes an object.
 pub(crate) fn close_object(out: &mut Pretty) -> Result<(), WriteFault>
@@ -66,7 +75,7 @@ pub(crate) fn write_name_field(
 }
 
 /// Writes an array of names of entity types.
-pub(crate) fn write_names(alloc: Global, out: &mut Pretty, names: &Vec<RawName>) -> M<()>
+fn write_names(alloc: Global, out: &mut Pretty, names: &Vec<RawName>) -> M<()>
     ensures { OnOk result (AddsValue out.old out.new
         (reference_array (map (raw_reference None Entity) names.now.items))) }
 {
@@ -88,6 +97,20 @@ fn write_more_ids(out: &mut Pretty, ids: &Vec<Eid>) -> M<()>
     }
     out.token(Token::EndArray)?;
     Ok(())
+}
+
+/// Writes a field that holds names of entity types.
+pub(crate) fn write_names_field(
+    alloc: Global,
+    out: &mut Pretty,
+    field: &str,
+    names: &Vec<RawName>,
+) -> M<()>
+    ensures { OnOk result (AddsField out.old out.new field.now
+        (Some (reference_array (map (raw_reference None Entity) names.now.items)))) }
+{
+    out.token(Token::Key(field))?;
+    write_names(alloc, out, names)
 }
 
 /// Writes an array of ids.

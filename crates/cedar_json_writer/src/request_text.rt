@@ -43,8 +43,7 @@ fn write_request(
     write_uid_field(alloc, out, "principal", principal)?;
     write_uid_field(alloc, out, "action", action)?;
     write_uid_field(alloc, out, "resource", resource)?;
-    out.token(Token::Key("context"))?;
-    write_attribute_values(alloc, out, context)?;
+    write_attribute_values(alloc, out, "context", context)?;
     close_object(out)
 }
 

@@ -5,7 +5,7 @@ ghost use Rattle.json.specs.Json.{member, object, string};
 ghost use Rattle.cedar_json_writer.specs.Words.{AddsField, AddsFields, AddsValue, Common, IsChecked, SoundType, attribute_document, attribute_members, attributes_of, extension_expr, is_among, name_text, named, raw_attribute, raw_expr, raw_name, raw_record, raw_reference, raw_variant, set_expr, type_document, type_flaws, type_members, type_words, unreserved_id_text};
 
 use crate::fault::{Unwritable, WriteFault};
-use crate::fields::{close_object, write_flag, write_name_field, write_text_field};
+use crate::fields::{close_object, open_object, write_flag, write_name_field, write_text_field};
 use cedar_below::UnreservedId;
 use cedar_names::json_schema::{RawName, RecordType, Type, TypeOfAttribute, TypeVariant};
 use json::{Pretty, Token};
@@ -161,47 +161,46 @@ fn write_record(
         (SoundType (raw_record None record_type.now)) }
 {
     write_text_field(out, "type", "Record")?;
-    out.token(Token::Key("attributes"))?;
     write_attributes(alloc, out, record_type)?;
     let additional = record_type.additional_attributes;
     write_flag(out, "additionalAttributes", false, additional)?;
     Ok(())
 }
 
-/// Writes the object of the attributes of a record type.
+/// Writes the field of the attributes of a record type.
 #[cycle(type_writing)]
 fn write_attributes(
     alloc: Global,
     out: &mut Pretty,
     record_type: &RecordType<RawName>,
 ) -> Result<(), WriteFault>
-    ensures written { OnOk result (AddsValue out.old out.new
-        (object (attribute_members (attributes_of (raw_record None record_type.now))))) }
+    ensures written { OnOk result (AddsField out.old out.new (codes "attributes")
+        (Some (object (attribute_members (attributes_of (raw_record None record_type.now)))))) }
     ensures checked { IsChecked result (type_flaws (raw_record None record_type.now))
         (SoundType (raw_record None record_type.now)) }
 {
-    out.token(Token::BeginObject)?;
+    open_object(out, "attributes")?;
     for (name, attribute) in &record_type.attributes {
-        out.token(Token::Key(name.as_str()))?;
-        write_attribute(alloc, out, attribute)?;
+        write_attribute(alloc, out, name.as_str(), attribute)?;
     }
     close_object(out)
 }
 
-/// Writes the object of an attribute.
+/// Writes the field of an attribute, under its name.
 #[cycle(type_writing)]
 fn write_attribute(
     alloc: Global,
     out: &mut Pretty,
+    name: &str,
     attribute: &TypeOfAttribute<RawName>,
 ) -> Result<(), WriteFault>
-    ensures written { OnOk result (AddsValue out.old out.new
-        (attribute_document (raw_attribute None attribute.now).0
-        (raw_attribute None attribute.now).1)) }
+    ensures written { OnOk result (AddsField out.old out.new name.now
+        (Some (attribute_document (raw_attribute None attribute.now).0
+        (raw_attribute None attribute.now).1))) }
     ensures checked { IsChecked result (type_flaws (raw_attribute None attribute.now).1)
         (SoundType (raw_attribute None attribute.now).1) }
 {
-    out.token(Token::BeginObject)?;
+    open_object(out, name)?;
     write_fields(alloc, out, &attribute.ty)?;
     write_flag(out, "required", true, attribute.required)?;
     close_object(out)

@@ -1,12 +1,12 @@
 //! Values of Cedar that are written.
 
-ghost use Rattle.std.specs.Prelude.{◌≡◌, [], true, false, MatchOption, MatchResult, OnOk, IfErr, Contains, map, string_bytes};
+ghost use Rattle.std.specs.Prelude.{◌≡◌, [], Some, true, false, MatchOption, MatchResult, OnOk, IfErr, Contains, map, string_bytes};
 ghost use Rattle.std.specs.Fmt.{signed_decimal};
 ghost use Rattle.json.specs.Json.{array, number, object};
-ghost use Rattle.cedar_json_writer.specs.Words.{AddsValue, IsChecked, SoundPairs, SoundValue, call_value, entries_flaws, entries_from, entries_of, flaw_of, is_among, is_long, key_flaws, map_value, pairs_document, pairs_flaws, plain_name, set_value, tree_of, trees_of, uid_document, uid_of, uid_value, value_document, value_expr, value_flaws, value_keys, value_members, written_pairs};
+ghost use Rattle.cedar_json_writer.specs.Words.{AddsField, AddsValue, IsChecked, SoundPairs, SoundValue, call_value, entries_flaws, entries_from, entries_of, flaw_of, is_among, is_long, key_flaws, map_value, pairs_document, pairs_flaws, plain_name, set_value, tree_of, trees_of, uid_document, uid_of, uid_value, value_document, value_expr, value_flaws, value_keys, value_members, written_pairs};
 
 use crate::fault::{Unwritable, WriteFault};
-use crate::fields::{close_object, write_name_field, write_text_field};
+use crate::fields::{close_object, open_object, write_name_field, write_text_field};
 use cedar_below::{EntityUID, M, Name, RestrictedExpr, Value};
 use json::{Pretty, Token};
 use std::alloc::Global;
@@ -133,21 +133,6 @@ fn write_record_value(
         (SoundValue (map_value (entries_of values.now))) }
 {
     check_keys(values)?;
-    write_pairs(alloc, out, values)
-}
-
-/// Writes an object of some values, each under its text.
-#[cycle(value_writing)]
-fn write_pairs(
-    alloc: Global,
-    out: &mut Pretty,
-    values: &BTreeMap<String, RestrictedExpr>,
-) -> Result<(), WriteFault>
-    ensures written { OnOk result (AddsValue out.old out.new
-        (object (value_members (entries_of values.now)))) }
-    ensures checked { IsChecked result (entries_flaws (entries_of values.now))
-        (SoundValue (map_value (entries_of values.now))) }
-{
     out.token(Token::BeginObject)?;
     for (name, value) in values {
         out.token(Token::Key(name.as_str()))?;
@@ -183,18 +168,19 @@ fn write_call(
     close_object(out)
 }
 
-/// Writes the object of an action's attributes.
+/// Writes a field that holds values, each under its text.
 pub(crate) fn write_attribute_values(
     alloc: Global,
     out: &mut Pretty,
+    field: &str,
     values: &BTreeMap<String, Value>,
 ) -> Result<(), WriteFault>
-    ensures written { OnOk result (AddsValue out.old out.new
-        (pairs_document (written_pairs values.now))) }
+    ensures written { OnOk result (AddsField out.old out.new field.now
+        (Some (pairs_document (written_pairs values.now)))) }
     ensures checked { IsChecked result (pairs_flaws (written_pairs values.now))
         (SoundPairs (written_pairs values.now)) }
 {
-    out.token(Token::BeginObject)?;
+    open_object(out, field)?;
     for (name, value) in values {
         out.token(Token::Key(name.as_str()))?;
         write_value(alloc, out, value.expr())?;

@@ -1,7 +1,7 @@
 use Rattle.std.proofs.Common.{option_map}
 use Rattle.cedar_json.specs.ActionFormat.{written_action}
-use Rattle.cedar_json_writer.specs.Words.{flag_held, pairs_document, parent_array, requests_document}
-use Rattle.cedar_json_writer.proofs.WritingLemmas.{checked, on_ok}
+use Rattle.cedar_json_writer.specs.Words.{action_document, flag_held, pairs_document, parent_array, requests_document}
+use Rattle.cedar_json_writer.proofs.WritingLemmas.{checked, object_by, on_ok}
 use Rattle.cedar_json_writer.proofs.WrittenActions.{action_added, action_free, groups_sound}
 use Rattle.std.proofs.Common.{false as no}
 use Rattle.cedar_json_writer.proofs.actions.write_action.Goals as goal
@@ -10,11 +10,12 @@ pub returns-clause-written : goal.returns-clause-written
 returns-clause-written c =
     let it = written_action c.args.it.now in
     on_ok c.close_object.result c.close_object.ensures.written
-    (λ ended. action_added c.args.out.now c.token.new.self c.write_applies_to_field.new.out c.write_member_of_field.new.out
+    (λ ended. object_by c.args.out.now c.open_object.new.out c.close_object.new.out c.args.id.now (action_document it) c.in_ok-open_object.ensures
+    (λ begun. action_added _ c.open_object.new.out c.write_applies_to_field.new.out c.write_member_of_field.new.out
     c.write_attributes_field.new.out c.write_flag.new.out c.close_object.new.out (option_map requests_document it.applies_to)
-    (option_map parent_array it.member_of) (option_map pairs_document it.attributes) (flag_held no it.external) c.in_ok-token.ensures.ok
+    (option_map parent_array it.member_of) (option_map pairs_document it.attributes) (flag_held no it.external) begun
     c.in_ok-write_applies_to_field.ensures.written c.in_ok-write_member_of_field.ensures c.in_ok-write_attributes_field.ensures.written
-    c.in_ok-write_flag.ensures ended)
+    c.in_ok-write_flag.ensures ended))
 
 pub returns-clause-checked : goal.returns-clause-checked
 returns-clause-checked c =

@@ -1,11 +1,11 @@
 use Rattle.std.proofs.lemmas.Result.{err_from_is_err_and}
 use Rattle.cedar_json_writer.proofs.WrittenDefinitions.{fragment_free, namespaces_shape}
-use Rattle.cedar_json_writer.proofs.WritingLemmas.{checked, member_flaw, members_added, members_free, on_ok, turn}
+use Rattle.cedar_json_writer.proofs.WritingLemmas.{checked, member_flaw, members_added, members_free, on_ok, turn_by}
 use Rattle.cedar_json_writer.proofs.definitions.write_fragment.Goals as goal
 
 pub loop-name-preserved : goal.loop-name-preserved
 loop-name-preserved c =
-    turn namespaces_shape c.token.new.self c.loop-name.out c.write_namespace_key.new.out c.write_definition.new.out
+    turn_by namespaces_shape c.token.new.self c.loop-name.out c.write_namespace_key.new.out c.write_definition.new.out
     c.args.it.now.0.entries c.loop-name.name-iterator c.next.new.self (c.in-Some.name.now, c.in-Some.definition.now) c.loop-name.invariant
     c.in-Some.ensures.steps c.in_ok-write_namespace_key.ensures
     c.in_ok-write_definition.ensures.written c.in_ok-write_definition.ensures.checked

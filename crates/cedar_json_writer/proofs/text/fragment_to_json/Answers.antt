@@ -1,10 +1,12 @@
 use Rattle.std.proofs.Common.{◌≡◌, IsSome, List, ℕ, ap, string_bytes, subst, sym, ◌∙◌}
 use Rattle.std.proofs.lemmas.Bool.{false≢true}
+use Rattle.std.proofs.lemmas.Result.{err_from_is_err_and}
 use Rattle.json.specs.Json.{document}
 use Rattle.json.specs.Layout.{pretty}
 use Rattle.json.specs.Lex.{tokens}
 use Rattle.json.specs.Tree.{json_tokens}
-use Rattle.cedar_json_writer.specs.Words.{fragment_document, written_fragment}
+use Rattle.cedar_json_writer.specs.Words.{fragment_document, nesting_flaws, parts_flaws, written_fragment}
+use Rattle.cedar_json_writer.proofs.WritingLemmas.{flaw_left}
 use Rattle.cedar_json_writer.proofs.WrittenText.{deep_text, described_text, writable_text, written_alone}
 use Rattle.cedar_json_writer.proofs.text.fragment_to_json.Goals as goal
 
@@ -46,3 +48,10 @@ returns-else-branch-clause-fault c =
     c.in_ok-write_fragment.ensures.written in
     deep_text text it written (λ some. false≢true (sym c.if-branch.false
     ∙ c.in_ok-is_valid.ensures.ok.1 (subst (λ (bytes : List ℕ). IsSome (document bytes)) (sym c.as_str.ensures.value) some)))
+
+-- what can't be written of a part can't be of the fragment
+pub returns-in_err-write_fragment-clause-fault : goal.returns-in_err-write_fragment-clause-fault
+returns-in_err-write_fragment-clause-fault c =
+    let it = written_fragment c.args.fragment.now in
+    let p = err_from_is_err_and c.from_residual.result c.from_residual.ensures.1 in
+    rw (p.1, p.2) (flaw_left (parts_flaws it) (nesting_flaws it) _ c.in_err-write_fragment.ensures.checked)

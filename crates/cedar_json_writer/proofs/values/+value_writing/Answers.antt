@@ -5,7 +5,7 @@ use Rattle.json.specs.Token.{key, string}
 use Rattle.cedar_below.proofs.TreeLemmas.{drop-at, tree_of-call, tree_of-record, tree_of-uid}
 use Rattle.cedar_below.proofs.ValueCopies.{tree_of-text, tree_of-truth}
 use Rattle.cedar_json_writer.specs.Words.{AddsField, AddsValue, IsChecked, IsFlawOf, PlainName, RestrictedExpr, SoundValue, Tree, call_value, entries_of, name_text, plain_name, set_value, tree_of, trees_of, value_document, value_flaws}
-use Rattle.cedar_json_writer.proofs.WritingLemmas.{checked, checked_as, member_flaw, members_added, members_free, on_ok, turn}
+use Rattle.cedar_json_writer.proofs.WritingLemmas.{checked, member_flaw, members_added, members_free, on_ok, turn_by}
 use Rattle.cedar_json_writer.proofs.WrittenValues.{FreeValue, argument_flaw, arity_flaw, call_added, call_free, long_added, long_free, one_item, pairs_free, pairs_shape, record_document, record_free, record_key_flaw, record_value_flaw, text_added, text_free, tree_of-long, truth_added, truth_free, uid_free, values_added, values_flaw, values_free, values_turn}
 use Rattle.cedar_json_writer.proofs.values.+value_writing.Goals as goal
 
@@ -51,53 +51,46 @@ write_values-returns-in_err-write_value-clause-checked t c =
     c.in_err-write_value.ensures.checked))
 
 -- one more value is written behind its key, and has no flaws
-pub write_pairs-loop-name-preserved : goal.write_pairs-loop-name-preserved
-write_pairs-loop-name-preserved t c =
-    turn (pairs_shape tree_of) c.token.new.self c.loop-name.out c.token-in-loop-name.new.self c.write_value.new.out
+pub write_record_value-loop-name-preserved : goal.write_record_value-loop-name-preserved
+write_record_value-loop-name-preserved t c =
+    turn_by (pairs_shape tree_of) c.token.new.self c.loop-name.out c.token-in-loop-name.new.self c.write_value.new.out
     c.args.values.now.entries c.loop-name.name-iterator c.next.new.self
     (c.in-Some.name.now, c.in-Some.value.now) c.loop-name.invariant c.in-Some.ensures.steps
     (c.in_ok-token-2.ensures.ok ∙ ap (λ (text : List ℕ). c.loop-name.out ++ key text ∷ []) c.as_str.ensures.value)
     c.in_ok-write_value.ensures.written c.in_ok-write_value.ensures.checked
 
--- where no value is left, the object has all of them
-pub write_pairs-returns-clause-written : goal.write_pairs-returns-clause-written
-write_pairs-returns-clause-written t c =
-    on_ok c.close_object.result c.close_object.ensures.written (λ ended. members_added (pairs_shape tree_of) c.args.out.now c.token.new.self c.loop-name.out c.close_object.new.out
-    c.args.values.now.entries c.loop-name.name-iterator c.loop-name.invariant
-    c.in-None.ensures.steps.0 c.in_ok-token.ensures.ok ended)
-
--- none of the values had a flaw, and their keys are in order
-pub write_pairs-returns-clause-checked : goal.write_pairs-returns-clause-checked
-write_pairs-returns-clause-checked t c =
-    checked c.close_object.result c.close_object.ensures.fault (pairs_free tree_of c.args.values.now.entries c.into_iter-name-iterator.ensures.into_iter_gives.5
-    (members_free (pairs_shape tree_of) c.token.new.self c.loop-name.out c.args.values.now.entries c.loop-name.name-iterator c.loop-name.invariant
-    c.in-None.ensures.steps.0))
-
--- a flaw of one value is a flaw of all together
-pub write_pairs-returns-in_err-write_value-clause-checked : goal.write_pairs-returns-in_err-write_value-clause-checked
-write_pairs-returns-in_err-write_value-clause-checked t c =
-    let f = c.in_err-write_value.field-0.0 in
-    let p = err_from_is_err_and c.from_residual-in_err-write_value.result c.from_residual-in_err-write_value.ensures.1 in
-    rw (p.1, p.2) (member_flaw (pairs_shape tree_of) c.token.new.self c.loop-name.out c.args.values.now.entries c.loop-name.name-iterator c.next.new.self
-    (c.in-Some.name.now, c.in-Some.value.now) f c.loop-name.invariant c.in-Some.ensures.steps c.in_err-write_value.ensures.checked)
-
--- the document of a record is the object of its values
+-- where no value is left, the object has all of them, and is the record's document
 pub write_record_value-returns-clause-written : goal.write_record_value-returns-clause-written
 write_record_value-returns-clause-written t c =
-    on_ok c.write_pairs.result c.write_pairs.ensures.written
-    (subst (AddsValue c.args.out.now c.write_pairs.new.out) (record_document (entries_of c.args.values.now)))
+    on_ok c.close_object.result c.close_object.ensures.written
+    (λ ended. subst (AddsValue c.args.out.now c.close_object.new.out) (record_document (entries_of c.args.values.now))
+    (members_added (pairs_shape tree_of) c.args.out.now c.token.new.self c.loop-name.out c.close_object.new.out
+    c.args.values.now.entries c.loop-name.name-iterator c.loop-name.invariant
+    c.in-None.ensures.steps.0 c.in_ok-token.ensures.ok ended))
 
--- neither the keys nor the values have a flaw, so the record has none
+-- neither the keys nor the values have a flaw, and the keys are in order, so the record has none
 pub write_record_value-returns-clause-checked : goal.write_record_value-returns-clause-checked
 write_record_value-returns-clause-checked t c =
-    let entries = entries_of c.args.values.now in
-    checked_as c.write_pairs.result c.write_pairs.ensures.checked (record_free entries c.in_ok-check_keys.ensures) (record_value_flaw entries)
+    checked c.close_object.result c.close_object.ensures.fault
+    (record_free (entries_of c.args.values.now) c.in_ok-check_keys.ensures
+    (pairs_free tree_of c.args.values.now.entries c.into_iter-name-iterator.ensures.into_iter_gives.5
+    (members_free (pairs_shape tree_of) c.token.new.self c.loop-name.out c.args.values.now.entries c.loop-name.name-iterator c.loop-name.invariant
+    c.in-None.ensures.steps.0)))
 
 -- a flaw of the keys is a flaw of the record
 pub write_record_value-returns-in_err-check_keys-clause-checked : goal.write_record_value-returns-in_err-check_keys-clause-checked
 write_record_value-returns-in_err-check_keys-clause-checked t c =
     let p = err_from_is_err_and c.from_residual.result c.from_residual.ensures.1 in
     rw (p.1, p.2) (record_key_flaw (entries_of c.args.values.now) _ c.in_err-check_keys.ensures)
+
+-- a flaw of one value is a flaw of the record
+pub write_record_value-returns-in_err-write_value-clause-checked : goal.write_record_value-returns-in_err-write_value-clause-checked
+write_record_value-returns-in_err-write_value-clause-checked t c =
+    let f = c.in_err-write_value.field-0.0 in
+    let p = err_from_is_err_and c.from_residual-in_err-write_value.result c.from_residual-in_err-write_value.ensures.1 in
+    rw (p.1, p.2) (record_value_flaw (entries_of c.args.values.now) f
+    (member_flaw (pairs_shape tree_of) c.token.new.self c.loop-name.out c.args.values.now.entries c.loop-name.name-iterator c.next.new.self
+    (c.in-Some.name.now, c.in-Some.value.now) f c.loop-name.invariant c.in-Some.ensures.steps c.in_err-write_value.ensures.checked))
 
 -- a boolean is written as `true` or `false`
 pub write_value-returns-in_ok-token-in-Bool-clause-written : goal.write_value-returns-in_ok-token-in-Bool-clause-written
