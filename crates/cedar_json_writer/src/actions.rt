@@ -38,19 +38,6 @@ fn write_parent(alloc: Global, out: &mut Pretty, it: &ActionEntityUID<RawName>) 
     Ok(())
 }
 
-/// Writes the array of some parents.
-fn write_parents(alloc: Global, out: &mut Pretty, parents: &Vec<ActionEntityUID<RawName>>) -> M<()>
-    ensures { OnOk result (AddsValue out.old out.new
-        (parent_array (map written_parent parents.now.items))) }
-{
-    out.token(Token::BeginArray)?;
-    for parent in parents {
-        write_parent(alloc, out, parent)?;
-    }
-    out.token(Token::EndArray)?;
-    Ok(())
-}
-
 /// Writes the field for parents, where some are written.
 fn write_member_of_field(
     alloc: Global,
@@ -65,7 +52,12 @@ fn write_member_of_field(
         return Ok(());
     };
     out.token(Token::Key("memberOf"))?;
-    write_parents(alloc, out, parents)
+    out.token(Token::BeginArray)?;
+    for parent in parents {
+        write_parent(alloc, out, parent)?;
+    }
+    out.token(Token::EndArray)?;
+    Ok(())
 }
 
 /// Writes the field for the requests that an action is for, where they are written.

@@ -74,11 +74,17 @@ pub(crate) fn write_name_field(
     write_name(alloc, out, name)
 }
 
-/// Writes an array of names of entity types.
-fn write_names(alloc: Global, out: &mut Pretty, names: &Vec<RawName>) -> M<()>
-    ensures { OnOk result (AddsValue out.old out.new
-        (reference_array (map (raw_reference None Entity) names.now.items))) }
+/// Writes a field that holds names of entity types.
+pub(crate) fn write_names_field(
+    alloc: Global,
+    out: &mut Pretty,
+    field: &str,
+    names: &Vec<RawName>,
+) -> M<()>
+    ensures { OnOk result (AddsField out.old out.new field.now
+        (Some (reference_array (map (raw_reference None Entity) names.now.items)))) }
 {
+    out.token(Token::Key(field))?;
     out.token(Token::BeginArray)?;
     for name in names {
         write_name(alloc, out, name.as_internal())?;
@@ -97,20 +103,6 @@ fn write_more_ids(out: &mut Pretty, ids: &Vec<Eid>) -> M<()>
     }
     out.token(Token::EndArray)?;
     Ok(())
-}
-
-/// Writes a field that holds names of entity types.
-pub(crate) fn write_names_field(
-    alloc: Global,
-    out: &mut Pretty,
-    field: &str,
-    names: &Vec<RawName>,
-) -> M<()>
-    ensures { OnOk result (AddsField out.old out.new field.now
-        (Some (reference_array (map (raw_reference None Entity) names.now.items)))) }
-{
-    out.token(Token::Key(field))?;
-    write_names(alloc, out, names)
 }
 
 /// Writes an array of ids.

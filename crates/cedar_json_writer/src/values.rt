@@ -159,8 +159,7 @@ fn write_call(
         return Err(WriteFault::Unwritable(Unwritable::Arguments(args.len())));
     }
     out.token(Token::BeginObject)?;
-    out.token(Token::Key("__extn"))?;
-    out.token(Token::BeginObject)?;
+    open_object(out, "__extn")?;
     write_name_field(alloc, out, "fn", function.as_internal())?;
     out.token(Token::Key("arg"))?;
     write_value(alloc, out, &args[0])?;

@@ -4,8 +4,12 @@ use Rattle.json.specs.Json.{object}
 use Rattle.cedar_json_writer.proofs.WrittenDefinitions.{declarations_free, declared_shape}
 use Rattle.std.proofs.Common.{Global, String, string_bytes, string_cmp}
 use Rattle.cedar_json_writer.specs.Words.{AddsField, SoundAction, Text, action_document, action_flaws, declared_members, written_action, written_actions}
-use Rattle.cedar_json_writer.proofs.WritingLemmas.{checked, member_flaw, members_added, members_free, object_by, on_ok, turn}
+use Rattle.cedar_json_writer.proofs.WritingLemmas.{begun, checked, member_flaw, members_added, members_free, object_by, on_ok, turn}
 use Rattle.cedar_json_writer.proofs.definitions.write_actions.Goals as goal
+
+pub loop-id-init : goal.loop-id-init
+loop-id-init c =
+    begun (declared_shape {K = String Global} string_bytes (λ (id : Text). id) written_action action_document action_flaws SoundAction) _ _ _ _ refl c.into_iter-id-iterator.ensures.into_iter_gives.0
 
 pub loop-id-preserved : goal.loop-id-preserved
 loop-id-preserved c =

@@ -1,15 +1,19 @@
-use Rattle.std.proofs.Common.{◌++◌, ◌∷◌, [], List, ℕ, ap, codes, refl, sym, ◌∙◌}
+use Rattle.std.proofs.Common.{◌++◌, ◌∷◌, [], List, ℕ, ap, codes, refl, subst, sym, ◌∙◌}
 use Rattle.std.proofs.lemmas.Result.{err_from_is_err_and}
 use Rattle.std.proofs.lemmas.Bool.{false≢true}
 use Rattle.json.specs.Json.{object}
 use Rattle.json.specs.Token.{key}
 use Rattle.cedar_json_writer.proofs.WrittenDefinitions.{declarations_free, declared_shape, no_common_types, none_free, some_common_types}
-use Rattle.cedar_json_writer.specs.Words.{CommonType, RawName, SoundType, Text, common_key, common_type_text, declared_members, raw_expr, type_document, type_flaws, written_common_types}
+use Rattle.cedar_json_writer.specs.Words.{AddsField, CommonType, Expr, RawName, SoundType, Text, common_key, common_type_text, common_types_held, declared_members, raw_expr, type_document, type_flaws, written_common_types}
 use Rattle.cedar_names.specs.contracts.json_schema.common_type_id.CommonTypeIdOrd.TheImpl as common_type_ord
 use Rattle.cedar_json.proofs.NameLemmas.{common_key-read}
 use Rattle.std.proofs.Common.{None as nothing}
-use Rattle.cedar_json_writer.proofs.WritingLemmas.{checked, member_flaw, members_added, members_free, object_by, on_ok, turn_by}
+use Rattle.cedar_json_writer.proofs.WritingLemmas.{begun, checked, field_absent, member_flaw, members_added, members_free, object_by, on_ok, turn_by}
 use Rattle.cedar_json_writer.proofs.definitions.write_common_types.Goals as goal
+
+pub loop-id-init : goal.loop-id-init
+loop-id-init c =
+    begun (declared_shape common_type_text (λ (id : Text). id) (λ (it : CommonType RawName). raw_expr nothing it.ty) type_document type_flaws SoundType) _ _ _ _ refl c.into_iter-id-iterator.ensures.into_iter_gives.0
 
 pub loop-id-preserved : goal.loop-id-preserved
 loop-id-preserved c =
@@ -43,3 +47,9 @@ returns-in_err-write_type-clause-checked c =
 pub returns-then-is_empty-clause-checked : goal.returns-then-is_empty-clause-checked
 returns-then-is_empty-clause-checked c =
     none_free (written_common_types c.args.all.now) (no_common_types c.args.all.now (c.is_empty.ensures.0 c.if-is_empty.true))
+
+pub returns-then-is_empty-clause-written : goal.returns-then-is_empty-clause-written
+returns-then-is_empty-clause-written c =
+    subst (λ (it : List (Text × Expr)). AddsField c.args.out.now c.args.out.now (codes "commonTypes") (common_types_held it))
+    (sym (no_common_types c.args.all.now (c.is_empty.ensures.0 c.if-is_empty.true)))
+    (field_absent c.args.out.now c.args.out.now (codes "commonTypes") refl)

@@ -5,8 +5,12 @@ use Rattle.cedar_json_writer.proofs.WrittenDefinitions.{declarations_free, decla
 use Rattle.cedar_json_writer.specs.Words.{AddsField, SoundBody, Text, WrittenEntity, body_flaws, declared_members, entity_type_document, id_key, unreserved_id_text, written_entity, written_entity_types}
 use Rattle.cedar_below.specs.contracts.unreserved_id.UnreservedIdOrd.TheImpl as unreserved_id_ord
 use Rattle.cedar_json_writer.proofs.WrittenTypes.{id_key-read}
-use Rattle.cedar_json_writer.proofs.WritingLemmas.{checked, member_flaw, members_added, members_free, object_by, on_ok, turn}
+use Rattle.cedar_json_writer.proofs.WritingLemmas.{begun, checked, member_flaw, members_added, members_free, object_by, on_ok, turn}
 use Rattle.cedar_json_writer.proofs.definitions.write_entity_types.Goals as goal
+
+pub loop-id-init : goal.loop-id-init
+loop-id-init c =
+    begun (declared_shape unreserved_id_text (λ (id : Text). id) written_entity entity_type_document (λ (it : WrittenEntity). body_flaws it.body) (λ (it : WrittenEntity). SoundBody it.body)) _ _ _ _ refl c.into_iter-id-iterator.ensures.into_iter_gives.0
 
 pub loop-id-preserved : goal.loop-id-preserved
 loop-id-preserved c =

@@ -1,7 +1,12 @@
+use Rattle.std.proofs.Common.{refl}
 use Rattle.std.proofs.lemmas.Result.{err_from_is_err_and}
 use Rattle.cedar_json_writer.proofs.WrittenDefinitions.{fragment_free, namespaces_shape}
-use Rattle.cedar_json_writer.proofs.WritingLemmas.{checked, member_flaw, members_added, members_free, on_ok, turn_by}
+use Rattle.cedar_json_writer.proofs.WritingLemmas.{begun, checked, member_flaw, members_added, members_free, on_ok, turn_by}
 use Rattle.cedar_json_writer.proofs.definitions.write_fragment.Goals as goal
+
+pub loop-name-init : goal.loop-name-init
+loop-name-init c =
+    begun namespaces_shape _ _ _ _ refl c.into_iter-name-iterator.ensures.into_iter_gives.0
 
 pub loop-name-preserved : goal.loop-name-preserved
 loop-name-preserved c =

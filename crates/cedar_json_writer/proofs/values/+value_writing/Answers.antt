@@ -1,11 +1,11 @@
-use Rattle.std.proofs.Common.{◌≡◌, ◌+◌, ◌++◌, ◌∷◌, [], List, ℕ, OnOk, Some, codes, string_bytes, ap, drop, drop_of_length-le, arith, subst, sym, ◌∙◌}
+use Rattle.std.proofs.Common.{◌≡◌, ◌+◌, ◌++◌, ◌∷◌, [], List, ℕ, OnOk, Some, codes, string_bytes, ap, drop, drop_of_length-le, arith, refl, subst, sym, ◌∙◌}
 use Rattle.std.proofs.lemmas.Result.{err_from_is_err_and}
 use Rattle.json.specs.Json.{string as text}
 use Rattle.json.specs.Token.{key, string}
 use Rattle.cedar_below.proofs.TreeLemmas.{drop-at, tree_of-call, tree_of-record, tree_of-uid}
 use Rattle.cedar_below.proofs.ValueCopies.{tree_of-text, tree_of-truth}
 use Rattle.cedar_json_writer.specs.Words.{AddsField, AddsValue, IsChecked, IsFlawOf, PlainName, RestrictedExpr, SoundValue, Tree, call_value, entries_of, name_text, plain_name, set_value, tree_of, trees_of, value_document, value_flaws}
-use Rattle.cedar_json_writer.proofs.WritingLemmas.{checked, member_flaw, members_added, members_free, on_ok, turn_by}
+use Rattle.cedar_json_writer.proofs.WritingLemmas.{begun, checked, member_flaw, members_added, members_free, on_ok, turn_by}
 use Rattle.cedar_json_writer.proofs.WrittenValues.{FreeValue, argument_flaw, arity_flaw, call_added, call_free, long_added, long_free, one_item, pairs_free, pairs_shape, record_document, record_free, record_key_flaw, record_value_flaw, text_added, text_free, tree_of-long, truth_added, truth_free, uid_free, values_added, values_flaw, values_free, values_turn}
 use Rattle.cedar_json_writer.proofs.values.+value_writing.Goals as goal
 
@@ -49,6 +49,10 @@ write_values-returns-in_err-write_value-clause-checked t c =
     rw (p.1, p.2) (subst (λ (each : List RestrictedExpr). IsFlawOf (value_flaws (set_value (trees_of each))) f) c.deref-value-items.ensures.value
     (values_flaw c.token.new.self l.out xs (drop l.value-index xs) (drop (l.value-index + 1) xs) x f l.invariant here
     c.in_err-write_value.ensures.checked))
+
+-- at first all values are left, and none is written
+pub write_record_value-loop-name-init : goal.write_record_value-loop-name-init
+write_record_value-loop-name-init t c = begun (pairs_shape tree_of) _ _ _ _ refl c.into_iter-name-iterator.ensures.into_iter_gives.0
 
 -- one more value is written behind its key, and has no flaws
 pub write_record_value-loop-name-preserved : goal.write_record_value-loop-name-preserved
@@ -173,14 +177,13 @@ write_call-returns-clause-written t c =
     let argument = c.index.result.now in
     let items = c.args.args.now.items in
     let only : items ≡ argument ∷ [] = one_item items argument (omega (arith, c.args.args.now.ok.0)) c.index.ensures in
-    let named = subst (λ (n : PlainName). AddsField c.token-3.new.self c.write_name_field.new.out (codes "fn") (Some (text (name_text n))))
+    let named = subst (λ (n : PlainName). AddsField c.open_object.new.out c.write_name_field.new.out (codes "fn") (Some (text (name_text n))))
     c.as_internal.ensures.name c.in_ok-write_name_field.ensures in
     subst (λ (each : List RestrictedExpr). OnOk c.close_object.result (AddsValue c.args.out.now c.close_object.new.out
     (value_document (call_value (plain_name c.args.function.now) (trees_of each))))) (sym only)
-    (on_ok c.close_object.result c.close_object.ensures.written (λ ended. call_added c.args.out.now c.token.new.self c.token-2.new.self c.token-3.new.self c.write_name_field.new.out c.token-4.new.self
-    c.write_value.new.out c.token-5.new.self c.close_object.new.out c.args.function.now argument c.in_ok-token.ensures.ok c.in_ok-token-2.ensures.ok
-    c.in_ok-token-3.ensures.ok named c.in_ok-token-4.ensures.ok c.in_ok-write_value.ensures.written c.in_ok-token-5.ensures.ok
-    ended))
+    (on_ok c.close_object.result c.close_object.ensures.written (λ ended. call_added c.args.out.now c.token.new.self c.open_object.new.out c.write_name_field.new.out
+    c.token-2.new.self c.write_value.new.out c.token-3.new.self c.close_object.new.out c.args.function.now argument c.in_ok-token.ensures.ok
+    c.in_ok-open_object.ensures named c.in_ok-token-2.ensures.ok c.in_ok-write_value.ensures.written c.in_ok-token-3.ensures.ok ended))
 
 -- where the one argument has no flaws, the call has none
 pub write_call-returns-clause-checked : goal.write_call-returns-clause-checked

@@ -1,14 +1,18 @@
-use Rattle.std.proofs.Common.{◌++◌, ◌∷◌, [], List, ℕ, ap, subst, ◌∙◌}
+use Rattle.std.proofs.Common.{◌++◌, ◌∷◌, [], List, ℕ, ap, subst, ◌∙◌, refl}
 use Rattle.std.proofs.lemmas.Result.{err_from_is_err_and}
 use Rattle.json.specs.Token.{key}
 use Rattle.cedar_json_writer.specs.Words.{AddsValue, IsFlawOf, RestrictedExpr, Tree, Value, pairs_document, tree_of, value_document, value_expr, value_flaws, written_pairs}
-use Rattle.cedar_json_writer.proofs.WritingLemmas.{checked, member_flaw, members_added, members_free, object_by, on_ok, turn_by}
+use Rattle.cedar_json_writer.proofs.WritingLemmas.{begun, checked, member_flaw, members_added, members_free, object_by, on_ok, turn_by}
 use Rattle.cedar_json_writer.proofs.WrittenValues.{FreeValue, pairs_free, pairs_shape}
 use Rattle.cedar_json_writer.proofs.values.write_attribute_values.Goals as goal
 
 -- the tree that a value stands for
 abbrev view : Value → Tree
 view value = tree_of (value_expr value)
+
+pub loop-name-init : goal.loop-name-init
+loop-name-init c =
+    begun (pairs_shape view) _ _ _ _ refl c.into_iter-name-iterator.ensures.into_iter_gives.0
 
 pub loop-name-preserved : goal.loop-name-preserved
 loop-name-preserved c =
