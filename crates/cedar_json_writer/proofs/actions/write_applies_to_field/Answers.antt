@@ -1,4 +1,4 @@
-use Rattle.std.proofs.Common.{None, Some, OnOk, Option, codes, map, option_map, subst, sym}
+use Rattle.std.proofs.Common.{None, OnOk, Option, codes, map, option_map, subst, sym}
 use Rattle.std.proofs.lemmas.Result.{err_from_is_err_and}
 use Rattle.cedar_names.specs.declared.json_schema.action_type.ApplySpec.{ApplySpec}
 use Rattle.cedar_json_writer.specs.Words.{AddsField, Entity, IfThere, IsChecked, IsFlawOf, RawName, SoundRequests, flaws_in, raw_expr, raw_reference, reference_array, requests_document, requests_flaws, shape_held, written_requests}

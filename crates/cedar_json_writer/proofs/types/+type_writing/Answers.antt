@@ -1,11 +1,10 @@
-use Rattle.std.proofs.Common.{◌≡◌, ◌++◌, ◌∷◌, [], Bool, List, None, OnOk, Some, ℕ, ap, codes, refl, subst, sym, ◌∙◌}
+use Rattle.std.proofs.Common.{◌≡◌, Bool, List, None, OnOk, Some, ℕ, ap, codes, refl, subst, sym, ◌∙◌}
 use Rattle.std.proofs.lemmas.Result.{err_from_is_err_and}
 use Rattle.json.specs.Json.{object}
-use Rattle.json.specs.Token.{key}
 use Rattle.cedar_names.proofs.ExprLemmas.{raw_attribute-parts, raw_record-entries}
 use Rattle.cedar_names.proofs.VariantLemmas.{raw_variant-Boolean, raw_variant-Entity, raw_variant-Long, raw_variant-String, type-CommonTypeRef, variant-EntityOrCommon, variant-Extension}
 use Rattle.cedar_names.specs.declared.json_schema.type_of.TypeOfAttribute.{out-TypeOfAttribute}
-use Rattle.cedar_json_writer.specs.Words.{AddsField, AddsFields, AddsValue, Expr, IsChecked, IsFlawOf, RawName, SoundType, attribute_document, attribute_members, attributes_of, out-RecordType, raw_attribute, raw_expr, raw_record, raw_reference, raw_variant, record_expr, type_flaws, type_members}
+use Rattle.cedar_json_writer.specs.Words.{AddsField, AddsFields, Expr, IsChecked, IsFlawOf, RawName, SoundType, attribute_document, attribute_members, attributes_of, out-RecordType, raw_attribute, raw_expr, raw_record, raw_reference, raw_variant, record_expr, type_flaws, type_members}
 use Rattle.cedar_json_writer.proofs.WritingLemmas.{begun, checked, checked_as, member_flaw, members_added, members_free, object_added, object_by, on_ok, turn}
 use Rattle.cedar_json_writer.proofs.WrittenTypes.{FreeType, attribute_added, attributes_shape, either_fields, either_free, entity_fields, entity_free, extension_free, listed, long_fields, long_free, record_fields, record_flaw, record_free, set_fields, set_flaw, set_free, text_fields, text_free, truth_fields, truth_free}
 use Rattle.cedar_json_writer.proofs.types.+type_writing.Goals as goal
