@@ -1,11 +1,33 @@
 -- Tokens that are written one after another, and what is free of flaws.
-use Rattle.std.proofs.Common.{◌≡◌, List, [], ◌∷◌, ◌++◌, Some, None, ap, sym, subst, ◌∙◌, append_assoc}
+use Rattle.std.proofs.Common.{◌≡◌, List, [], ◌∷◌, ◌++◌, Err, IfErr, Ok, OnOk, Result, Some, None, ap, refl, sym, subst, ◌∙◌, append_assoc}
 use Rattle.std.proofs.lemmas.List.Elements.{Contains-append_left, Contains-append_right}
 use Rattle.json.specs.Json.{Json, array, object, Items, no_items, item, Members, no_members, member}
 use Rattle.json.specs.Token.{Token, begin_array, begin_object, end_array, end_object, key}
 use Rattle.json.specs.Tree.{items_tokens, json_tokens, members_tokens}
-use Rattle.cedar_json_writer.specs.Words.{AddsField, AddsFields, AddsValue, Flaw, IsFlawOf, IsFree, Text, WriteFault, flaw_of}
+use Rattle.cedar_json_writer.specs.Words.{AddsField, AddsFields, AddsValue, Flaw, IsChecked, IsFlawOf, IsFree, Text, WriteFault, flaw_of}
 use Rattle.cedar_json_writer.specs.declared.fault.WriteFault.TheVariants as fault
+
+-- what follows from the clause of a success is one too
+pub on_ok : {A E P Q : Type 0} (r : Result A E) → OnOk r P → (P → Q) → OnOk r Q
+on_ok (Ok a) is so = so is
+on_ok (Err e) is so = tt
+
+-- want of memory is no flaw, so it is one of any list
+pub memory_flaw : {A : Type 0} (flaws : List Flaw) (r : Result A WriteFault) → IfErr r (λ f. f ≡ fault.Memory) → IfErr r (IsFlawOf flaws)
+memory_flaw flaws (Ok a) is = tt
+memory_flaw flaws (Err f) is = subst (IsFlawOf flaws) (sym is) tt
+
+-- what is free before a step that only memory may stop is checked behind it
+pub checked : {A : Type 0} {flaws : List Flaw} {Sound : Type 0} (r : Result A WriteFault) → IfErr r (λ f. f ≡ fault.Memory) → IsFree flaws Sound
+    → IsChecked r flaws Sound
+checked (Ok a) is free = free
+checked {A} {flaws} (Err f) is free = subst (IsFlawOf flaws) (sym is) tt
+
+-- what is checked of a part is checked of what has the part's flaws and is sound where it is
+pub checked_as : {A : Type 0} {one all : List Flaw} {SoundOne Sound : Type 0} (r : Result A WriteFault) → IsChecked r one SoundOne
+    → (IsFree one SoundOne → IsFree all Sound) → ((f : WriteFault) → IsFlawOf one f → IsFlawOf all f) → IsChecked r all Sound
+checked_as (Ok a) is free flaw = free is
+checked_as (Err f) is free flaw = flaw f is
 
 -- a flaw of the first of two lists is one of both
 pub flaw_left : (xs ys : List Flaw) (f : WriteFault) → IsFlawOf xs f → IsFlawOf (xs ++ ys) f
@@ -29,6 +51,11 @@ field_added old keyed new name j named added rest =
     ∙ append_assoc (old ++ key name ∷ []) (json_tokens j) (members_tokens rest)
     ∙ append_assoc old (key name ∷ []) (json_tokens j ++ members_tokens rest)
 
+-- so it is where the value is the last that is written
+pub field_by : {A E : Type 0} (r : Result A E) (old keyed new : List Token) (name : Text) (j : Json) → keyed ≡ old ++ key name ∷ []
+    → OnOk r (AddsValue keyed new j) → OnOk r (AddsField old new name (Some j))
+field_by r old keyed new name j named added = on_ok r added (λ is. field_added old keyed new name j named is)
+
 -- nothing is a field that is left out
 pub field_absent : (old new : List Token) (name : Text) → new ≡ old → AddsField old new name None
 field_absent old new name same rest = ap (λ l. l ++ members_tokens rest) same
@@ -44,6 +71,12 @@ pub object_added : (old opened inside new : List Token) (fields : Members → Me
 object_added old opened inside new fields begun added ended =
     ended ∙ added no_members ∙ ap (λ l. l ++ members_tokens (fields no_members)) begun
     ∙ append_assoc old (begin_object ∷ []) (members_tokens (fields no_members))
+
+-- an object that is written behind its key is a field
+pub object_by : (old opened new : List Token) (name : Text) (j : Json) → opened ≡ old ++ key name ∷ begin_object ∷ []
+    → (opened ≡ (old ++ key name ∷ []) ++ begin_object ∷ [] → AddsValue (old ++ key name ∷ []) new j) → AddsField old new name (Some j)
+object_by old opened new name j begun added =
+    field_added old (old ++ key name ∷ []) new name j refl (added (begun ∙ sym (append_assoc old (key name ∷ []) (begin_object ∷ []))))
 
 -- a list whose items are written each under a text: its members, what can't be written of it, and what makes it sound
 pub record MembersShape (E : Type 0) : Type 1 where
@@ -77,15 +110,21 @@ module _ {E : Type 0} (shape : MembersShape E) where
   }
 
   -- after one more
-  pub turn : (old now keyed new : List Token) (all left rest : List E) (e : E) → SoFar shape old now all left → left ≡ e ∷ rest
-      → keyed ≡ now ++ key (shape.text e) ∷ [] → AddsValue keyed new (shape.document e) → IsFree (shape.flaws_of e) (shape.SoundOne e)
-      → SoFar shape old new all rest
-  turn old now keyed new all left rest e so_far is named added free = record {
+  pub turn : (old now new : List Token) (all left rest : List E) (e : E) → SoFar shape old now all left → left ≡ e ∷ rest
+      → AddsField now new (shape.text e) (Some (shape.document e)) → IsFree (shape.flaws_of e) (shape.SoundOne e) → SoFar shape old new all rest
+  turn old now new all left rest e so_far is added free = record {
     tokens = so_far.tokens ∙ ap (λ es. now ++ members_tokens (shape.members es)) is ∙ ap (λ ms. now ++ members_tokens ms) (shape.one_more e rest)
-        ∙ sym (field_added now keyed new (shape.text e) (shape.document e) named added (shape.members rest));
+        ∙ sym (added (shape.members rest));
     same_flaws = so_far.same_flaws ∙ ap shape.flaws is ∙ shape.more_flaws e rest ∙ ap (λ xs. xs ++ shape.flaws rest) free.flawless;
     sound = λ it. so_far.sound (subst shape.Sound (sym is) (shape.more_sound e rest free.sound it));
   }
+
+  -- after a key with a value
+  pub turn_by : (old now keyed new : List Token) (all left rest : List E) (e : E) → SoFar shape old now all left → left ≡ e ∷ rest
+      → keyed ≡ now ++ key (shape.text e) ∷ [] → AddsValue keyed new (shape.document e) → IsFree (shape.flaws_of e) (shape.SoundOne e)
+      → SoFar shape old new all rest
+  turn_by old now keyed new all left rest e so_far is named added free =
+      turn old now new all left rest e so_far is (field_added now keyed new (shape.text e) (shape.document e) named added) free
 
   -- where none is left
   pub members_added : (old opened now new : List Token) (all left : List E) → SoFar shape opened now all left → left ≡ []

@@ -2,27 +2,25 @@
 use Rattle.std.proofs.Common.{◌≡◌, Global, List, [], ◌∷◌, ◌++◌, map, Option, Some, None, codes, option_map, refl}
 use Rattle.std.specs.declared.vec.Vec.{Vec}
 use Rattle.json.specs.Json.{Json, object, no_members, member}
-use Rattle.json.specs.Token.{Token, begin_object, end_object, key}
+use Rattle.json.specs.Token.{Token, begin_object, end_object}
 use Rattle.cedar_json_writer.specs.Words.{ActionEntityUID, AddsField, AddsValue, Each, Entity, Expr, IfThere, IsFlawOf, IsFree, IsWrittenEntity, RawName, SoundAction, SoundPairs, SoundParent, SoundRequests, WriteFault, WrittenAction, action_flaws, flaws_in, optional_member, pairs_flaws, raw_name, raw_reference, requests, requests_flaws, written_parent}
-use Rattle.cedar_json_writer.proofs.WritingLemmas.{field_added, fields_after, flaw_left, flaw_right, none_both, object_added}
+use Rattle.cedar_json_writer.proofs.WritingLemmas.{fields_after, flaw_left, flaw_right, none_both, object_added}
 use Rattle.cedar_json_writer.proofs.WrittenEntities.{names_sound}
 use Rattle.cedar_json_writer.proofs.WrittenTypes.{FreeType, raw_ids}
 
 -- the object of requests
-pub requests_added : (old opened keyed one_of named two_of inside new : List Token) (principals resources : Json) (context : Option Json)
-    → opened ≡ old ++ begin_object ∷ [] → keyed ≡ opened ++ key (codes "principalTypes") ∷ [] → AddsValue keyed one_of principals
-    → named ≡ one_of ++ key (codes "resourceTypes") ∷ [] → AddsValue named two_of resources → AddsField two_of inside (codes "context") context
+pub requests_added : (old opened one_of two_of inside new : List Token) (principals resources : Json) (context : Option Json)
+    → opened ≡ old ++ begin_object ∷ [] → AddsField opened one_of (codes "principalTypes") (Some principals)
+    → AddsField one_of two_of (codes "resourceTypes") (Some resources) → AddsField two_of inside (codes "context") context
     → new ≡ inside ++ end_object ∷ []
     → AddsValue old new (object (member (codes "principalTypes") principals (member (codes "resourceTypes") resources
     (optional_member (codes "context") context no_members))))
-requests_added old opened keyed one_of named two_of inside new principals resources context begun first one second two third ended =
+requests_added old opened one_of two_of inside new principals resources context begun one two three ended =
     let p = optional_member (codes "principalTypes") (Some principals) in
     let r = optional_member (codes "resourceTypes") (Some resources) in
     let c = optional_member (codes "context") context in
     object_added old opened inside new (λ rest. p (r (c rest))) begun
-    (fields_after opened two_of inside (λ rest. p (r rest)) c
-    (fields_after opened one_of two_of p r (field_added opened keyed one_of (codes "principalTypes") principals first one)
-    (field_added one_of named two_of (codes "resourceTypes") resources second two)) third) ended
+    (fields_after opened two_of inside (λ rest. p (r rest)) c (fields_after opened one_of two_of p r one two) three) ended
 
 pub requests_free : (principals resources : List RawName) (context : Expr) → FreeType context
     → IsFree (requests_flaws (requests (map (raw_reference None Entity) principals) (map (raw_reference None Entity) resources) context))

@@ -6,13 +6,13 @@ use Rattle.std.specs.Map.{keys_of}
 use Rattle.std.specs.Option.{option_cmp}
 use Rattle.std.specs.declared.cmp.Ordering.{Ordering}
 use Rattle.json.specs.Json.{Json, object, no_members, member}
-use Rattle.json.specs.Token.{Token, begin_object, end_object, key}
+use Rattle.json.specs.Token.{Token, begin_object, end_object}
 use Rattle.cedar_below.proofs.Ordered.{IsStrictlySortedBy-map}
 use Rattle.cedar_json_writer.specs.Words.{AddsField, AddsValue, CommonType, CommonTypeId, Each, Expr, Flaw, IfThere, IsFlawOf, IsFree, IsPlain, Name, NamespaceDefinition, PlainName, RawName, SoundAction, SoundBody, SoundDeclarations, SoundDefinition, SoundFragment, SoundType, Text, WriteFault, WrittenDefinition, WrittenEntity, action_flaws, body_flaws, common_key, common_type_text, common_types_held, declared_flaws, declared_members, definition_document, definition_flaws, id_key, keyed_members, name_cmp, namespace_text, optional_member, plain_name, raw_expr, text_cmp, type_document, type_flaws, written_common_types, written_definition}
 use Rattle.cedar_below.specs.contracts.name.NameOrd.TheImpl as name_ord
 use Rattle.cedar_json.proofs.ListLemmas.{no_length}
 use Rattle.cedar_json.proofs.NameLemmas.{namespace_order}
-use Rattle.cedar_json_writer.proofs.WritingLemmas.{MembersShape, field_added, fields_after, flaw_left, flaw_right, none_both, object_added}
+use Rattle.cedar_json_writer.proofs.WritingLemmas.{MembersShape, fields_after, flaw_left, flaw_right, none_both, object_added}
 use Rattle.cedar_json_writer.proofs.WrittenValues.{name_plain}
 
 -- declarations that a map holds, each under a key that is shown as a name and written as a text
@@ -121,20 +121,18 @@ some_common_types old new all some added = by all.entries some added
     by (entry ∷ rest) filled is = is
 
 -- the object of a definition
-pub definition_added : (old opened keyed entities acted actions commons new : List Token) (entity_types acts : Json) (common_types : Option Json)
-    → opened ≡ old ++ begin_object ∷ [] → keyed ≡ opened ++ key (codes "entityTypes") ∷ [] → AddsValue keyed entities entity_types
-    → acted ≡ entities ++ key (codes "actions") ∷ [] → AddsValue acted actions acts → AddsField actions commons (codes "commonTypes") common_types
+pub definition_added : (old opened entities actions commons new : List Token) (entity_types acts : Json) (common_types : Option Json)
+    → opened ≡ old ++ begin_object ∷ [] → AddsField opened entities (codes "entityTypes") (Some entity_types)
+    → AddsField entities actions (codes "actions") (Some acts) → AddsField actions commons (codes "commonTypes") common_types
     → new ≡ commons ++ end_object ∷ []
     → AddsValue old new (object (member (codes "entityTypes") entity_types (member (codes "actions") acts
     (optional_member (codes "commonTypes") common_types no_members))))
-definition_added old opened keyed entities acted actions commons new entity_types acts common_types begun first one second two third ended =
+definition_added old opened entities actions commons new entity_types acts common_types begun one two three ended =
     let e = optional_member (codes "entityTypes") (Some entity_types) in
     let a = optional_member (codes "actions") (Some acts) in
     let c = optional_member (codes "commonTypes") common_types in
     object_added old opened commons new (λ rest. e (a (c rest))) begun
-    (fields_after opened actions commons (λ rest. e (a rest)) c
-    (fields_after opened entities actions e a (field_added opened keyed entities (codes "entityTypes") entity_types first one)
-    (field_added entities acted actions (codes "actions") acts second two)) third) ended
+    (fields_after opened actions commons (λ rest. e (a rest)) c (fields_after opened entities actions e a one two) three) ended
 
 pub definition_free : (it : WrittenDefinition)
     → IsFree (declared_flaws type_flaws it.common_types) (SoundDeclarations common_key SoundType it.common_types)

@@ -1,8 +1,8 @@
 -- What is written of entity types.
-use Rattle.std.proofs.Common.{◌≡◌, ◌≢◌, List, [], ◌∷◌, Bool, true, false, map, length, Option, Some, None, codes, refl, sym, subst}
+use Rattle.std.proofs.Common.{◌≡◌, ◌≢◌, List, [], ◌∷◌, Bool, true, false, map, length, Option, Some, None, ap, codes, cond, refl, sym, subst}
 use Rattle.std.specs.List.Sorted.{IsStrictlySortedBy}
 use Rattle.json.specs.Token.{Token}
-use Rattle.cedar_json_writer.specs.Words.{AddsField, Each, Entity, Expr, IfThere, IsFree, IsWrittenEntity, RawName, SoundBody, SoundType, body_flaws, empty_record, flaws_in, is_empty_record, parents_held, raw_name, raw_reference, record_expr, reference_array, standard, type_flaws}
+use Rattle.cedar_json_writer.specs.Words.{AddsField, Each, Entity, Expr, IfThere, IsFree, IsWrittenEntity, RawName, SoundBody, SoundType, body_flaws, empty_record, flaws_in, is_empty_record, parents_held, raw_name, raw_reference, record_expr, reference_array, shape_held, standard, type_document, type_flaws}
 use Rattle.cedar_json_writer.proofs.TypeReadBack.{empty-is}
 use Rattle.cedar_json_writer.proofs.WritingLemmas.{none_both}
 use Rattle.cedar_json_writer.proofs.WrittenTypes.{Entries, FreeType, listed, raw_ids}
@@ -17,6 +17,10 @@ filled_record (entry ∷ rest) false some = refl
 record_free : FreeType empty_record
 unfolding type_flaws SoundType IsStrictlySortedBy
 record_free = record { flawless = refl; sound = (tt, tt) }
+
+-- a shape that has something is written
+pub filled_shape : (ty : Expr) → is_empty_record ty ≡ false → shape_held ty ≡ Some (type_document ty)
+filled_shape ty filled = ap (λ test. cond test None (Some (type_document ty))) filled
 
 pub empty_free : (ty : Expr) → is_empty_record ty ≡ true → FreeType ty
 empty_free ty e = subst FreeType (sym (empty-is ty e)) record_free

@@ -44,13 +44,13 @@ some_tags old new tags some added = by tags.entries some added
     by (entry ∷ rest) filled is = is
 
 -- the object of an entity
-pub entity_added : (old opened named one keyed two listed three inside new : List Token) (uid attributes ancestors : Json) (tags : Option Json)
+pub entity_added : (old opened named one two listed three inside new : List Token) (uid attributes ancestors : Json) (tags : Option Json)
     → opened ≡ old ++ begin_object ∷ [] → named ≡ opened ++ key (codes "uid") ∷ [] → AddsValue named one uid
-    → keyed ≡ one ++ key (codes "attrs") ∷ [] → AddsValue keyed two attributes → listed ≡ two ++ key (codes "parents") ∷ []
+    → AddsField one two (codes "attrs") (Some attributes) → listed ≡ two ++ key (codes "parents") ∷ []
     → AddsValue listed three ancestors → AddsField three inside (codes "tags") tags → new ≡ inside ++ end_object ∷ []
     → AddsValue old new (object (member (codes "uid") uid (member (codes "attrs") attributes (member (codes "parents") ancestors
     (optional_member (codes "tags") tags no_members)))))
-entity_added old opened named one keyed two listed three inside new uid attributes ancestors tags begun is_named first is_keyed second is_listed third fourth ended =
+entity_added old opened named one two listed three inside new uid attributes ancestors tags begun is_named first second is_listed third fourth ended =
     let u = optional_member (codes "uid") (Some uid) in
     let a = optional_member (codes "attrs") (Some attributes) in
     let p = optional_member (codes "parents") (Some ancestors) in
@@ -58,23 +58,21 @@ entity_added old opened named one keyed two listed three inside new uid attribut
     object_added old opened inside new (λ rest. u (a (p (t rest)))) begun
     (fields_after opened three inside (λ rest. u (a (p rest))) t
     (fields_after opened two three (λ rest. u (a rest)) p
-    (fields_after opened one two u a (field_added opened named one (codes "uid") uid is_named first)
-    (field_added one keyed two (codes "attrs") attributes is_keyed second))
+    (fields_after opened one two u a (field_added opened named one (codes "uid") uid is_named first) second)
     (field_added two listed three (codes "parents") ancestors is_listed third)) fourth) ended
 
 -- the object of a request
-pub request_added : (old opened one two three keyed inside new : List Token) (principal action resource context : Json)
+pub request_added : (old opened one two three inside new : List Token) (principal action resource context : Json)
     → opened ≡ old ++ begin_object ∷ [] → AddsField opened one (codes "principal") (Some principal) → AddsField one two (codes "action") (Some action)
-    → AddsField two three (codes "resource") (Some resource) → keyed ≡ three ++ key (codes "context") ∷ [] → AddsValue keyed inside context
+    → AddsField two three (codes "resource") (Some resource) → AddsField three inside (codes "context") (Some context)
     → new ≡ inside ++ end_object ∷ []
     → AddsValue old new (object (member (codes "principal") principal (member (codes "action") action (member (codes "resource") resource
     (member (codes "context") context no_members)))))
-request_added old opened one two three keyed inside new principal action resource context begun first second third is_keyed fourth ended =
+request_added old opened one two three inside new principal action resource context begun first second third fourth ended =
     let p = optional_member (codes "principal") (Some principal) in
     let a = optional_member (codes "action") (Some action) in
     let r = optional_member (codes "resource") (Some resource) in
     let c = optional_member (codes "context") (Some context) in
     object_added old opened inside new (λ rest. p (a (r (c rest)))) begun
     (fields_after opened three inside (λ rest. p (a (r rest))) c
-    (fields_after opened two three (λ rest. p (a rest)) r (fields_after opened one two p a first second) third)
-    (field_added three keyed inside (codes "context") context is_keyed fourth)) ended
+    (fields_after opened two three (λ rest. p (a rest)) r (fields_after opened one two p a first second) third) fourth) ended

@@ -1,5 +1,5 @@
 -- What a text is that has the tokens of a fragment's object.
-use Rattle.std.proofs.Common.{◌≡◌, ◌<◌, ◌≤◌, List, [], ◌∷◌, Bool, true, false, cond, length, nat_lt, Option, Some, None, IsSome, Contains, option_and_then, refl, ap, sym, ◌∙◌, append-nil, arith, ltb-false, ltb-true}
+use Rattle.std.proofs.Common.{◌≡◌, ◌<◌, ◌≤◌, List, [], ◌∷◌, ◌++◌, Bool, true, false, cond, length, nat_lt, Option, Some, None, IsSome, Contains, option_and_then, refl, ap, sym, ◌∙◌, append-nil, arith, ltb-false, ltb-true}
 use Rattle.std.specs.Str.{IsUtf8}
 use Rattle.json.proofs.Found.{one_reading}
 use Rattle.json.proofs.Nesting.{value-depth}
@@ -8,11 +8,15 @@ use Rattle.json.specs.Json.{Json, document, if_last, max_depth, value}
 use Rattle.json.specs.Lex.{tokens}
 use Rattle.json.specs.Token.{Token}
 use Rattle.json.specs.Tree.{depth, json_tokens}
-use Rattle.cedar_json_writer.specs.Words.{Describes, Flaw, IsFlawOf, IsFree, IsWritable, SoundFragment, Text, TooDeep, WrittenFragment, fragment_document, fragment_flaws, nesting, nesting_flaws, parts_flaws, too_long}
+use Rattle.cedar_json_writer.specs.Words.{AddsValue, Describes, Flaw, IsFlawOf, IsFree, IsWritable, SoundFragment, Text, TooDeep, WrittenFragment, fragment_document, fragment_flaws, nesting, nesting_flaws, parts_flaws, too_long}
 use Rattle.cedar_json_writer.proofs.FragmentReadBack.{fragment_back}
 use Rattle.cedar_json_writer.proofs.WritingLemmas.{flaw_right, none_both}
 use Rattle.cedar_json_writer.proofs.WrittenKeys.{fragment_unique}
 use Rattle.cedar_json_writer.specs.declared.fault.WriteFault.TheVariants as fault
+
+-- what was written from nothing has just the tokens of its value
+pub written_alone : (opened now : List Token) (j : Json) → opened ≡ [] → AddsValue opened now j → now ≡ json_tokens j
+written_alone opened now j begun added = added ∙ ap (λ l. l ++ json_tokens j) begun
 
 -- a text that has the tokens of a value which nests no deeper than is read is that value
 document_of : (text : Text) (j : Json) → tokens text ≡ json_tokens j → depth j ≤ max_depth → document text ≡ Some j

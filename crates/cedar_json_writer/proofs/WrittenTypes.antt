@@ -211,18 +211,17 @@ pub set_flaw : (element : Expr) (f : WriteFault) → IsFlawOf (type_flaws elemen
 unfolding type_flaws
 set_flaw element f is = is
 
-pub record_fields : (old worded keyed held new : List Token) (all : AttributeList) (additional : Bool)
-    → AddsField old worded (codes "type") (Some (string (codes "Record"))) → keyed ≡ worded ++ key (codes "attributes") ∷ []
-    → AddsValue keyed held (object (attribute_members all)) → AddsField held new (codes "additionalAttributes") (flag_held false additional)
+pub record_fields : (old worded held new : List Token) (all : AttributeList) (additional : Bool)
+    → AddsField old worded (codes "type") (Some (string (codes "Record")))
+    → AddsField worded held (codes "attributes") (Some (object (attribute_members all))) → AddsField held new (codes "additionalAttributes") (flag_held false additional)
     → AddsFields old new (type_members (record_expr all additional))
 unfolding type_members
-record_fields old worded keyed held new all additional word is_keyed added flag =
+record_fields old worded held new all additional word added flag =
     fields_after old held new
     (λ rest. member (codes "type") (string (codes "Record")) (member (codes "attributes") (object (attribute_members all)) rest))
     (optional_member (codes "additionalAttributes") (flag_held false additional))
     (fields_after old worded held (optional_member (codes "type") (Some (string (codes "Record"))))
-    (optional_member (codes "attributes") (Some (object (attribute_members all)))) word
-    (field_added worded keyed held (codes "attributes") (object (attribute_members all)) is_keyed added))
+    (optional_member (codes "attributes") (Some (object (attribute_members all)))) word added)
     flag
 
 listed-names : (entries : Entries) → attribute_names (listed entries) ≡ map string_bytes (keys_of entries)

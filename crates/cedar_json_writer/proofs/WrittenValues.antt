@@ -15,7 +15,7 @@ use Rattle.cedar_below.proofs.Ordered.{IsStrictlySortedBy-map}
 use Rattle.cedar_json_writer.specs.Words.{AddsField, AddsValue, Arguments, EntityUID, Entries, Flaw, IsFlawOf, IsFree, IsPlain, Name, PlainUid, RestrictedExpr, SoundEntries, SoundValue, SoundValues, Text, Tree, Unwritable, WriteFault, arguments, arity_flaws, call_value, count, entries_flaws, entries_from, entries_of, entry_names, flaw_of, fold-roll-RestrictedExpr, is_among, is_long, key_flaws, lone_key, map_value, name_text, number_value, optional_member, plain_name, roll-RestrictedExpr, set_value, text_cmp, text_value, tree_of, tree_step, trees_of, truth_value, uid_document, uid_of, uid_value, value_document, value_flaws, value_items, value_keys, value_members, values_flaws}
 use Rattle.cedar_below.specs.declared.value.RestrictedExpr.TheOpen as layer
 use Rattle.cedar_below.specs.declared.value.RestrictedExpr.TheVariants as expr
-use Rattle.cedar_json_writer.proofs.WritingLemmas.{MembersShape, field_added, fields_after, flaw_left, flaw_right, none_both, object_added}
+use Rattle.cedar_json_writer.proofs.WritingLemmas.{MembersShape, field_added, fields_after, flaw_left, flaw_right, none_both, object_added, object_by}
 use Rattle.cedar_json_writer.specs.declared.fault.WriteFault.TheVariants as fault
 
 -- a name that isn't reserved is plain
@@ -290,17 +290,17 @@ arity_flaw name args held many same =
     flaw_left (arity_flaws (trees_of args)) (values_flaws (trees_of args)) (fault.Unwritable (Arguments held))
     (subst (λ (flaws : List Flaw). Contains flaws (arguments held)) (sym (arity_of args many)) (0, omega arith, ap arguments (sym same)))
 
-pub call_added : (old opened keyed inside named held valued closed new : List Token) (name : Name) (argument : RestrictedExpr)
-    → opened ≡ old ++ begin_object ∷ [] → keyed ≡ opened ++ key (codes "__extn") ∷ [] → inside ≡ keyed ++ begin_object ∷ []
+pub call_added : (old opened inside named held valued closed new : List Token) (name : Name) (argument : RestrictedExpr)
+    → opened ≡ old ++ begin_object ∷ [] → inside ≡ opened ++ key (codes "__extn") ∷ begin_object ∷ []
     → AddsField inside named (codes "fn") (Some (string (name_text (plain_name name)))) → held ≡ named ++ key (codes "arg") ∷ []
     → AddsValue held valued (value_document (tree_of argument)) → closed ≡ valued ++ end_object ∷ [] → new ≡ closed ++ end_object ∷ []
     → AddsValue old new (value_document (call_value (plain_name name) (trees_of (argument ∷ []))))
 unfolding value_document
-call_added old opened keyed inside named held valued closed new name argument begun is_keyed begun_inside function is_held added ended_inside ended =
+call_added old opened inside named held valued closed new name argument begun begun_inside function is_held added ended_inside ended =
     let fn = optional_member (codes "fn") (Some (string (name_text (plain_name name)))) in
     let arg = optional_member (codes "arg") (Some (value_document (tree_of argument))) in
-    let call = object_added keyed inside valued closed (λ rest. fn (arg rest)) begun_inside
-    (fields_after inside named valued fn arg function (field_added named held valued (codes "arg") (value_document (tree_of argument)) is_held added))
-    ended_inside in
     object_added old opened closed new (optional_member (codes "__extn") (Some (object (fn (arg no_members))))) begun
-    (field_added opened keyed closed (codes "__extn") (object (fn (arg no_members))) is_keyed call) ended
+    (object_by opened inside closed (codes "__extn") (object (fn (arg no_members))) begun_inside
+    (λ is_begun. object_added _ inside valued closed (λ rest. fn (arg rest)) is_begun
+    (fields_after inside named valued fn arg function (field_added named held valued (codes "arg") (value_document (tree_of argument)) is_held added))
+    ended_inside)) ended

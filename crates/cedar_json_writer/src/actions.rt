@@ -1,12 +1,14 @@
 //! Declarations of actions that are written.
 
-ghost use Rattle.std.specs.Prelude.{OnOk, codes, map, option_map};
+ghost use Rattle.std.specs.Prelude.{Some, OnOk, codes, map, option_map};
 ghost use Rattle.json.specs.Json.{string};
 ghost use Rattle.cedar_json_writer.specs.Words.{AddsField, AddsValue, IfThere, IsChecked, SoundAction, SoundPairs, SoundRequests, action_document, action_flaws, flaws_in, name_text, pairs_document, pairs_flaws, parent_array, parent_document, raw_name, requests_document, requests_flaws, written_action, written_pairs, written_parent, written_requests};
 
 use crate::entity_types::write_shape_field;
 use crate::fault::WriteFault;
-use crate::fields::{write_flag, write_name_field, write_names, write_text_field};
+use crate::fields::{
+    close_object, open_object, write_flag, write_name_field, write_names_field, write_text_field,
+};
 use crate::values::write_attribute_values;
 use cedar_below::{M, Value};
 use cedar_names::json_schema::{ActionEntityUID, ActionType, ApplySpec, RawName};
@@ -36,19 +38,6 @@ fn write_parent(alloc: Global, out: &mut Pretty, it: &ActionEntityUID<RawName>) 
     Ok(())
 }
 
-/// Writes the array of some parents.
-fn write_parents(alloc: Global, out: &mut Pretty, parents: &Vec<ActionEntityUID<RawName>>) -> M<()>
-    ensures { OnOk result (AddsValue out.old out.new
-        (parent_array (map written_parent parents.now.items))) }
-{
-    out.token(Token::BeginArray)?;
-    for parent in parents {
-        write_parent(alloc, out, parent)?;
-    }
-    out.token(Token::EndArray)?;
-    Ok(())
-}
-
 /// Writes the field for parents, where some are written.
 fn write_member_of_field(
     alloc: Global,
@@ -63,28 +52,11 @@ fn write_member_of_field(
         return Ok(());
     };
     out.token(Token::Key("memberOf"))?;
-    write_parents(alloc, out, parents)?;
-    Ok(())
-}
-
-/// Writes the object of the requests that an action is for.
-fn write_requests(
-    alloc: Global,
-    out: &mut Pretty,
-    it: &ApplySpec<RawName>,
-) -> Result<(), WriteFault>
-    ensures written { OnOk result (AddsValue out.old out.new
-        (requests_document (written_requests it.now))) }
-    ensures checked { IsChecked result (requests_flaws (written_requests it.now))
-        (SoundRequests (written_requests it.now)) }
-{
-    out.token(Token::BeginObject)?;
-    out.token(Token::Key("principalTypes"))?;
-    write_names(alloc, out, &it.principal_types)?;
-    out.token(Token::Key("resourceTypes"))?;
-    write_names(alloc, out, &it.resource_types)?;
-    write_shape_field(alloc, out, "context", &it.context.0)?;
-    out.token(Token::EndObject)?;
+    out.token(Token::BeginArray)?;
+    for parent in parents {
+        write_parent(alloc, out, parent)?;
+    }
+    out.token(Token::EndArray)?;
     Ok(())
 }
 
@@ -103,9 +75,11 @@ fn write_applies_to_field(
     let Some(it) = applies_to else {
         return Ok(());
     };
-    out.token(Token::Key("appliesTo"))?;
-    write_requests(alloc, out, it)?;
-    Ok(())
+    open_object(out, "appliesTo")?;
+    write_names_field(alloc, out, "principalTypes", &it.principal_types)?;
+    write_names_field(alloc, out, "resourceTypes", &it.resource_types)?;
+    write_shape_field(alloc, out, "context", &it.context.0)?;
+    close_object(out)
 }
 
 /// Writes the field for attributes, where some are written.
@@ -123,27 +97,25 @@ fn write_attributes_field(
     let Some(values) = attributes else {
         return Ok(());
     };
-    out.token(Token::Key("attributes"))?;
-    write_attribute_values(alloc, out, values)?;
-    Ok(())
+    write_attribute_values(alloc, out, "attributes", values)
 }
 
-/// Writes the object of an action.
+/// Writes the field of an action, under its id.
 pub(crate) fn write_action(
     alloc: Global,
     out: &mut Pretty,
+    id: &str,
     it: &ActionType<RawName>,
 ) -> Result<(), WriteFault>
-    ensures written { OnOk result (AddsValue out.old out.new
-        (action_document (written_action it.now))) }
+    ensures written { OnOk result (AddsField out.old out.new id.now
+        (Some (action_document (written_action it.now)))) }
     ensures checked { IsChecked result (action_flaws (written_action it.now))
         (SoundAction (written_action it.now)) }
 {
-    out.token(Token::BeginObject)?;
+    open_object(out, id)?;
     write_applies_to_field(alloc, out, &it.applies_to)?;
     write_member_of_field(alloc, out, &it.member_of)?;
     write_attributes_field(alloc, out, &it.attributes)?;
     write_flag(out, "external", false, it.external)?;
-    out.token(Token::EndObject)?;
-    Ok(())
+    close_object(out)
 }

@@ -8,6 +8,7 @@ ghost use Rattle.cedar_json_writer.specs.Words.{AddsField, AddsValue, IsChecked,
 use crate::actions::write_action;
 use crate::entity_types::write_entity_type;
 use crate::fault::WriteFault;
+use crate::fields::{close_object, open_object};
 use crate::types::write_type;
 use cedar_below::{M, Name, UnreservedId};
 use cedar_names::json_schema::{
@@ -17,28 +18,8 @@ use json::{Pretty, Token};
 use std::alloc::Global;
 use std::collections::BTreeMap;
 
-/// Writes the object of common types.
-fn write_common_types(
-    alloc: Global,
-    out: &mut Pretty,
-    all: &BTreeMap<CommonTypeId, CommonType<RawName>>,
-) -> Result<(), WriteFault>
-    ensures written { OnOk result (AddsValue out.old out.new
-        (object (declared_members type_document (written_common_types all.now)))) }
-    ensures checked { IsChecked result (declared_flaws type_flaws (written_common_types all.now))
-        (SoundDeclarations common_key SoundType (written_common_types all.now)) }
-{
-    out.token(Token::BeginObject)?;
-    for (id, it) in all {
-        out.token(Token::Key(id.as_str()))?;
-        write_type(alloc, out, &it.ty)?;
-    }
-    out.token(Token::EndObject)?;
-    Ok(())
-}
-
 /// Writes the field for common types, where there are some.
-fn write_common_types_field(
+fn write_common_types(
     alloc: Global,
     out: &mut Pretty,
     all: &BTreeMap<CommonTypeId, CommonType<RawName>>,
@@ -51,51 +32,50 @@ fn write_common_types_field(
     if all.is_empty() {
         return Ok(());
     }
-    out.token(Token::Key("commonTypes"))?;
-    write_common_types(alloc, out, all)?;
-    Ok(())
+    open_object(out, "commonTypes")?;
+    for (id, it) in all {
+        out.token(Token::Key(id.as_str()))?;
+        write_type(alloc, out, &it.ty)?;
+    }
+    close_object(out)
 }
 
-/// Writes the object of entity types.
+/// Writes the field of entity types.
 fn write_entity_types(
     alloc: Global,
     out: &mut Pretty,
     all: &BTreeMap<UnreservedId, EntityType<RawName>>,
 ) -> Result<(), WriteFault>
-    ensures written { OnOk result (AddsValue out.old out.new
-        (object (declared_members entity_type_document (written_entity_types all.now)))) }
+    ensures written { OnOk result (AddsField out.old out.new (codes "entityTypes")
+        (Some (object (declared_members entity_type_document (written_entity_types all.now))))) }
     ensures checked { IsChecked result
         (declared_flaws (λ entity. body_flaws entity.body) (written_entity_types all.now))
         (SoundDeclarations id_key (λ entity. SoundBody entity.body)
         (written_entity_types all.now)) }
 {
-    out.token(Token::BeginObject)?;
+    open_object(out, "entityTypes")?;
     for (id, it) in all {
-        out.token(Token::Key(id.as_str()))?;
-        write_entity_type(alloc, out, it)?;
+        write_entity_type(alloc, out, id.as_str(), it)?;
     }
-    out.token(Token::EndObject)?;
-    Ok(())
+    close_object(out)
 }
 
-/// Writes the object of actions.
+/// Writes the field of actions.
 fn write_actions(
     alloc: Global,
     out: &mut Pretty,
     all: &BTreeMap<String, ActionType<RawName>>,
 ) -> Result<(), WriteFault>
-    ensures written { OnOk result (AddsValue out.old out.new
-        (object (declared_members action_document (written_actions all.now)))) }
+    ensures written { OnOk result (AddsField out.old out.new (codes "actions")
+        (Some (object (declared_members action_document (written_actions all.now))))) }
     ensures checked { IsChecked result (declared_flaws action_flaws (written_actions all.now))
         (SoundDeclarations Some SoundAction (written_actions all.now)) }
 {
-    out.token(Token::BeginObject)?;
+    open_object(out, "actions")?;
     for (id, it) in all {
-        out.token(Token::Key(id.as_str()))?;
-        write_action(alloc, out, it)?;
+        write_action(alloc, out, id.as_str(), it)?;
     }
-    out.token(Token::EndObject)?;
-    Ok(())
+    close_object(out)
 }
 
 /// Writes the object of a definition.
@@ -110,13 +90,10 @@ fn write_definition(
         (SoundDefinition (written_definition it.now)) }
 {
     out.token(Token::BeginObject)?;
-    out.token(Token::Key("entityTypes"))?;
     write_entity_types(alloc, out, &it.entity_types)?;
-    out.token(Token::Key("actions"))?;
     write_actions(alloc, out, &it.actions)?;
-    write_common_types_field(alloc, out, &it.common_types)?;
-    out.token(Token::EndObject)?;
-    Ok(())
+    write_common_types(alloc, out, &it.common_types)?;
+    close_object(out)
 }
 
 /// Writes the key of a namespace.
@@ -150,6 +127,5 @@ pub(crate) fn write_fragment(
         write_namespace_key(alloc, out, name)?;
         write_definition(alloc, out, definition)?;
     }
-    out.token(Token::EndObject)?;
-    Ok(())
+    close_object(out)
 }

@@ -6,6 +6,8 @@ ghost use Rattle.json.specs.Tree.{json_tokens};
 ghost use Rattle.cedar_json_writer.specs.Words.{AddsField, AddsValue, IsFlawOf, entity_ancestors, entity_attrs, entity_document, entity_flaws, entity_tags, entity_uid, pairs_flaws, tags_held, uid_array, written_pairs};
 
 use crate::fault::WriteFault;
+use crate::fields::close_object;
+use crate::text::text_of;
 use crate::values::{write_attribute_values, write_uid};
 use cedar_below::{Entity, M, Value};
 use json::{Pretty, Token};
@@ -38,9 +40,7 @@ fn write_tags(
     if tags.is_empty() {
         return Ok(());
     }
-    out.token(Token::Key("tags"))?;
-    write_attribute_values(alloc, out, tags)?;
-    Ok(())
+    write_attribute_values(alloc, out, "tags", tags)
 }
 
 /// Writes the object of an entity.
@@ -56,13 +56,11 @@ fn write_entity(alloc: Global, out: &mut Pretty, entity: &Entity) -> Result<(), 
     out.token(Token::BeginObject)?;
     out.token(Token::Key("uid"))?;
     write_uid(alloc, out, entity.uid())?;
-    out.token(Token::Key("attrs"))?;
-    write_attribute_values(alloc, out, entity.attrs())?;
+    write_attribute_values(alloc, out, "attrs", entity.attrs())?;
     out.token(Token::Key("parents"))?;
     write_ancestors(alloc, out, entity)?;
     write_tags(alloc, out, entity.tags())?;
-    out.token(Token::EndObject)?;
-    Ok(())
+    close_object(out)
 }
 
 /// The text of an entity as JSON (Cedar reference, entities in JSON): an object of `uid`, `attrs`,
@@ -83,5 +81,5 @@ pub fn entity_to_json(alloc: Global, entity: &Entity) -> Result<String, WriteFau
 {
     let mut out = Pretty::new(alloc);
     write_entity(alloc, &mut out, entity)?;
-    Ok(String::from_utf8(out.into_inner()).unwrap())
+    Ok(text_of(out))
 }

@@ -1,11 +1,11 @@
 //! Declarations of entity types that are written.
 
-ghost use Rattle.std.specs.Prelude.{◌≡◌, None, OnOk, codes, map, option_map};
-ghost use Rattle.cedar_json_writer.specs.Words.{AddsField, AddsFields, AddsValue, Entity, IfThere, IsChecked, SoundBody, SoundType, body_flaws, body_members, entity_type_document, flaws_in, is_empty_record, parents_held, raw_expr, raw_reference, raw_variant, shape_held, type_document, type_flaws, written_entity, written_kind};
+ghost use Rattle.std.specs.Prelude.{◌≡◌, Some, None, OnOk, codes, map, option_map};
+ghost use Rattle.cedar_json_writer.specs.Words.{AddsField, AddsFields, Entity, IfThere, IsChecked, SoundBody, SoundType, body_flaws, body_members, entity_type_document, flaws_in, is_empty_record, parents_held, raw_expr, raw_reference, raw_variant, shape_held, type_document, type_flaws, written_entity, written_kind};
 ghost use Rattle.cedar_names.specs.declared.json_schema.entity_type.EntityTypeKind.TheVariants as kind;
 
 use crate::fault::WriteFault;
-use crate::fields::{write_flag, write_ids, write_names};
+use crate::fields::{close_object, open_object, write_flag, write_ids, write_names_field};
 use crate::types::write_type;
 use cedar_below::M;
 use cedar_names::json_schema::{
@@ -56,8 +56,7 @@ pub(crate) fn write_shape_field(
         return Ok(());
     }
     out.token(Token::Key(name))?;
-    write_type(alloc, out, ty)?;
-    Ok(())
+    write_type(alloc, out, ty)
 }
 
 /// Writes the field for parents, where there are some.
@@ -68,9 +67,7 @@ fn write_parents_field(alloc: Global, out: &mut Pretty, parents: &Vec<RawName>) 
     if parents.is_empty() {
         return Ok(());
     }
-    out.token(Token::Key("memberOfTypes"))?;
-    write_names(alloc, out, parents)?;
-    Ok(())
+    write_names_field(alloc, out, "memberOfTypes", parents)
 }
 
 /// Writes the field for the type of the tags, where there is one.
@@ -88,8 +85,7 @@ fn write_tags_field(
         return Ok(());
     };
     out.token(Token::Key("tags"))?;
-    write_type(alloc, out, ty)?;
-    Ok(())
+    write_type(alloc, out, ty)
 }
 
 /// Writes the fields of an entity type that lists no ids.
@@ -105,8 +101,7 @@ fn write_standard(
 {
     write_parents_field(alloc, out, &it.member_of_types)?;
     write_shape_field(alloc, out, "shape", &it.shape.0)?;
-    write_tags_field(alloc, out, &it.tags)?;
-    Ok(())
+    write_tags_field(alloc, out, &it.tags)
 }
 
 /// Writes the fields of an entity type but for `external`.
@@ -130,20 +125,20 @@ fn write_kind(
     }
 }
 
-/// Writes the object of an entity type.
+/// Writes the field of an entity type, under its id.
 pub(crate) fn write_entity_type(
     alloc: Global,
     out: &mut Pretty,
+    id: &str,
     it: &EntityType<RawName>,
 ) -> Result<(), WriteFault>
-    ensures written { OnOk result (AddsValue out.old out.new
-        (entity_type_document (written_entity it.now))) }
+    ensures written { OnOk result (AddsField out.old out.new id.now
+        (Some (entity_type_document (written_entity it.now)))) }
     ensures checked { IsChecked result (body_flaws (written_entity it.now).body)
         (SoundBody (written_entity it.now).body) }
 {
-    out.token(Token::BeginObject)?;
+    open_object(out, id)?;
     write_kind(alloc, out, &it.kind)?;
     write_flag(out, "external", false, it.external)?;
-    out.token(Token::EndObject)?;
-    Ok(())
+    close_object(out)
 }

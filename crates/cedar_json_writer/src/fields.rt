@@ -1,15 +1,35 @@
 //! Fields and arrays that are written.
 
-ghost use Rattle.std.specs.Prelude.{◌≡◌, ◌++◌, ◌∷◌, [], Some, None, OnOk, map};
+ghost use Rattle.std.specs.Prelude.{◌≡◌, ◌++◌, ◌∷◌, [], Some, None, OnOk, IfErr, map};
 ghost use Rattle.json.specs.Json.{string};
+ghost use Rattle.json.specs.Token.{begin_object, end_object, key};
 ghost use Rattle.json.specs.Tree.{items_tokens};
 ghost use Rattle.json.specs.Value.{items_of as spec_items};
 ghost use Rattle.cedar_json_writer.specs.Words.{AddsField, AddsValue, Entity, eid_text, flag_held, items_of, name_of, name_text, raw_reference, reference_array, text_array};
 
+use crate::fault::WriteFault;
 use cedar_below::{Eid, InternalName, M, NonEmpty};
 use cedar_names::json_schema::RawName;
 use json::{Pretty, Token};
 use std::alloc::Global;
+
+/// Writes a key, and the bracket that opens its object.
+pub(crate) fn open_object(out: &mut Pretty, name: &str) -> M<()>
+    ensures { OnOk result (out.new ≡ out.old ++ key name.now ∷ begin_object ∷ []) }
+{
+    out.token(Token::Key(name))?;
+    out.token(Token::BeginObject)?;
+    Ok(())
+}
+
+/// Writes the bracket that closes an object.
+pub(crate) fn close_object(out: &mut Pretty) -> Result<(), WriteFault>
+    ensures written { OnOk result (out.new ≡ out.old ++ end_object ∷ []) }
+    ensures fault { IfErr result (λ fault. fault ≡ WriteFault.Memory) }
+{
+    out.token(Token::EndObject)?;
+    Ok(())
+}
 
 /// Writes a field that holds a text.
 pub(crate) fn write_text_field(out: &mut Pretty, name: &str, text: &str) -> M<()>
@@ -54,11 +74,17 @@ pub(crate) fn write_name_field(
     write_name(alloc, out, name)
 }
 
-/// Writes an array of names of entity types.
-pub(crate) fn write_names(alloc: Global, out: &mut Pretty, names: &Vec<RawName>) -> M<()>
-    ensures { OnOk result (AddsValue out.old out.new
-        (reference_array (map (raw_reference None Entity) names.now.items))) }
+/// Writes a field that holds names of entity types.
+pub(crate) fn write_names_field(
+    alloc: Global,
+    out: &mut Pretty,
+    field: &str,
+    names: &Vec<RawName>,
+) -> M<()>
+    ensures { OnOk result (AddsField out.old out.new field.now
+        (Some (reference_array (map (raw_reference None Entity) names.now.items)))) }
 {
+    out.token(Token::Key(field))?;
     out.token(Token::BeginArray)?;
     for name in names {
         write_name(alloc, out, name.as_internal())?;

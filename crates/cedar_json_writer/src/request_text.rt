@@ -7,6 +7,8 @@ ghost use Rattle.json.specs.Tree.{json_tokens};
 ghost use Rattle.cedar_json_writer.specs.Words.{AddsField, AddsValue, IsFlawOf, pairs_flaws, request_document, uid_of, uid_text, written_pairs};
 
 use crate::fault::WriteFault;
+use crate::fields::{close_object, write_text_field};
+use crate::text::text_of;
 use crate::values::write_attribute_values;
 use cedar_below::{EntityUID, M, Value};
 use json::{Pretty, Token};
@@ -19,9 +21,7 @@ fn write_uid_field(alloc: Global, out: &mut Pretty, name: &str, uid: &EntityUID)
         (AddsField out.old out.new name.now (Some (string (uid_text (uid_of uid.now))))) }
 {
     let text = uid.to_string(alloc)?;
-    out.token(Token::Key(name))?;
-    out.token(Token::String(text.as_str()))?;
-    Ok(())
+    write_text_field(out, name, text.as_str())
 }
 
 /// Writes the object of a request.
@@ -43,10 +43,8 @@ fn write_request(
     write_uid_field(alloc, out, "principal", principal)?;
     write_uid_field(alloc, out, "action", action)?;
     write_uid_field(alloc, out, "resource", resource)?;
-    out.token(Token::Key("context"))?;
-    write_attribute_values(alloc, out, context)?;
-    out.token(Token::EndObject)?;
-    Ok(())
+    write_attribute_values(alloc, out, "context", context)?;
+    close_object(out)
 }
 
 /// The text of a request as JSON (Cedar reference, entities and context in JSON): an object of
@@ -70,5 +68,5 @@ pub fn request_to_json(
 {
     let mut out = Pretty::new(alloc);
     write_request(alloc, &mut out, principal, action, resource, context)?;
-    Ok(String::from_utf8(out.into_inner()).unwrap())
+    Ok(text_of(out))
 }

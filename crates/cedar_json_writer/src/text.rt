@@ -1,7 +1,9 @@
 //! Fragments, written as texts.
 
 ghost use Rattle.std.specs.Prelude.{◌≡◌, ◌<◌, [], IfOk, IfErr, length, string_bytes};
+ghost use Rattle.std.specs.Str.{IsUtf8};
 ghost use Rattle.json.specs.Layout.{pretty};
+ghost use Rattle.json.specs.Lex.{tokens};
 ghost use Rattle.json.specs.Tree.{json_tokens};
 ghost use Rattle.cedar_json_writer.specs.Words.{Describes, IsFlawOf, IsWritable, fragment_document, fragment_flaws, too_long, written_fragment};
 
@@ -10,6 +12,15 @@ use crate::fault::{Unwritable, WriteFault};
 use cedar_names::json_schema::{Fragment, RawName};
 use json::{Pretty, Scratch, is_valid};
 use std::alloc::Global;
+
+/// The text that was written.
+pub(crate) fn text_of(out: Pretty) -> String
+    ensures tokens { tokens (string_bytes result) ≡ out }
+    ensures layout { string_bytes result ≡ pretty out }
+    ensures utf8 { IsUtf8 (string_bytes result) }
+{
+    String::from_utf8(out.into_inner()).unwrap()
+}
 
 /// The text of a fragment in Cedar's JSON schema format (Cedar reference, JSON schema format).
 /// Each item and member stands on a line of its own, two blanks deeper for each level, and there is
@@ -29,7 +40,7 @@ pub fn fragment_to_json(alloc: Global, fragment: &Fragment<RawName>) -> Result<S
 {
     let mut out = Pretty::new(alloc);
     write_fragment(alloc, &mut out, fragment)?;
-    let text = String::from_utf8(out.into_inner()).unwrap();
+    let text = text_of(out);
     let mut scratch = Scratch::new(alloc);
     if is_valid(text.as_str(), &mut scratch)? {
         Ok(text)

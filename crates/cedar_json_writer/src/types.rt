@@ -1,12 +1,12 @@
 //! Types that are written.
 
-ghost use Rattle.std.specs.Prelude.{◌≡◌, Some, None, true, false, MatchOption, OnOk, codes};
+ghost use Rattle.std.specs.Prelude.{◌≡◌, Some, None, true, false, MatchOption, OnOk, IfErr, codes};
 ghost use Rattle.json.specs.Json.{member, object, string};
-ghost use Rattle.cedar_json_writer.specs.Words.{AddsFields, AddsValue, Common, IsChecked, SoundType, attribute_document, attribute_members, attributes_of, extension_expr, is_among, name_text, named, raw_attribute, raw_expr, raw_name, raw_record, raw_reference, raw_variant, set_expr, type_document, type_flaws, type_members, type_words, unreserved_id_text};
+ghost use Rattle.cedar_json_writer.specs.Words.{AddsField, AddsFields, AddsValue, Common, IsChecked, SoundType, attribute_document, attribute_members, attributes_of, extension_expr, is_among, name_text, named, raw_attribute, raw_expr, raw_name, raw_record, raw_reference, raw_variant, set_expr, type_document, type_flaws, type_members, type_words, unreserved_id_text};
 
 use crate::fault::{Unwritable, WriteFault};
-use crate::fields::{write_flag, write_name_field, write_text_field};
-use cedar_below::{M, UnreservedId};
+use crate::fields::{close_object, open_object, write_flag, write_name_field, write_text_field};
+use cedar_below::UnreservedId;
 use cedar_names::json_schema::{RawName, RecordType, Type, TypeOfAttribute, TypeVariant};
 use json::{Pretty, Token};
 use std::alloc::Global;
@@ -57,11 +57,27 @@ fn write_common(alloc: Global, out: &mut Pretty, name: &RawName) -> Result<(), W
     Ok(())
 }
 
+/// Writes the one field of a form that has no more.
+fn write_word(out: &mut Pretty, word: &str) -> Result<(), WriteFault>
+    ensures written { OnOk result
+        (AddsField out.old out.new (codes "type") (Some (string word.now))) }
+    ensures fault { IfErr result (λ fault. fault ≡ WriteFault.Memory) }
+{
+    write_text_field(out, "type", word)?;
+    Ok(())
+}
+
 /// Writes the fields of a form that has a name.
-fn write_named(alloc: Global, out: &mut Pretty, word: &str, name: &RawName) -> M<()>
-    ensures { OnOk result (AddsFields out.old out.new (λ rest. member (codes "type")
+fn write_named(
+    alloc: Global,
+    out: &mut Pretty,
+    word: &str,
+    name: &RawName,
+) -> Result<(), WriteFault>
+    ensures written { OnOk result (AddsFields out.old out.new (λ rest. member (codes "type")
         (string word.now)
         (member (codes "name") (string (name_text (raw_name name.now))) rest))) }
+    ensures fault { IfErr result (λ fault. fault ≡ WriteFault.Memory) }
 {
     write_text_field(out, "type", word)?;
     write_name_field(alloc, out, "name", name.as_internal())?;
@@ -69,9 +85,10 @@ fn write_named(alloc: Global, out: &mut Pretty, word: &str, name: &RawName) -> M
 }
 
 /// Writes the fields of an extension type.
-fn write_extension(out: &mut Pretty, name: &UnreservedId) -> M<()>
-    ensures { OnOk result (AddsFields out.old out.new
+fn write_extension(out: &mut Pretty, name: &UnreservedId) -> Result<(), WriteFault>
+    ensures written { OnOk result (AddsFields out.old out.new
         (type_members (extension_expr (unreserved_id_text name.now)))) }
+    ensures fault { IfErr result (λ fault. fault ≡ WriteFault.Memory) }
 {
     write_text_field(out, "type", "Extension")?;
     write_text_field(out, "name", name.as_str())?;
@@ -105,16 +122,16 @@ fn write_variant(
         (SoundType (raw_variant None ty.now)) }
 {
     match ty {
-        TypeVariant::String => Ok(write_text_field(out, "type", "String")?),
-        TypeVariant::Long => Ok(write_text_field(out, "type", "Long")?),
-        TypeVariant::Boolean => Ok(write_text_field(out, "type", "Boolean")?),
+        TypeVariant::String => write_word(out, "String"),
+        TypeVariant::Long => write_word(out, "Long"),
+        TypeVariant::Boolean => write_word(out, "Boolean"),
         TypeVariant::Set { element } => write_set(alloc, out, element),
         TypeVariant::Record(record_type) => write_record(alloc, out, record_type),
-        TypeVariant::Entity { name } => Ok(write_named(alloc, out, "Entity", name)?),
+        TypeVariant::Entity { name } => write_named(alloc, out, "Entity", name),
         TypeVariant::EntityOrCommon { type_name } => {
-            Ok(write_named(alloc, out, "EntityOrCommon", type_name)?)
+            write_named(alloc, out, "EntityOrCommon", type_name)
         }
-        TypeVariant::Extension { name } => Ok(write_extension(out, name)?),
+        TypeVariant::Extension { name } => write_extension(out, name),
     }
 }
 
@@ -128,8 +145,7 @@ fn write_set(alloc: Global, out: &mut Pretty, element: &Type<RawName>) -> Result
 {
     write_text_field(out, "type", "Set")?;
     out.token(Token::Key("element"))?;
-    write_type(alloc, out, element)?;
-    Ok(())
+    write_type(alloc, out, element)
 }
 
 /// Writes the fields of a record type.
@@ -145,52 +161,49 @@ fn write_record(
         (SoundType (raw_record None record_type.now)) }
 {
     write_text_field(out, "type", "Record")?;
-    out.token(Token::Key("attributes"))?;
     write_attributes(alloc, out, record_type)?;
     let additional = record_type.additional_attributes;
     write_flag(out, "additionalAttributes", false, additional)?;
     Ok(())
 }
 
-/// Writes the object of the attributes of a record type.
+/// Writes the field of the attributes of a record type.
 #[cycle(type_writing)]
 fn write_attributes(
     alloc: Global,
     out: &mut Pretty,
     record_type: &RecordType<RawName>,
 ) -> Result<(), WriteFault>
-    ensures written { OnOk result (AddsValue out.old out.new
-        (object (attribute_members (attributes_of (raw_record None record_type.now))))) }
+    ensures written { OnOk result (AddsField out.old out.new (codes "attributes")
+        (Some (object (attribute_members (attributes_of (raw_record None record_type.now)))))) }
     ensures checked { IsChecked result (type_flaws (raw_record None record_type.now))
         (SoundType (raw_record None record_type.now)) }
 {
-    out.token(Token::BeginObject)?;
+    open_object(out, "attributes")?;
     for (name, attribute) in &record_type.attributes {
-        out.token(Token::Key(name.as_str()))?;
-        write_attribute(alloc, out, attribute)?;
+        write_attribute(alloc, out, name.as_str(), attribute)?;
     }
-    out.token(Token::EndObject)?;
-    Ok(())
+    close_object(out)
 }
 
-/// Writes the object of an attribute.
+/// Writes the field of an attribute, under its name.
 #[cycle(type_writing)]
 fn write_attribute(
     alloc: Global,
     out: &mut Pretty,
+    name: &str,
     attribute: &TypeOfAttribute<RawName>,
 ) -> Result<(), WriteFault>
-    ensures written { OnOk result (AddsValue out.old out.new
-        (attribute_document (raw_attribute None attribute.now).0
-        (raw_attribute None attribute.now).1)) }
+    ensures written { OnOk result (AddsField out.old out.new name.now
+        (Some (attribute_document (raw_attribute None attribute.now).0
+        (raw_attribute None attribute.now).1))) }
     ensures checked { IsChecked result (type_flaws (raw_attribute None attribute.now).1)
         (SoundType (raw_attribute None attribute.now).1) }
 {
-    out.token(Token::BeginObject)?;
+    open_object(out, name)?;
     write_fields(alloc, out, &attribute.ty)?;
     write_flag(out, "required", true, attribute.required)?;
-    out.token(Token::EndObject)?;
-    Ok(())
+    close_object(out)
 }
 
 /// Writes the object of a type.
@@ -207,6 +220,5 @@ pub(crate) fn write_type(
 {
     out.token(Token::BeginObject)?;
     write_fields(alloc, out, ty)?;
-    out.token(Token::EndObject)?;
-    Ok(())
+    close_object(out)
 }

@@ -6,6 +6,7 @@ ghost use Rattle.json.specs.Tree.{json_tokens};
 ghost use Rattle.cedar_json_writer.specs.Words.{IsFlawOf, tree_of, value_document, value_expr, value_flaws};
 
 use crate::fault::WriteFault;
+use crate::text::text_of;
 use crate::values::write_value;
 use cedar_below::Value;
 use json::Pretty;
@@ -26,5 +27,5 @@ pub fn value_to_json(alloc: Global, value: &Value) -> Result<String, WriteFault>
 {
     let mut out = Pretty::new(alloc);
     write_value(alloc, &mut out, value.expr())?;
-    Ok(String::from_utf8(out.into_inner()).unwrap())
+    Ok(text_of(out))
 }

@@ -1,12 +1,12 @@
 //! Values of Cedar that are written.
 
-ghost use Rattle.std.specs.Prelude.{◌≡◌, [], true, false, MatchOption, MatchResult, OnOk, Contains, map, string_bytes};
+ghost use Rattle.std.specs.Prelude.{◌≡◌, [], Some, true, false, MatchOption, MatchResult, OnOk, IfErr, Contains, map, string_bytes};
 ghost use Rattle.std.specs.Fmt.{signed_decimal};
 ghost use Rattle.json.specs.Json.{array, number, object};
-ghost use Rattle.cedar_json_writer.specs.Words.{AddsValue, IsChecked, SoundPairs, SoundValue, call_value, entries_flaws, entries_from, entries_of, flaw_of, is_among, is_long, key_flaws, map_value, pairs_document, pairs_flaws, plain_name, set_value, tree_of, trees_of, uid_document, uid_of, uid_value, value_document, value_expr, value_flaws, value_keys, value_members, written_pairs};
+ghost use Rattle.cedar_json_writer.specs.Words.{AddsField, AddsValue, IsChecked, SoundPairs, SoundValue, call_value, entries_flaws, entries_from, entries_of, flaw_of, is_among, is_long, key_flaws, map_value, pairs_document, pairs_flaws, plain_name, set_value, tree_of, trees_of, uid_document, uid_of, uid_value, value_document, value_expr, value_flaws, value_keys, value_members, written_pairs};
 
 use crate::fault::{Unwritable, WriteFault};
-use crate::fields::{write_name_field, write_text_field};
+use crate::fields::{close_object, open_object, write_name_field, write_text_field};
 use cedar_below::{EntityUID, M, Name, RestrictedExpr, Value};
 use json::{Pretty, Token};
 use std::alloc::Global;
@@ -42,9 +42,10 @@ fn check_keys(values: &BTreeMap<String, RestrictedExpr>) -> Result<(), Unwritabl
 }
 
 /// Writes a whole number.
-fn write_number(alloc: Global, out: &mut Pretty, whole: &i64) -> M<()>
+fn write_number(alloc: Global, out: &mut Pretty, whole: &i64) -> Result<(), WriteFault>
     ensures written { OnOk result (AddsValue out.old out.new (number (signed_decimal whole.now))) }
     ensures fits { is_long whole.now ≡ true }
+    ensures fault { IfErr result (λ fault. fault ≡ WriteFault.Memory) }
 {
     let value = *whole;
     let text = value.to_string(alloc)?;
@@ -64,15 +65,15 @@ pub(crate) fn write_uid(alloc: Global, out: &mut Pretty, uid: &EntityUID) -> M<(
 }
 
 /// Writes a reference to an entity.
-fn write_entity(alloc: Global, out: &mut Pretty, uid: &EntityUID) -> M<()>
-    ensures { OnOk result (AddsValue out.old out.new
+fn write_entity(alloc: Global, out: &mut Pretty, uid: &EntityUID) -> Result<(), WriteFault>
+    ensures written { OnOk result (AddsValue out.old out.new
         (value_document (uid_value (uid_of uid.now)))) }
+    ensures fault { IfErr result (λ fault. fault ≡ WriteFault.Memory) }
 {
     out.token(Token::BeginObject)?;
     out.token(Token::Key("__entity"))?;
     write_uid(alloc, out, uid)?;
-    out.token(Token::EndObject)?;
-    Ok(())
+    close_object(out)
 }
 
 /// Writes a value.
@@ -88,9 +89,9 @@ pub(crate) fn write_value(
 {
     match expr {
         RestrictedExpr::Bool(flag) => Ok(out.token(Token::Bool(*flag))?),
-        RestrictedExpr::Long(number) => Ok(write_number(alloc, out, number)?),
+        RestrictedExpr::Long(number) => write_number(alloc, out, number),
         RestrictedExpr::String(text) => Ok(out.token(Token::String(text.as_str()))?),
-        RestrictedExpr::EntityUid(uid) => Ok(write_entity(alloc, out, uid)?),
+        RestrictedExpr::EntityUid(uid) => write_entity(alloc, out, uid),
         RestrictedExpr::Set(values) => write_values(alloc, out, values),
         RestrictedExpr::Record(values) => write_record_value(alloc, out, values),
         RestrictedExpr::ExtensionCall { function, args } => {
@@ -132,29 +133,12 @@ fn write_record_value(
         (SoundValue (map_value (entries_of values.now))) }
 {
     check_keys(values)?;
-    write_pairs(alloc, out, values)?;
-    Ok(())
-}
-
-/// Writes an object of some values, each under its text.
-#[cycle(value_writing)]
-fn write_pairs(
-    alloc: Global,
-    out: &mut Pretty,
-    values: &BTreeMap<String, RestrictedExpr>,
-) -> Result<(), WriteFault>
-    ensures written { OnOk result (AddsValue out.old out.new
-        (object (value_members (entries_of values.now)))) }
-    ensures checked { IsChecked result (entries_flaws (entries_of values.now))
-        (SoundValue (map_value (entries_of values.now))) }
-{
     out.token(Token::BeginObject)?;
     for (name, value) in values {
         out.token(Token::Key(name.as_str()))?;
         write_value(alloc, out, value)?;
     }
-    out.token(Token::EndObject)?;
-    Ok(())
+    close_object(out)
 }
 
 /// Writes a call.
@@ -175,32 +159,30 @@ fn write_call(
         return Err(WriteFault::Unwritable(Unwritable::Arguments(args.len())));
     }
     out.token(Token::BeginObject)?;
-    out.token(Token::Key("__extn"))?;
-    out.token(Token::BeginObject)?;
+    open_object(out, "__extn")?;
     write_name_field(alloc, out, "fn", function.as_internal())?;
     out.token(Token::Key("arg"))?;
     write_value(alloc, out, &args[0])?;
     out.token(Token::EndObject)?;
-    out.token(Token::EndObject)?;
-    Ok(())
+    close_object(out)
 }
 
-/// Writes the object of an action's attributes.
+/// Writes a field that holds values, each under its text.
 pub(crate) fn write_attribute_values(
     alloc: Global,
     out: &mut Pretty,
+    field: &str,
     values: &BTreeMap<String, Value>,
 ) -> Result<(), WriteFault>
-    ensures written { OnOk result (AddsValue out.old out.new
-        (pairs_document (written_pairs values.now))) }
+    ensures written { OnOk result (AddsField out.old out.new field.now
+        (Some (pairs_document (written_pairs values.now)))) }
     ensures checked { IsChecked result (pairs_flaws (written_pairs values.now))
         (SoundPairs (written_pairs values.now)) }
 {
-    out.token(Token::BeginObject)?;
+    open_object(out, field)?;
     for (name, value) in values {
         out.token(Token::Key(name.as_str()))?;
         write_value(alloc, out, value.expr())?;
     }
-    out.token(Token::EndObject)?;
-    Ok(())
+    close_object(out)
 }

@@ -1,7 +1,6 @@
-use Rattle.std.proofs.Common.{codes, refl, sym, ◌∙◌}
+use Rattle.std.proofs.Common.{refl, sym, ◌∙◌}
 use Rattle.std.proofs.lemmas.Bool.{false≢true}
-use Rattle.cedar_json_writer.specs.Words.{pairs_document, written_pairs}
-use Rattle.cedar_json_writer.proofs.WritingLemmas.{field_added}
+use Rattle.cedar_json_writer.proofs.WritingLemmas.{on_ok}
 use Rattle.cedar_json_writer.proofs.WrittenEntityData.{some_tags, tags_absent, tags_free}
 use Rattle.cedar_json_writer.proofs.entity_text.write_tags.Goals as goal
 
@@ -14,7 +13,6 @@ returns-then-is_empty-clause-writable c = tags_free c.args.tags.now (c.is_empty.
 
 pub returns-clause-written : goal.returns-clause-written
 returns-clause-written c =
-    some_tags c.args.out.now c.write_attribute_values.new.out c.args.tags.now
-    (λ none. false≢true (sym c.if-is_empty.false ∙ c.is_empty.ensures.1 none))
-    (field_added c.args.out.now c.token.new.self c.write_attribute_values.new.out (codes "tags")
-    (pairs_document (written_pairs c.args.tags.now)) c.in_ok-token.ensures.ok c.in_ok-write_attribute_values.ensures.written)
+    on_ok c.write_attribute_values.result c.write_attribute_values.ensures.written
+    (some_tags c.args.out.now c.write_attribute_values.new.out c.args.tags.now
+    (λ none. false≢true (sym c.if-is_empty.false ∙ c.is_empty.ensures.1 none)))

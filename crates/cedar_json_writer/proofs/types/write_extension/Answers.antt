@@ -5,8 +5,8 @@ use Rattle.cedar_json_writer.proofs.WritingLemmas.{fields_after}
 use Rattle.cedar_json_writer.proofs.WrittenTypes.{extension_fields}
 use Rattle.cedar_json_writer.proofs.types.write_extension.Goals as goal
 
-pub returns : goal.returns
-returns c =
+pub returns-clause-written : goal.returns-clause-written
+returns-clause-written c =
     extension_fields c.args.out.now c.write_text_field-2.new.out (unreserved_id_text c.args.name.now)
     (fields_after c.args.out.now c.write_text_field.new.out c.write_text_field-2.new.out
     (optional_member (codes "type") (Some (string (codes "Extension"))))

@@ -4,8 +4,8 @@ use Rattle.cedar_json_writer.specs.Words.{AddsField, PlainName, name_text, optio
 use Rattle.cedar_json_writer.proofs.WritingLemmas.{fields_after}
 use Rattle.cedar_json_writer.proofs.types.write_named.Goals as goal
 
-pub returns : goal.returns
-returns c =
+pub returns-clause-written : goal.returns-clause-written
+returns-clause-written c =
     fields_after c.args.out.now c.write_text_field.new.out c.write_name_field.new.out
     (optional_member (codes "type") (Some (string c.args.word.now)))
     (optional_member (codes "name") (Some (string (name_text (raw_name c.args.name.now)))))

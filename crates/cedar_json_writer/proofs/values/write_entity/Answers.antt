@@ -1,8 +1,10 @@
 use Rattle.cedar_below.specs.EntityUID.{uid_of}
+use Rattle.cedar_json_writer.proofs.WritingLemmas.{on_ok}
 use Rattle.cedar_json_writer.proofs.WrittenValues.{uid_added}
 use Rattle.cedar_json_writer.proofs.values.write_entity.Goals as goal
 
-pub returns : goal.returns
-returns c =
-    uid_added c.args.out.now c.token.new.self c.token-2.new.self c.write_uid.new.out c.token-3.new.self (uid_of c.args.uid.now)
-    c.in_ok-token.ensures.ok c.in_ok-token-2.ensures.ok c.in_ok-write_uid.ensures c.in_ok-token-3.ensures.ok
+pub returns-clause-written : goal.returns-clause-written
+returns-clause-written c =
+    on_ok c.close_object.result c.close_object.ensures.written
+    (λ ended. uid_added c.args.out.now c.token.new.self c.token-2.new.self c.write_uid.new.out c.close_object.new.out (uid_of c.args.uid.now)
+    c.in_ok-token.ensures.ok c.in_ok-token-2.ensures.ok c.in_ok-write_uid.ensures ended)

@@ -7,4 +7,4 @@ pub token-requires : goal.token-requires
 token-requires c = search (rules, IsNumber-signed_decimal)
 
 pub returns : goal.returns
-returns c = record { written = search rules; fits = search (rules, long_true) }
+returns c = record { written = search rules; fits = search (rules, long_true); fault = tt }
