@@ -1,8 +1,8 @@
 //! Annotations, which are read and dropped.
 
-ghost use Rattle.std.specs.Prelude.{◌≡◌, ◌≢◌, Some, None, true, false, MatchResult, IfErr, codes};
+ghost use Rattle.std.specs.Prelude.{◌≡◌, Some, true, false, MatchResult, IfErr, codes};
 ghost use Rattle.json.specs.Find.{get};
-ghost use Rattle.json.specs.Json.{Json, object};
+ghost use Rattle.json.specs.Json.{object};
 ghost use Rattle.json.specs.Value.{value_view, members_view};
 ghost use Rattle.cedar_json.specs.Words.{IsTrueOf, annotations_fit, are_annotations, is_text_or_null};
 

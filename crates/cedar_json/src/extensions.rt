@@ -1,7 +1,7 @@
 //! The extensions of Cedar.
 
 ghost use Rattle.std.specs.Prelude.{◌≡◌, [], IfOk, map, option_map};
-ghost use Rattle.cedar_json.specs.Words.{AreKinds, AreNames, AreRows, IsKind, IsRow, PlainName, SpellsName, TypeNamesFit, cedar_function, cedar_type_names, core_ty_of, extension_types, function_named, inserted, kind_type, name_cmp, plain_name, row_signature, signature, signatures, texts_of, unqualified};
+ghost use Rattle.cedar_json.specs.Words.{AreKinds, AreNames, AreRows, IsKind, IsRow, PlainName, SpellsName, TypeNamesFit, cedar_function, cedar_type_names, core_ty_of, extension_types, function_named, inserted, kind_type, plain_name, row_signature, signature, signatures, texts_of, unqualified};
 
 use crate::fault::Fault;
 use crate::spelling::read_plain_name;

@@ -1,6 +1,6 @@
 //! The fields of JSON objects.
 
-ghost use Rattle.std.specs.Prelude.{◌≡◌, ◌≢◌, ◌++◌, true, false, Some, None, MatchOption, MatchResult, IfErr, option_map, option_and_then};
+ghost use Rattle.std.specs.Prelude.{◌≡◌, ◌++◌, true, false, Some, None, MatchOption, MatchResult, IfErr, option_map, option_and_then};
 ghost use Rattle.json.specs.Find.{get, as_array, as_object, as_str};
 ghost use Rattle.json.specs.Value.{items_view, members_view, value_view};
 ghost use Rattle.cedar_json.specs.Words.{IsOther, IsTrueOf, flag_or, further_fields, has_only, is_among, keys_among, known_fields, own_fields, texts_of, type_fields, type_word};

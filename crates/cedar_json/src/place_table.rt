@@ -4,8 +4,6 @@
 //! values are numbered in the order of the text, and a cursor goes over their numbers as a reader
 //! goes over the values. No contract says that a place is the right one: tests do.
 
-ghost use Rattle.std.specs.Prelude.{length};
-
 use cedar_below::{Loc, M};
 use json::{Reader, Scratch, Token, Value};
 use std::alloc::Global;

@@ -1,6 +1,6 @@
 //! Keys that come twice in an object.
 
-ghost use Rattle.std.specs.Prelude.{◌≡◌, ◌≢◌, Some, IfErr, IfOk, MatchOption, OnOk};
+ghost use Rattle.std.specs.Prelude.{◌≡◌, Some, IfErr, IfOk, MatchOption, OnOk};
 ghost use Rattle.json.specs.Json.{Json, array, object};
 ghost use Rattle.json.specs.Strict.{AreDistinct, HasUniqueKeys, ItemsHaveUniqueKeys, MembersHaveUniqueKeys, keys};
 ghost use Rattle.json.specs.Value.{items_view, members_view, value_view};

@@ -1,7 +1,6 @@
 //! Where a text stops being JSON.
 
 ghost use Rattle.std.specs.Prelude.{◌≡◌, ◌≤◌, ◌<◌, length, true, vec_len, IfOk, OnOk};
-ghost use Rattle.json.specs.Json.{max_depth};
 ghost use Rattle.json.specs.Lex.{tokens};
 ghost use Rattle.json.specs.Reads.{token_of};
 ghost use Rattle.cedar_json.specs.Nesting.{begins_part, nests_too_deep, open_after};

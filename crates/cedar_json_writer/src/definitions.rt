@@ -1,9 +1,9 @@
 //! Definitions of namespaces, and fragments, that are written.
 
-ghost use Rattle.std.specs.Prelude.{◌≡◌, ◌++◌, ◌∷◌, [], Some, OnOk, codes, map, option_map};
+ghost use Rattle.std.specs.Prelude.{◌≡◌, ◌++◌, ◌∷◌, [], Some, OnOk, codes, option_map};
 ghost use Rattle.json.specs.Json.{object};
 ghost use Rattle.json.specs.Token.{key};
-ghost use Rattle.cedar_json_writer.specs.Words.{AddsField, AddsValue, IsChecked, SoundAction, SoundBody, SoundDeclarations, SoundDefinition, SoundFragment, SoundType, action_document, action_flaws, body_flaws, common_key, common_types_held, declared_flaws, declared_members, definition_document, definition_flaws, entity_type_document, fragment_document, id_key, namespace_text, parts_flaws, plain_name, type_document, type_flaws, written_action, written_actions, written_common_types, written_definition, written_entity_types, written_fragment};
+ghost use Rattle.cedar_json_writer.specs.Words.{AddsField, AddsValue, IsChecked, SoundAction, SoundBody, SoundDeclarations, SoundDefinition, SoundFragment, SoundType, action_document, action_flaws, body_flaws, common_key, common_types_held, declared_flaws, declared_members, definition_document, definition_flaws, entity_type_document, fragment_document, id_key, namespace_text, parts_flaws, plain_name, type_flaws, written_actions, written_common_types, written_definition, written_entity_types, written_fragment};
 
 use crate::actions::write_action;
 use crate::entity_types::write_entity_type;
