@@ -1,5 +1,5 @@
 -- What is written of declarations under their names.
-use Rattle.std.proofs.Common.{◌≡◌, ◌≢◌, List, [], ◌∷◌, ◌++◌, codes, length, map, Option, Some, None, option_map, refl, ap, sym, subst}
+use Rattle.std.proofs.Common.{◌≡◌, ◌≢◌, List, [], ◌∷◌, ◌++◌, codes, length, map, Option, Some, None, option_map, refl, ap, sym, subst, Global, String, string_bytes}
 use Rattle.std.specs.BTreeMap.{BTreeMap}
 use Rattle.std.specs.List.Sorted.{IsStrictlySortedBy}
 use Rattle.std.specs.Map.{keys_of}
@@ -8,7 +8,9 @@ use Rattle.std.specs.declared.cmp.Ordering.{Ordering}
 use Rattle.json.specs.Json.{Json, object, no_members, member}
 use Rattle.json.specs.Token.{Token, begin_object, end_object}
 use Rattle.cedar_below.proofs.Ordered.{IsStrictlySortedBy-map}
-use Rattle.cedar_json_writer.specs.Words.{AddsField, AddsValue, CommonType, CommonTypeId, Each, Expr, Flaw, IfThere, IsFlawOf, IsFree, IsPlain, Name, NamespaceDefinition, PlainName, RawName, SoundAction, SoundBody, SoundDeclarations, SoundDefinition, SoundFragment, SoundType, Text, WriteFault, WrittenDefinition, WrittenEntity, action_flaws, body_flaws, common_key, common_type_text, common_types_held, declared_flaws, declared_members, definition_document, definition_flaws, id_key, keyed_members, name_cmp, namespace_text, optional_member, plain_name, raw_expr, text_cmp, type_document, type_flaws, written_common_types, written_definition}
+use Rattle.cedar_names.specs.declared.json_schema.action_type.ActionType.{ActionType}
+use Rattle.cedar_names.specs.declared.json_schema.entity_type.EntityType.{EntityType}
+use Rattle.cedar_json_writer.specs.Words.{AddsField, AddsValue, CommonType, CommonTypeId, Each, Expr, Flaw, IfThere, IsFlawOf, IsFree, IsPlain, Name, NamespaceDefinition, PlainName, RawName, SoundAction, SoundBody, SoundDeclarations, SoundDefinition, SoundFragment, SoundType, Text, UnreservedId, WriteFault, WrittenDefinition, WrittenEntity, action_document, action_flaws, body_flaws, common_key, common_type_text, common_types_held, declared_flaws, declared_members, definition_document, definition_flaws, entity_type_document, id_key, keyed_members, name_cmp, namespace_text, optional_member, plain_name, raw_expr, text_cmp, type_document, type_flaws, unreserved_id_text, written_action, written_common_types, written_definition, written_entity}
 use Rattle.cedar_below.specs.contracts.name.NameOrd.TheImpl as name_ord
 use Rattle.cedar_json.proofs.ListLemmas.{no_length}
 use Rattle.cedar_json.proofs.NameLemmas.{namespace_order}
@@ -73,6 +75,21 @@ declarations_free shown view document flaws Sound read is_read R same entries so
 
 abbrev Entries : Type 0
 Entries = List (Option Name × NamespaceDefinition RawName)
+
+-- the common types of a definition
+abbrev pub common_types_shape : MembersShape (CommonTypeId × CommonType RawName)
+common_types_shape =
+    declared_shape common_type_text (λ (id : Text). id) (λ (it : CommonType RawName). raw_expr None it.ty) type_document type_flaws SoundType
+
+-- the entity types of a definition
+abbrev pub entity_types_shape : MembersShape (UnreservedId × EntityType RawName)
+entity_types_shape =
+    declared_shape unreserved_id_text (λ (id : Text). id) written_entity entity_type_document (λ (it : WrittenEntity). body_flaws it.body)
+    (λ (it : WrittenEntity). SoundBody it.body)
+
+-- the actions of a definition
+abbrev pub actions_shape : MembersShape (String Global × ActionType RawName)
+actions_shape = declared_shape {K = String Global} string_bytes (λ (id : Text). id) written_action action_document action_flaws SoundAction
 
 -- the namespaces of a fragment
 abbrev pub namespaces_shape : MembersShape (Option Name × NamespaceDefinition RawName)

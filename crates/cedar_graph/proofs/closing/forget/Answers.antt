@@ -6,6 +6,7 @@ use Rattle.cedar_graph.specs.Words.{Fresh, mark_of}
 use Rattle.cedar_graph.proofs.Gathering.{fresh_or_not, marked_within, read_at}
 use Rattle.cedar_graph.proofs.closing.forget.Goals as goal
 
+-- at first each mark may be left, at its place in the list
 pub loop-number-init : goal.loop-number-init
 loop-number-init c = record {
   len = refl;
@@ -14,6 +15,7 @@ loop-number-init c = record {
       (among.0, omega arith, among.1, read_at c.args.numbers.now among.0 number among.1 among.2);
 }
 
+-- a number of the list is that of a mark
 pub index_mut-requires : goal.index_mut-requires
 index_mut-requires c =
     let number = get_or c.args.numbers.now c.loop-number.number-index 0 in
@@ -21,6 +23,7 @@ index_mut-requires c =
     let within = marked_within c.args.marks.now.items number ((c.requires.marked number).0 among) in
     omega (arith, within, c.loop-number.invariant.len, c.loop-number.marks.ok.0)
 
+-- one more mark is taken away, and no other
 pub loop-number-preserved : goal.loop-number-preserved
 loop-number-preserved c =
     let place = c.loop-number.number-index in
@@ -41,6 +44,7 @@ loop-number-preserved c =
       ];
     }
 
+-- where none is left, no mark is
 pub returns-clause-fresh : goal.returns-clause-fresh
 returns-clause-fresh c = λ number. elim (fresh_or_not (mark_of c.loop-number.marks.items number)) [
   | inl fresh ↦ fresh

@@ -9,6 +9,7 @@ use Rattle.cedar_graph.specs.Numbering.{IsNumbered}
 use Rattle.cedar_graph.proofs.Numbers.{number_alike}
 use Rattle.cedar_graph.proofs.places.places_of.Goals as goal
 
+-- one more key is passed, whose place is the last: each place is an edge's, each edge has its place or waits, and what waits is an edge
 pub loop-key-preserved : goal.loop-key-preserved
 loop-key-preserved g c =
     let eq = g.K.PartialEq.eq in

@@ -8,6 +8,7 @@ use Rattle.cedar_graph.specs.Numbering.{IsNumbered}
 use Rattle.cedar_graph.proofs.Numbers.{number_alike}
 use Rattle.cedar_graph.proofs.targets.targets_of.Goals as goal
 
+-- one more target is numbered, whose number is the last: names keep their numbers, each number is an edge's, each edge has its number or waits, and what waits is an edge
 pub loop-target-preserved : goal.loop-target-preserved
 loop-target-preserved g c =
     let eq = g.K.PartialEq.eq in

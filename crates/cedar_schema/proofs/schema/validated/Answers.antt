@@ -1,5 +1,6 @@
 use Rattle.cedar_schema.proofs.schema.validated.Goals as goal
 
+-- the only owner: what validation says of the tables, it says of the schema
 pub returns-in-Ok-clause-fault : goal.returns-in-Ok-clause-fault
 returns-in-Ok-clause-fault c =
     rw (c.into_tables-entity_types.ensures.types, c.into_tables-entity_types.ensures.actions, c.in-Ok.ensures.alone) at
@@ -25,6 +26,7 @@ returns-in-Ok-clause-closed c =
     rw (c.into_tables-entity_types.ensures.types, c.into_tables-entity_types.ensures.actions, c.in-Ok.ensures.alone) at
     c.validate.ensures.closed
 
+-- one of several owners: what validation says of the copies, it says of the schema
 pub returns-in-Err-clause-fault : goal.returns-in-Err-clause-fault
 returns-in-Err-clause-fault c =
     rw (c.value-content.ensures, c.in-Err.ensures.among_others) at

@@ -7,12 +7,14 @@ use Rattle.cedar_below.specs.declared.memory.Memory.{Memory}
 use Rattle.cedar_table.proofs.CopiedLemmas.{copied_all, copied_more, copied_none}
 use Rattle.cedar_table.proofs.copying.copied_table.Goals as goal
 
+-- at first nothing is copied
 pub loop-key-init : goal.loop-key-init
 loop-key-init g c =
     copied_none g.K.Ord.cmp g.met.K.Ord.total (FnReturnsAt g.F.Fn c.args.copy_key) (FnReturnsAt g.G.Fn c.args.copy_value)
     c.args.table.now.entries c.new-copies.result.entries c.into_iter-key-iterator.result
     c.into_iter-key-iterator.ensures.into_iter_gives.0 c.new-copies.ensures.empty c.into_iter-key-iterator.ensures.into_iter_gives.1
 
+-- one more entry is copied, whose key is new
 pub loop-key-preserved-in_ok-insert : goal.loop-key-preserved-in_ok-insert
 loop-key-preserved-in_ok-insert g c =
     let key = c.in-Some.key.now in
@@ -28,6 +30,7 @@ loop-key-preserved-in_ok-insert g c =
     (subst Keys c.in_ok-copy_key.was of_key) (subst Values c.in_ok-copy_value.was of_value) c.in_ok-insert.ensures.entries
     c.loop-key.invariant
 
+-- one more entry is copied, whatever stood at its key
 pub loop-key-preserved : goal.loop-key-preserved
 loop-key-preserved g c =
     let key = c.in-Some.key.now in
@@ -43,6 +46,7 @@ loop-key-preserved g c =
     (subst Keys c.in_ok-copy_key.was of_key) (subst Values c.in_ok-copy_value.was of_value) c.in_ok-insert.ensures.entries
     c.loop-key.invariant
 
+-- where none is left, the table is of the copies
 pub returns : goal.returns
 returns g c = rw (sym c.in_ok-from_map.ensures) at
     (copied_all g.K.Ord.cmp g.met.K.Ord.total (FnReturnsAt g.F.Fn c.args.copy_key) (FnReturnsAt g.G.Fn c.args.copy_value)

@@ -3,6 +3,7 @@ use Rattle.cedar_names.proofs.CopyLemmas.{Made, copied_attribute, copied_more, c
 use Rattle.cedar_names.specs.Words.{IsTypeCopy, IsVariantCopy, Plain, Set, «Type», TypeVariant, out-RecordType}
 use Rattle.cedar_names.proofs.json_schema.copying.+copying.Goals as goal
 
+-- a plain type is copied as its variant is
 pub copy_type-returns-in_ok-ty-in-Plain : goal.copy_type-returns-in_ok-ty-in-Plain
 copy_type-returns-in_ok-ty-in-Plain g t c =
     let N = g.row.N.Denot in
@@ -11,6 +12,7 @@ copy_type-returns-in_ok-ty-in-Plain g t c =
     let P : «Type» N → Type 0 = λ it. IsTypeCopy N alike it (Plain copy c.in-Plain.loc) in
     subst P (sym c.in-Plain.is) (copied_plain N alike c.in-Plain.ty copy c.in-Plain.loc c.in_ok-ty-in-Plain.ensures)
 
+-- a set is copied as its element is
 pub copy_variant-returns-in_ok-element-in-Set : goal.copy_variant-returns-in_ok-element-in-Set
 copy_variant-returns-in_ok-element-in-Set g t c =
     let N = g.row.N.Denot in
@@ -23,6 +25,7 @@ copy_variant-returns-in_ok-element-in-Set g t c =
     subst P (sym c.in-Set.is) (copied_set N alike element copy
     (subst To (sym c.in_ok-element-in-Set.ensures.ok) (subst From c.deref.ensures c.in_ok-copy-in-Set.ensures)))
 
+-- one more attribute is copied
 pub copy_record-loop-name-preserved : goal.copy_record-loop-name-preserved
 copy_record-loop-name-preserved g t c =
     let N = g.row.N.Denot in
@@ -33,6 +36,7 @@ copy_record-loop-name-preserved g t c =
     c.in-Some.ensures.steps c.in_ok-clone.ensures.cases
     (copied_attribute N alike c.in-Some.attribute.now _ refl refl c.in_ok-copy_type.ensures) c.in_ok-put.ensures c.loop-name.invariant
 
+-- where none is left, the record is copied
 pub copy_record-returns : goal.copy_record-returns
 copy_record-returns g t c =
     let N = g.row.N.Denot in

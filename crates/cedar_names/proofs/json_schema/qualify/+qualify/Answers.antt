@@ -7,6 +7,7 @@ use Rattle.cedar_names.proofs.QualifyLemmas.{Made, both_ways, written_both_ways,
 use Rattle.cedar_names.specs.Words.{ConditionalName, RawName, TypeOfAttribute, namespace_name, out-RecordType}
 use Rattle.cedar_names.proofs.json_schema.qualify.+qualify.Goals as goal
 
+-- one more attribute is put in, which says the same both ways
 pub qualify_record-loop-name-preserved : goal.qualify_record-loop-name-preserved
 qualify_record-loop-name-preserved t c =
     let namespace = namespace_name c.args.namespace in
@@ -20,6 +21,7 @@ qualify_record-loop-name-preserved t c =
     (same_both_ways namespace c.in-Some.attribute _ refl c.in_ok-ty.ensures.own c.in_ok-ty.ensures.placed)
     c.loop-name.invariant)
 
+-- where none is left, the record says the same by the kinds of its own references
 pub qualify_record-returns-clause-own : goal.qualify_record-returns-clause-own
 qualify_record-returns-clause-own t c =
     let namespace = namespace_name c.args.namespace in
@@ -30,6 +32,7 @@ qualify_record-returns-clause-own t c =
     own_record namespace c.args.record_type it refl
     (converted_all (written_both_ways namespace) both_ways _ _ _ c.in-None.ensures.steps.0 c.loop-name.invariant)
 
+-- and the same by the kinds that positions permit
 pub qualify_record-returns-clause-placed : goal.qualify_record-returns-clause-placed
 qualify_record-returns-clause-placed t c =
     let namespace = namespace_name c.args.namespace in

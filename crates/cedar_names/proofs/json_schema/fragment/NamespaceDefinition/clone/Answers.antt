@@ -8,19 +8,23 @@ use Rattle.cedar_below.specs.contracts.unreserved_id.UnreservedIdOrd.TheImpl as 
 use Rattle.cedar_names.specs.contracts.json_schema.common_type_id.CommonTypeIdOrd.TheImpl as common_type_id_ord
 use Rattle.cedar_names.proofs.json_schema.fragment.NamespaceDefinition.clone.Goals as goal
 
+-- copies of ids of common types tie with them
 pub copied_entries-requires-clause-ties : goal.copied_entries-requires-clause-ties
 copied_entries-requires-clause-ties g c key answer ran =
     copy_ties (common_type_id_ord.ghosts).cmp common_type_text (λ a b. text_cmp-Equal (common_type_text a) (common_type_text b)) key
     ran.shown.now answer ran.shows ran.says.met
 
+-- copies of ids of entity types tie with them
 pub copied_entries-requires-2-clause-ties : goal.copied_entries-requires-2-clause-ties
 copied_entries-requires-2-clause-ties g c key answer ran =
     copy_ties (unreserved_id_ord.ghosts).cmp unreserved_id_text unreserved_id_ord-Equal key ran.shown.now answer ran.shows ran.says.met
 
+-- copies of ids of actions tie with them
 pub copied_entries-requires-3-clause-ties : goal.copied_entries-requires-3-clause-ties
 copied_entries-requires-3-clause-ties g c key answer ran =
     copy_ties string_cmp string_bytes (λ a b. text_cmp-Equal (string_bytes a) (string_bytes b)) key ran.shown.now answer ran.shows ran.says.met
 
+-- each of the three maps is copied, entry by entry
 pub returns : goal.returns
 returns g c =
     let N = g.row.N.Denot in
