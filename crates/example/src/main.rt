@@ -7,10 +7,10 @@ use cedar_schema::{SchemaError, Type, ValidatorSchema};
 use std::test::Fail;
 
 /// Users in groups, who view photos.
-const PHOTOS: &str = r#"{"": {"commonTypes": {"Town": {"type": "String"}},
+const PHOTOS: &str = r#"{"": {"commonTypes": {"Person": {"type": "Entity", "name": "User"}},
   "entityTypes": {"Group": {}, "Photo": {}, "User": {"memberOfTypes": ["Group"], "shape": {
-    "type": "Record", "attributes": {"home": {"type": "Town"},
-    "boss": {"type": "Entity", "name": "User"}, "team": {"type": "Entity", "name": "Group"}}}}},
+    "type": "Record", "attributes": {"boss": {"type": "Person"},
+      "team": {"type": "Entity", "name": "Group"}}}}},
   "actions": {"view": {"appliesTo": {"principalTypes": ["User"], "resourceTypes": ["Photo"]}}}}}"#;
 
 /// Shows what a schema answers of users.
@@ -19,11 +19,10 @@ fn show(rt: &HostRuntime, schema: &ValidatorSchema, user: &EntityType) -> Result
         println!(rt; "{user} in {ancestor}")?;
     }
     let ty = schema.get_entity_type(user).ok_or("no user")?;
-    let home = &ty.attr("home").ok_or("no home")?.attr_type;
     let boss = &ty.attr("boss").ok_or("no boss")?.attr_type;
     let team = &ty.attr("team").ok_or("no team")?.attr_type;
     let either = Type::least_upper_bound(rt.alloc(), boss, team, ValidationMode::Permissive)?;
-    println!(rt; "home: {home}, boss or team: {either}")?;
+    println!(rt; "boss: {boss}, boss or team: {either}")?;
     for env in schema.unlinked_request_envs(ValidationMode::Strict) {
         println!(rt; "{} {} {}", env.principal, env.action, env.resource)?;
     }
