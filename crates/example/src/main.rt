@@ -19,8 +19,10 @@ fn show(rt: &HostRuntime, schema: &ValidatorSchema, user: &EntityType) -> Result
         println!(rt; "{user} in {ancestor}")?;
     }
     let ty = schema.get_entity_type(user).ok_or("no user")?;
-    let boss = &ty.attr("boss").ok_or("no boss")?.attr_type;
-    let team = &ty.attr("team").ok_or("no team")?.attr_type;
+    let (Some(boss), Some(team)) = (ty.attr("boss"), ty.attr("team")) else {
+        return Err(Fail::from("no boss or no team"));
+    };
+    let (boss, team) = (&boss.attr_type, &team.attr_type);
     let either = Type::least_upper_bound(rt.alloc(), boss, team, ValidationMode::Permissive)?;
     println!(rt; "boss: {boss}, boss or team: {either}")?;
     for env in schema.unlinked_request_envs(ValidationMode::Strict) {
