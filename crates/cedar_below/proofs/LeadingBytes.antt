@@ -51,8 +51,6 @@ none_below_empty (x ∷ xs) e = cc
 -- texts order as their leading bytes, where these differ
 pub leading_bytes-Less : (n a : ℕ) (xs ys : Text) → AreBytes xs → AreBytes ys
     → big_endian a (beginning n xs) < big_endian a (beginning n ys) → text_cmp xs ys ≡ Less
-leading_bytes-Less zero a xs ys h k l = absurd (omega arith)
-leading_bytes-Less (suc n) a [] [] h k l = absurd (omega arith)
 leading_bytes-Less (suc n) a [] (y ∷ ys) h k l = refl
 leading_bytes-Less (suc n) a (x ∷ xs) [] h k l = elim (cases_lt 0 x) [
   | inl some ↦ absurd (omega (arith, rises n (a * 256 + 0) (a * 256 + x) [] xs tt (omega arith)))
@@ -66,15 +64,13 @@ leading_bytes-Less (suc n) a (x ∷ xs) (y ∷ ys) h k l =
     (λ same. leading_bytes-Less n (a * 256 + x) xs ys h.1 k.1
     (subst (λ b. big_endian (a * 256 + x) (beginning n xs) < big_endian (a * 256 + b) (beginning n ys)) (sym same) l))
     (λ over. absurd (omega (arith, rises n (a * 256 + y) (a * 256 + x) ys xs k.1 (omega (arith, over)))))
+leading_bytes-Less _ a _ _ h k l = absurd (omega arith)
 
 -- of two texts with the same leading bytes one is less that is whole in these, and shorter
 pub leading_bytes-shorter : (n a : ℕ) (xs ys : Text) → AreBytes xs → AreBytes ys
     → big_endian a (beginning n xs) ≡ big_endian a (beginning n ys) → length xs ≤ n → length xs < length ys
     → text_cmp xs ys ≡ Less
-leading_bytes-shorter n a [] [] h k e fits less = absurd (omega arith)
 leading_bytes-shorter n a [] (y ∷ ys) h k e fits less = refl
-leading_bytes-shorter n a (x ∷ xs) [] h k e fits less = absurd (omega arith)
-leading_bytes-shorter zero a (x ∷ xs) (y ∷ ys) h k e fits less = absurd (omega arith)
 leading_bytes-shorter (suc n) a (x ∷ xs) (y ∷ ys) h k e fits less =
     by_first x y (text_cmp xs ys) Less
     (λ _. refl)
@@ -82,15 +78,13 @@ leading_bytes-shorter (suc n) a (x ∷ xs) (y ∷ ys) h k e fits less =
     (subst (λ b. big_endian (a * 256 + x) (beginning n xs) ≡ big_endian (a * 256 + b) (beginning n ys)) (sym same) e)
     (omega arith) (omega arith))
     (λ over. absurd (omega (arith, rises n (a * 256 + y) (a * 256 + x) ys xs k.1 (omega (arith, over)))))
+leading_bytes-shorter _ a _ _ h k e fits less = absurd (omega arith)
 
 -- texts with the same leading bytes that are whole in these, and as long, are the same
 pub leading_bytes-whole : (n a : ℕ) (xs ys : Text) → AreBytes xs → AreBytes ys
     → big_endian a (beginning n xs) ≡ big_endian a (beginning n ys) → length xs ≤ n → length xs ≡ length ys
     → text_cmp xs ys ≡ Equal
 leading_bytes-whole n a [] [] h k e fits same = refl
-leading_bytes-whole n a [] (y ∷ ys) h k e fits same = absurd (omega arith)
-leading_bytes-whole n a (x ∷ xs) [] h k e fits same = absurd (omega arith)
-leading_bytes-whole zero a (x ∷ xs) (y ∷ ys) h k e fits same = absurd (omega arith)
 leading_bytes-whole (suc n) a (x ∷ xs) (y ∷ ys) h k e fits same =
     by_first x y (text_cmp xs ys) Equal
     (λ under. absurd (omega (arith, rises n (a * 256 + x) (a * 256 + y) xs ys h.1 (omega (arith, under)))))
@@ -98,6 +92,7 @@ leading_bytes-whole (suc n) a (x ∷ xs) (y ∷ ys) h k e fits same =
     (subst (λ b. big_endian (a * 256 + x) (beginning n xs) ≡ big_endian (a * 256 + b) (beginning n ys)) (sym alike) e)
     (omega arith) (omega arith))
     (λ over. absurd (omega (arith, rises n (a * 256 + y) (a * 256 + x) ys xs k.1 (omega (arith, over)))))
+leading_bytes-whole _ a _ _ h k e fits same = absurd (omega arith)
 
 -- what orders by base name and then by path
 abbrev pub by_parts : {X : Type 0} → (X → X → Ordering) → Text → List X → Text → List X → Ordering
@@ -160,8 +155,7 @@ module _ {X : Type 0} (R : X → X → Ordering) (a b : Text) (h : AreBytes a) (
       by : (path other : List X) → leading_bytes 7 a ≡ leading_bytes 7 b → ending (length a) path ≡ ending (length b) other
           → ending (length a) path < 16 → ending (length a) path % 2 ≡ 0 → by_parts R a path b other ≡ Equal
       by [] [] same ends short even = same_base [] [] same (omega arith) (omega arith)
-      by [] (q ∷ qs) same ends short even = absurd (omega arith)
-      by (p ∷ ps) other same ends short even = absurd (omega arith)
+      by _ _ same ends short even = absurd (omega arith)
 
 -- the bytes of a character are bytes
 encode-AreBytes : (c : ℕ) → IsScalar c → AreBytes (encode c)

@@ -1,6 +1,6 @@
 //! Ids of entities: any texts.
 
-ghost use Rattle.std.specs.Prelude.{◌≡◌, IfOk, string_bytes};
+ghost use Rattle.std.specs.Prelude.{◌≡◌, IfOk};
 ghost use Rattle.cedar_below.specs.Eid.{eid_text};
 
 use crate::leading::{byte_at, leading_number};

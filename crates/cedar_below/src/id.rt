@@ -1,6 +1,6 @@
 //! Identifiers: the parts of names.
 
-ghost use Rattle.std.specs.Prelude.{◌≡◌, ◌≢◌, ◌↔◌, IsTrue, IsSome, IfSome, IfOk, IfErr, string_bytes};
+ghost use Rattle.std.specs.Prelude.{◌≡◌, ◌↔◌, IsTrue, IsSome, IfSome, IfOk, IfErr, string_bytes};
 ghost use Rattle.std.specs.List.{list_all};
 ghost use Rattle.std.specs.Option.{MatchOption};
 ghost use Rattle.cedar_below.specs.Identifier.{IsIdentifier, begins_identifier, is_identifier_start, is_identifier_byte, reserved_word};

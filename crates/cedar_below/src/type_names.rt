@@ -1,6 +1,6 @@
 //! Whether names of extension types fit.
 
-ghost use Rattle.std.specs.Prelude.{◌≡◌, ◌≢◌, ◌↔◌, IsTrue, All, AllPairs, Contains, map};
+ghost use Rattle.std.specs.Prelude.{◌≢◌, ◌↔◌, IsTrue, All, AllPairs, Contains, map};
 ghost use Rattle.cedar_below.specs.Words.{IsUnqualified, TypeNamesFit, plain_name, primitive_words};
 
 use crate::name::Name;

@@ -1,6 +1,6 @@
 //! Copies of values.
 
-ghost use Rattle.std.specs.Prelude.{IfOk, List};
+ghost use Rattle.std.specs.Prelude.{IfOk};
 ghost use Rattle.cedar_below.specs.Words.{AreCopies, AreEntryCopies, IsCopy, entries_of, tree_of, trees_of};
 
 use crate::maps::put;

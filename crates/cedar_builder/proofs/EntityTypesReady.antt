@@ -76,8 +76,7 @@ counted bag name body expr among counts =
 enumerated_elaborated : (scope : TypeScope) (body : EntityBody) (kind : EntityTypeKind) → IsElaboratedKind scope body kind → IsEnumerated kind
     → (choices : List Text) × (body ≡ enumerated choices)
 enumerated_elaborated scope (enumerated ids) kind elaborated is = (ids, refl)
-enumerated_elaborated scope (standard parents shape tags) (enumerated_kind choices) elaborated is = absurd elaborated
-enumerated_elaborated scope (external parents) (enumerated_kind choices) elaborated is = absurd elaborated
+enumerated_elaborated scope _ (enumerated_kind choices) elaborated is = absurd elaborated
 enumerated_elaborated scope _ _ elaborated is = absurd is
 
 -- a declaration by choices is elaborated as an enumerated kind

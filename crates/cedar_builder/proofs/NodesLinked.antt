@@ -28,12 +28,11 @@ module _ {K Node : Type 0} (R : K × Node → K × Node → Type 0) where
   pub partner : (before after : List (K × Node)) → HoldsPairwise R before after → (entry : K × Node) → Contains after entry
       → (old : K × Node) × Contains before old × R old entry
   partner [] [] pairs entry among = absurd (omega (arith, among.1))
-  partner [] (y ∷ ys) pairs entry among = absurd pairs
-  partner (x ∷ xs) [] pairs entry among = absurd pairs
   partner (x ∷ xs) (y ∷ ys) pairs entry among = elim (Contains-cons_cases y ys entry among) [
     | inl same ↦ (x, (0, omega arith, refl), subst (R x) same pairs.0)
     | inr later ↦ let it = partner xs ys pairs.1 entry later in (it.0, Contains-append_right (x ∷ []) xs it.0 it.1, it.2)
   ]
+  partner _ _ pairs entry among = absurd pairs
 
   module _ (same_keys : (x y : K × Node) → R x y → y.0 ≡ x.0) (test : K → Bool) where
     -- what a test finds in two lists goes together: nothing, or the nodes of such entries
@@ -41,8 +40,6 @@ module _ {K Node : Type 0} (R : K × Node → K × Node → Type 0) where
         → ((lookup test before ≡ None) × (lookup test after ≡ None))
         ⊎ ((x y : K × Node) × Contains before x × IsTrue (test x.0) × R x y × (lookup test before ≡ Some x.1) × (lookup test after ≡ Some y.1))
     found_together [] [] pairs = inl (refl, refl)
-    found_together [] (y ∷ ys) pairs = absurd pairs
-    found_together (x ∷ xs) [] pairs = absurd pairs
     found_together (x ∷ xs) (y ∷ ys) pairs = elim (cases_Bool (test x.0)) [
       | inl is ↦ inr (
         x,
@@ -62,6 +59,7 @@ module _ {K Node : Type 0} (R : K × Node → K × Node → Type 0) where
             | inr it ↦ inr (it.0, it.1, Contains-append_right (x ∷ []) xs it.0 it.2, it.3, it.4, first ∙ it.5, other ∙ it.6)
           ]
     ]
+    found_together _ _ pairs = absurd pairs
 
 module _ {K : Type 0} {eq : K → K → Bool} (laws : IsEquivalence eq) (edges : List (K × K)) where
   -- a chain of edges is from each equal key

@@ -1,6 +1,5 @@
 //! What the steps that actions and entity types have in common ask of an action.
 
-ghost use Rattle.std.specs.Prelude.{◌≡◌};
 ghost use Rattle.cedar_builder.specs.Words.{ActionReference, AreSoundRequests, IsElaboratedAction, IsRequestsFault, PlainUid, Requests, action_fragment_body, action_of, fragment_parent, fragment_requests, is_action_definition, names_in, reference_to_action, resolved_action_type, resolved_reference, uid_of};
 ghost use Rattle.cedar_below.specs.declared.entity_type.EntityType.{EntityType as ActionEntityType};
 ghost use Rattle.cedar_below.specs.declared.internal_name.InternalName.{InternalName as Full};

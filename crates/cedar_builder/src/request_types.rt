@@ -1,7 +1,7 @@
 //! The entity types that the principals and the resources of actions name.
 
 ghost use Rattle.std.specs.Prelude.{◌≡◌, ◌⊎◌, Contains, IfErr, IfOk, OnOk, map};
-ghost use Rattle.cedar_builder.specs.Words.{Entity, IsNameFault, IsRequestTypeFault, IsReserved, PlainName, fault_of, name_of, names_in, out_of_memory, reserved_name, resolved_reference, type_name};
+ghost use Rattle.cedar_builder.specs.Words.{Entity, IsNameFault, IsRequestTypeFault, PlainName, fault_of, name_of, names_in, out_of_memory, resolved_reference, type_name};
 
 use crate::named_type::named_type;
 use cedar_below::{EntityType, InternalName, NonEmpty};

@@ -88,8 +88,4 @@ module _ (extensions : Extensions) (old new : PlainSchema) where
       → IsActionCause old new it.uid cause → IsLostAction extensions old new it
   lost_by_cause it gone real of no_type undefined = lost_action it real of no_type (inl undefined)
   lost_by_cause it (action_above upper) real of no_type apart = lost_action it real of no_type (inr (upper, apart))
-  lost_by_cause it (choice_gone uid) real of no_type cause = absurd cause
-  lost_by_cause it (type_above name) real of no_type cause = absurd cause
-  lost_by_cause it (attributes_outside steps) real of no_type cause = absurd cause
-  lost_by_cause it (tags_outside steps) real of no_type cause = absurd cause
-  lost_by_cause it (context_outside steps) real of no_type cause = absurd cause
+  lost_by_cause it _ real of no_type cause = absurd cause

@@ -273,9 +273,8 @@ no_members (x ∷ xs) none = absurd (none x (Contains-cons x xs x (inl refl)))
 
 -- a kind of entity type that counts as external is so
 external_type_is : (kind : EntityTypeKind) → is_external_type kind ≡ true → kind ≡ external_kind
-external_type_is (standard_kind fields openness tags) is = absurd (false≢true is)
-external_type_is (enumerated_kind choices) is = absurd (false≢true is)
 external_type_is external_kind is = refl
+external_type_is _ is = absurd (false≢true is)
 
 -- a kind of action that counts as external is so
 external_action_is : (kind : ActionKind) → is_external_kind kind ≡ true → kind ≡ external_action

@@ -30,8 +30,7 @@ module _ (extensions : Extensions) (schema : PlainSchema) where
       × AreTagsOf extensions (kind_tags kind) it.tags
       × ((upper : PlainUid) → Contains it.ancestors upper → MayStandAbove schema it.uid.ty upper)
   parts_of (standard_kind fields openness tags) it standard of = of
-  parts_of (enumerated_kind choices) it standard of = absurd standard
-  parts_of external_kind it standard of = absurd standard
+  parts_of _ it standard of = absurd standard
 
   -- and what has these is an entity of the kind
   pub of_parts : (kind : EntityTypeKind) (it : ActionEntity) → IsStandard kind
@@ -40,8 +39,7 @@ module _ (extensions : Extensions) (schema : PlainSchema) where
       → ((upper : PlainUid) → Contains it.ancestors upper → MayStandAbove schema it.uid.ty upper)
       → IsEntityOfKind extensions schema kind it
   of_parts (standard_kind fields openness tags) it standard has tagged above = (has, tagged, above)
-  of_parts (enumerated_kind choices) it standard has tagged above = absurd standard
-  of_parts external_kind it standard has tagged above = absurd standard
+  of_parts _ it standard has tagged above = absurd standard
 
 module _ (extensions : Extensions) (old new : PlainSchema) where
   -- an entity of one of the old schema's types is lost where no type of the new admits it, and no
@@ -151,20 +149,14 @@ alike_standard a b alike standard = elim alike [ ]
 pub cause_of_tags : (extensions : Extensions) (a b : EntityTypeKind) (steps : List PlainStep) → IsStandard a → IsStandard b
     → AreTagsOutside extensions steps (kind_tags a) (kind_tags b) → IsCauseOfKinds extensions a b (tags_outside steps)
 cause_of_tags extensions (standard_kind f o t) (standard_kind g p u) steps standard standard' outside = outside
-cause_of_tags extensions (standard_kind f o t) (enumerated_kind choices) steps standard standard' outside = absurd standard'
-cause_of_tags extensions (standard_kind f o t) external_kind steps standard standard' outside = absurd standard'
-cause_of_tags extensions (enumerated_kind choices) b steps standard standard' outside = absurd standard
-cause_of_tags extensions external_kind b steps standard standard' outside = absurd standard
+cause_of_tags extensions _ _ steps standard standard' outside = absurd assumption
 
 -- a cause of their attributes
 pub cause_of_attributes : (extensions : Extensions) (a b : EntityTypeKind) (steps : List PlainStep) → IsStandard a → IsStandard b
     → IsOutsideAt extensions steps (record_of (kind_fields a) (kind_openness a)) (record_of (kind_fields b) (kind_openness b))
     → IsCauseOfKinds extensions a b (attributes_outside steps)
 cause_of_attributes extensions (standard_kind f o t) (standard_kind g p u) steps standard standard' outside = outside
-cause_of_attributes extensions (standard_kind f o t) (enumerated_kind choices) steps standard standard' outside = absurd standard'
-cause_of_attributes extensions (standard_kind f o t) external_kind steps standard standard' outside = absurd standard'
-cause_of_attributes extensions (enumerated_kind choices) b steps standard standard' outside = absurd standard
-cause_of_attributes extensions external_kind b steps standard standard' outside = absurd standard
+cause_of_attributes extensions _ _ steps standard standard' outside = absurd assumption
 
 module _ (extensions : Extensions) (old new : PlainSchema) (name : PlainName) (ty : SchemaEntityType)
     (there : Contains old.entity_types (name, ty)) where

@@ -46,15 +46,13 @@ alike_back schema other alike = (
 -- a kind for the same requests as a defined one is defined
 defined_like : (kind other : ActionKind) → SameActionKind kind other → IsDefinedKind kind → IsDefinedKind other
 defined_like (defined_action p r c) (defined_action q s d) same is = tt
-defined_like (defined_action p r c) external_action same is = absurd same
-defined_like external_action other same is = absurd is
+defined_like _ _ same is = absurd assumption
 
 -- and is for them
 asked_like : (kind other : ActionKind) (it : Environment) → SameActionKind kind other → IsRequestOf kind it → IsRequestOf other it
 asked_like (defined_action p r c) (defined_action q s d) it same of =
     ((same.0 it.principal).0 of.0, (same.1 it.resource).0 of.1, sym same.2 ∙ of.2)
-asked_like (defined_action p r c) external_action it same of = absurd same
-asked_like external_action other it same of = absurd of
+asked_like _ _ it same of = absurd assumption
 
 module _ (schema other : PlainSchema) (alike : AreAlike schema other) where
   -- an entity type of the one schema is one of the other, of the same kind and with the same descendants

@@ -43,8 +43,7 @@ module _ (extensions : Extensions) (samples : List Tree) where
       (λ tag. each ty (Contains-append_right (field_types fields) (option_to_list tags) ty
       (subst (λ o. Contains (option_to_list o) ty) (sym tag) (Contains-cons ty [] ty (inl refl)))))
       is
-  of_kind (enumerated_kind choices) ty is each = absurd is
-  of_kind external_kind ty is each = absurd is
+  of_kind _ ty is each = absurd is
 
   -- the context of a kind of action is its context
   of_action : (kind : ActionKind) (ty : Ty) → IsContextOf kind ty → Contains (option_to_list (kind_context kind)) ty
@@ -79,8 +78,7 @@ module _ (extensions : Extensions) (samples : List Tree) where
     where
       of_standard : (kind : EntityTypeKind) → IsStandard kind → IsTypeOfKind kind (record_of (kind_fields kind) (kind_openness kind))
       of_standard (standard_kind fields openness tags) standard = inl refl
-      of_standard (enumerated_kind choices) standard = absurd standard
-      of_standard external_kind standard = absurd standard
+      of_standard _ standard = absurd standard
 
   -- and so is the type of its tags
   pub tags_sampled : (schema : PlainSchema) (name : PlainName) (it : SchemaEntityType) (ty : Ty) → IsSchemaSampled extensions samples schema

@@ -22,6 +22,5 @@ module _ (schema : PlainSchema) (name : PlainName) (upper : PlainUid) (ty : Sche
 -- the choices of an enumerated kind are entities of it
 pub choice_of_kind : (extensions : Extensions) (schema : PlainSchema) (kind : EntityTypeKind) (name : PlainName) (id : Text)
     → IsEnumerated kind → MayHave (kind_choices kind) id → IsEntityOfKind extensions schema kind (bare_entity name id)
-choice_of_kind extensions schema (standard_kind fields openness tags) name id enumerated may = absurd enumerated
 choice_of_kind extensions schema (enumerated_kind choices) name id enumerated may = (may, refl, refl, refl)
-choice_of_kind extensions schema external_kind name id enumerated may = absurd enumerated
+choice_of_kind extensions schema _ name id enumerated may = absurd enumerated

@@ -1,6 +1,6 @@
 //! What stands above actions in one of two versions alone.
 
-ghost use Rattle.std.specs.Prelude.{◌↔◌, ◌∷◌, List, Contains, IfOk, IsTrue, OnOk, map};
+ghost use Rattle.std.specs.Prelude.{◌↔◌, ◌∷◌, List, Contains, IfOk, IsTrue, OnOk};
 ghost use Rattle.cedar_compare.specs.Words.{AreActionUppers, AreActionUppersSoFar, AreVersions, IsKeyed, ListsDescendantAction, PlainUid, action_of, new_of, old_of, schema_of, uid_of};
 
 use crate::keeping::keep;

@@ -1,7 +1,7 @@
 //! Entities without attributes and tags.
 
-ghost use Rattle.std.specs.Prelude.{◌≡◌, ◌↔◌, Contains, IsTrue, [], map};
-ghost use Rattle.cedar_compare.specs.Words.{Extensions, Has, IsEntityOfType, IsKeyed, MayStandAbove, OpenTag, PlainUid, entities_of, entity_ancestors, entity_attrs, entity_tags, entity_uid, fields_of, map_value, named_values, no_entry, plain_action_entity, record_of, schema_of, type_name, uid_of};
+ghost use Rattle.std.specs.Prelude.{◌≡◌, ◌↔◌, Contains, IsTrue, []};
+ghost use Rattle.cedar_compare.specs.Words.{Extensions, Has, IsEntityOfType, IsKeyed, MayStandAbove, OpenTag, PlainUid, entity_ancestors, entity_attrs, entity_tags, entity_uid, fields_of, map_value, named_values, no_entry, plain_action_entity, record_of, schema_of, type_name, uid_of};
 
 use crate::choices::{choices_of, has_choice};
 use crate::versions::find_type;

@@ -1,6 +1,6 @@
 //! The ids that entities of a type may have.
 
-ghost use Rattle.std.specs.Prelude.{◌≡◌, ◌↔◌, ◌+◌, ◌≤◌, Contains, IfOk, IfSome, IsTrue, None, length, map};
+ghost use Rattle.std.specs.Prelude.{◌≡◌, ◌↔◌, ◌+◌, ◌≤◌, Contains, IfOk, IsTrue, None, length};
 ghost use Rattle.std.specs.Option.{option_copied, option_map};
 ghost use Rattle.cedar_compare.specs.Words.{IsIdOutside, MayHave, Text, choice_texts, eid_text, kind_choices, plain_kind};
 

@@ -38,8 +38,7 @@ kind_clean defined (standard parents shape tags) (standard_kind fields openness 
     rw is (elaborated_clean defined shape _ declared.0)
 kind_clean defined (standard parents shape tags) (standard_kind fields openness given) ty declared (inr is) =
     tags_clean defined tags given ty declared.2 is
-kind_clean defined (enumerated ids) (standard_kind fields openness given) ty declared is = absurd declared
-kind_clean defined (external parents) (standard_kind fields openness given) ty declared is = absurd declared
+kind_clean defined _ (standard_kind fields openness given) ty declared is = absurd declared
 kind_clean _ _ _ _ declared is = absurd assumption
 
 -- the context of a declared kind of actions

@@ -117,10 +117,8 @@ module _ (namespace : Option PlainName) where
         | inl same ↦ (record_of fields openness, inl refl, is.1 ∙ ap Some same)
         | inr same ↦ let found = tags_count tags written is.2 expr same in (found.0, inr found.1, found.2)
       ]
-  kind_counts IsAbove (enumerated_kind choices) (standard parents shape written) is expr counts = absurd is
-  kind_counts IsAbove external_kind (standard parents shape written) is expr counts = absurd is
-  kind_counts IsAbove kind (enumerated ids) is expr counts = absurd counts
-  kind_counts IsAbove kind (external parents) is expr counts = absurd counts
+  kind_counts IsAbove _ (standard parents shape written) is expr counts = absurd is
+  kind_counts IsAbove _ _ is expr counts = absurd counts
 
   -- what counts in the requests that are written of an action is the expression of its context
   requests_count : (kind : ActionKind) (applies_to : Requests) → AreRequestsWritten namespace kind applies_to → (expr : Expr)

@@ -120,7 +120,6 @@ module _ (bag other : Bag) (extensions : Extensions)
       of_tags (Some it) (Some found) alike is =
           (found, inr refl, subst (λ each. TagsAlike ours theirs each (Some found)) is alike)
       of_tags _ _ alike is = absurd (first_of (assumption, cc))
-  entity_count_moved (standard ps shape tags) (enumerated choices) like expr counts = absurd like
   entity_count_moved _ _ like _ counts = absurd assumption
 
   -- what counts moves

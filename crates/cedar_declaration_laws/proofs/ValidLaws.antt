@@ -111,9 +111,7 @@ module _ (bag : Bag) (extensions : Extensions) (schema : PlainSchema) (fit : Typ
           (expr, inr refl, subst (AreDeclaredTags (definitions bag extensions) (Some expr)) same written)
       tags_written None (Some other) written same = absurd written
       tags_written _ None written same = absurd (first_of (assumption, cc))
-  kind_written (standard parents shape tags) (enumerated_kind choices) ty fits of_kind = absurd fits
-  kind_written (enumerated choices) (standard_kind fields openness tag_type) ty fits of_kind = absurd fits
-  kind_written (external parents) (standard_kind fields openness tag_type) ty fits of_kind = absurd fits
+  kind_written _ (standard_kind fields openness tag_type) ty fits of_kind = absurd fits
   kind_written _ _ _ fits of_kind = absurd assumption
 
   -- a context of an action is what a counted expression is elaborated as
@@ -164,8 +162,7 @@ module _ (bag : Bag) (extensions : Extensions) (schema : PlainSchema) (fit : Typ
         by : (body : EntityBody) (kind : EntityTypeKind) → IsDeclaredKind (definitions bag extensions) body kind
             → IsExternal kind → EntitySays bag name body → IsExternalType bag name
         by (external parents) kind fits is_external says = says
-        by (standard parents shape tags) (standard_kind fields openness tag_type) fits is_external says = absurd is_external
-        by (enumerated choices) (standard_kind fields openness tag_type) fits is_external says = absurd fits
+        by _ (standard_kind fields openness tag_type) fits is_external says = absurd is_external
         by _ _ fits is_external _ = absurd assumption
 
   -- an enumerated entity type of the schema is declared as one
@@ -177,8 +174,7 @@ module _ (bag : Bag) (extensions : Extensions) (schema : PlainSchema) (fit : Typ
             → IsEnumerated kind → EntitySays bag name body → (choices : List Text)
             × Contains (declared_entities bag) (name, enumerated choices)
         by (enumerated choices) kind fits is_enumerated says = (choices, (definition_declared bag name (enumerated choices) says).0)
-        by (standard parents shape tags) (standard_kind fields openness tag_type) fits is_enumerated says = absurd is_enumerated
-        by (external parents) (standard_kind fields openness tag_type) fits is_enumerated says = absurd fits
+        by _ (standard_kind fields openness tag_type) fits is_enumerated says = absurd is_enumerated
         by _ _ fits is_enumerated _ = absurd assumption
 
   -- a principal or a resource of an action of the schema is named at its place

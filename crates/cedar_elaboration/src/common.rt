@@ -1,6 +1,6 @@
 //! Common types, each elaborated once.
 
-ghost use Rattle.std.specs.Prelude.{◌≡◌, Contains, IfErr, IfOk, OnOk, map};
+ghost use Rattle.std.specs.Prelude.{Contains, IfErr, IfOk, OnOk, map};
 ghost use Rattle.cedar_elaboration.specs.Words.{AreSound, Chain, ElaboratesTo, Expr, HoldsElaborated, Included, IsCommonFault, IsElaborationOrder, PlainName, RefersToCommon, SameItems, Twice, Ty, collected_common, defined_by, elaborated_types, extension_types, fault_of, item_names};
 
 use crate::elaborating::elaborate;

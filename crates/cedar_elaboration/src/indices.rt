@@ -1,6 +1,6 @@
 //! The indices of common types among those that are declared.
 
-ghost use Rattle.std.specs.Prelude.{◌≡◌, ◌⊎◌, ◌+◌, IfErr, IfOk, OnOk};
+ghost use Rattle.std.specs.Prelude.{◌≡◌, ◌⊎◌, IfErr, IfOk, OnOk};
 ghost use Rattle.cedar_elaboration.specs.Words.{AreIndices, PlainName, Twice, collected_common, duplicate_common_type, fault_of, indexed_names, item_names, out_of_memory};
 
 use cedar_below::{InternalName, put};

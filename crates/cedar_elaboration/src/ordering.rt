@@ -1,6 +1,6 @@
 //! Common types in an order in which each comes after those that it refers to.
 
-ghost use Rattle.std.specs.Prelude.{◌≡◌, [], IfErr, IfOk, OnOk};
+ghost use Rattle.std.specs.Prelude.{[], IfErr, IfOk, OnOk};
 ghost use Rattle.cedar_elaboration.specs.Words.{AddsIndices, HasNoCycle, HoldsPairwise, IsElaborationOrder, IsOrderFault, PlainName, Refers, Twice, collected_common, fault_of, indexed_names, item_names};
 
 use crate::indices::{CommonType, Indices, name_indices};

@@ -1,7 +1,7 @@
 //! The indices of the common types that a type refers to.
 
-ghost use Rattle.std.specs.Prelude.{◌≡◌, [], ◌∷◌, IfOk, OnOk};
-ghost use Rattle.cedar_elaboration.specs.Words.{AddsIndices, ReferenceType, Refers, indexed_names, name_of, named, reference_to_one, resolved_expr, resolved_record, resolved_reference, resolved_variant};
+ghost use Rattle.std.specs.Prelude.{[], IfOk, OnOk};
+ghost use Rattle.cedar_elaboration.specs.Words.{AddsIndices, ReferenceType, Refers, indexed_names, named, resolved_expr, resolved_record, resolved_reference, resolved_variant};
 
 use crate::indices::Indices;
 use crate::type_scope::may_name_common;

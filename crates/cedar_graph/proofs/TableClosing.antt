@@ -75,10 +75,9 @@ module _ {K V Z Y : Type 0} {eq : K → K → Bool} (laws : IsEquivalence eq) (h
 pub pairwise_in_turn : {A B : Type 0} (R : A → B → Type 0) (xs : List A) (ys : List B) → length ys ≡ length xs
     → ((i : ℕ) (x : A) (y : B) → slice_get xs i ≡ Some x → slice_get ys i ≡ Some y → R x y) → HoldsPairwise R xs ys
 pairwise_in_turn R [] [] len each = tt
-pairwise_in_turn R [] (y ∷ ys) len each = absurd (omega (arith, len))
-pairwise_in_turn R (x ∷ xs) [] len each = absurd (omega (arith, len))
 pairwise_in_turn R (x ∷ xs) (y ∷ ys) len each =
     (each zero x y refl refl, pairwise_in_turn R xs ys (omega (arith, len)) (λ i. each (suc i)))
+pairwise_in_turn R _ _ len each = absurd (omega (arith, len))
 
 module _ {K V : Type 0} {eq : K → K → Bool} (laws : IsEquivalence eq) (has_edge : V → K → Bool) (is_alike : V → V → Type 0)
     (entries closed : List (K × V)) (Leads : K → K → Type 0)

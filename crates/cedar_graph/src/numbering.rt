@@ -1,6 +1,6 @@
 //! Keys known by numbers.
 
-ghost use Rattle.std.specs.Prelude.{◌≡◌, ◌+◌, ℕ, [], ◌∷◌, ◌++◌, length, vec_len, IsTrue, IfOk, OnOk, IfSome, None, slice_get};
+ghost use Rattle.std.specs.Prelude.{◌≡◌, ◌+◌, ℕ, vec_len, IfOk, OnOk, IfSome, None, slice_get};
 ghost use Rattle.std.specs.HashMap.{get, keys, hash_map_len, IsUnique};
 ghost use Rattle.cedar_graph.specs.Numbering.{IsNumbered, AreNumbers, KeepsNumbers};
 

@@ -1,7 +1,6 @@
 //! The closure of the edges of a table of nodes.
 
 ghost use Rattle.std.specs.Prelude.{◌≡◌, ◌⊎◌, ℕ, ◌<◌, Contains, IfErr, IfOk, IfSome, IsTrue, OnOk, length, slice_get, vec_len};
-ghost use Rattle.std.specs.List.Sorted.{IsStrictlySortedBy};
 ghost use Rattle.std.specs.Map.{keys_of, values_of};
 ghost use Rattle.cedar_graph.specs.Words.{AreInTurn, Chain, HasEntry, HoldsPairwise, IsClosedTo, IsCycle, IsGrown, IsTableFault, IsTarget, ListHas, StandsIn, StepsTo, items_at};
 

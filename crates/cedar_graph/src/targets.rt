@@ -1,6 +1,6 @@
 //! The edges of nodes, by the numbers of their targets.
 
-ghost use Rattle.std.specs.Prelude.{◌≡◌, ℕ, length, vec_len, IfOk, OnOk, IfSome, slice_get};
+ghost use Rattle.std.specs.Prelude.{◌≡◌, ℕ, vec_len, IfOk, OnOk, IfSome, slice_get};
 ghost use Rattle.std.specs.HashMap.{values, hash_map_len};
 ghost use Rattle.cedar_graph.specs.Words.{AreNumbers, AreNumbersOf, KeepsNumbers, items_at};
 

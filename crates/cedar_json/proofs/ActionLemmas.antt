@@ -8,13 +8,12 @@ use Rattle.cedar_json.proofs.ValueLemmas.{pairs_of-member, pairs_of-none}
 
 -- what a field holds that isn't null
 pub unless_null-held : (o : Option Json) (k : Json) → unless_null o ≡ Some k → o ≡ Some k
-unless_null-held None k e = absurd (cc)
-unless_null-held (Some null) k e = absurd (cc)
 unless_null-held (Some (boolean b)) k e = e
 unless_null-held (Some (number s)) k e = e
 unless_null-held (Some (string s)) k e = e
 unless_null-held (Some (array js)) k e = e
 unless_null-held (Some (object ms)) k e = e
+unless_null-held _ k e = absurd (cc)
 
 -- members that are entries under their keys are the pairs that they describe
 entries_of-pairs : (ms : Members) (before : Pairs) → entries_of text_cmp Some value_of ms before ≡ pairs_of ms before

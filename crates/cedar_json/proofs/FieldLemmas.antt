@@ -47,13 +47,9 @@ keys_among-other names (member key j rest) (suc index) other =
 -- and so has their object
 pub has_only-other : (names : List Text) (j : Json) (ms : Members) (index : ℕ) → as_object j ≡ Some ms → IsOther names ms index
     → has_only names j ≡ false
-has_only-other names null ms index is other = absurd (cc)
-has_only-other names (boolean b) ms index is other = absurd (cc)
-has_only-other names (number s) ms index is other = absurd (cc)
-has_only-other names (string s) ms index is other = absurd (cc)
-has_only-other names (array js) ms index is other = absurd (cc)
 has_only-other names (object os) ms index is other =
     let same : os ≡ ms = cc in ap (keys_among names) same ∙ keys_among-other names ms index other
+has_only-other names _ ms index is other = absurd (cc)
 
 pub member_at-other : (names : List Text) (j : Json) (ms : Members) (index : ℕ) → as_object j ≡ Some ms → IsOther names ms index
     → IsSomeAnd (member_at index j) (λ m. is_among m.0 names ≡ false)
@@ -76,20 +72,12 @@ get_member-smaller name (member key j rest) k e =
 
 -- a field is smaller than its object
 pub get-smaller : (name : Text) (j k : Json) → get name j ≡ Some k → length (json_tokens k) < length (json_tokens j)
-get-smaller name null k e = absurd (cc)
-get-smaller name (boolean b) k e = absurd (cc)
-get-smaller name (number s) k e = absurd (cc)
-get-smaller name (string s) k e = absurd (cc)
-get-smaller name (array js) k e = absurd (cc)
 get-smaller name (object ms) k e = omega (arith, get_member-smaller name ms k e)
+get-smaller name _ k e = absurd (cc)
 
 object_of : (j : Json) (ms : Members) → as_object j ≡ Some ms → length (members_tokens ms) < length (json_tokens j)
-object_of null ms e = absurd (cc)
-object_of (boolean b) ms e = absurd (cc)
-object_of (number s) ms e = absurd (cc)
-object_of (string s) ms e = absurd (cc)
-object_of (array js) ms e = absurd (cc)
 object_of (object os) ms e = let same : os ≡ ms = cc in omega (arith, ap (λ m. length (members_tokens m)) same)
+object_of _ ms e = absurd (cc)
 
 object_in : (n : ℕ) (o : Option Json) (ms : Members) → ((k : Json) → o ≡ Some k → length (json_tokens k) < n) → option_and_then as_object o ≡ Some ms
     → length (members_tokens ms) < n
@@ -103,10 +91,5 @@ object_field-smaller name j ms e = object_in (length (json_tokens j)) (get name 
 
 -- a value whose members are these is their object
 pub object_held : (o : Option Json) (ms : Members) → option_and_then as_object o ≡ Some ms → o ≡ Some (object ms)
-object_held None ms e = absurd (cc)
-object_held (Some null) ms e = absurd (cc)
-object_held (Some (boolean b)) ms e = absurd (cc)
-object_held (Some (number s)) ms e = absurd (cc)
-object_held (Some (string s)) ms e = absurd (cc)
-object_held (Some (array js)) ms e = absurd (cc)
 object_held (Some (object os)) ms e = let same : os ≡ ms = cc in ap (λ m. Some (object m)) same
+object_held _ ms e = absurd (cc)

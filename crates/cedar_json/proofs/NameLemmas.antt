@@ -158,8 +158,7 @@ IsNameOf-more : (part next : Text) (rest : List Text) (name : PlainName) (test :
 IsNameOf-more part next rest name true (Some other) is it e =
     let same : name_after part other ≡ name = cc in
     subst (IsNameOf (part ∷ next ∷ rest)) same (IsNameOf-after part next rest other is (it other refl))
-IsNameOf-more part next rest name true None is it e = absurd (cc)
-IsNameOf-more part next rest name false found is it e = absurd (cc)
+IsNameOf-more part next rest name _ _ is it e = absurd (cc)
 
 named_by_parts : (parts : List Text) (name : PlainName) → name_of_parts parts ≡ Some name → IsNameOf parts name
 named_by_parts [] name e = absurd (cc)

@@ -36,19 +36,17 @@ call_in-with (object ms) = ap (call_by (object ms)) (argument_of-get ms)
 
 first_call-sole : (name : Text) (ms : Members) (k : Json) → sole_held name ms ≡ Some k → first_call ms ≡ call_in k
 unfolding value_of
-first_call-sole name no_members k e = absurd (cc)
 first_call-sole name (member key j no_members) k e = by (bytes_eq key name) e
   where
     by : (test : Bool) → cond test (Some j) None ≡ Some k → call_in j ≡ call_in k
     by true e = let same : j ≡ k = cc in ap call_in same
     by false e = absurd (cc)
-first_call-sole name (member key j (member other l rest)) k e = absurd (cc)
+first_call-sole name _ k e = absurd (cc)
 
 -- what the one member holds is what its field does
 pub sole_held-get : (name : Text) (ms : Members) (k : Json) → sole_held name ms ≡ Some k → get_member name ms ≡ Some k
-sole_held-get name no_members k e = absurd (cc)
 sole_held-get name (member key j no_members) k e = e
-sole_held-get name (member key j (member other l rest)) k e = absurd (cc)
+sole_held-get name _ k e = absurd (cc)
 
 -- an object by its members
 abbrev by_members : Members → Option Json → Option Json → Option Tree
@@ -305,6 +303,5 @@ sole_held-smaller_by name key j k false e = absurd (cc)
 
 -- what the one member holds is smaller than the members
 pub sole_held-smaller : (name : Text) (ms : Members) (k : Json) → sole_held name ms ≡ Some k → length (json_tokens k) < length (members_tokens ms)
-sole_held-smaller name no_members k e = absurd (cc)
 sole_held-smaller name (member key j no_members) k e = sole_held-smaller_by name key j k (bytes_eq key name) e
-sole_held-smaller name (member key j (member other l rest)) k e = absurd (cc)
+sole_held-smaller name _ k e = absurd (cc)

@@ -225,14 +225,7 @@ common_type_back ty sound flawless =
 -- the closed record without attributes is the one that is left out
 pub empty-is : (ty : Expr) → is_empty_record ty ≡ true → ty ≡ empty_record
 empty-is (record_expr no_attribute false) e = refl
-empty-is (record_expr no_attribute true) e = absurd (cc)
-empty-is (record_expr (attribute name required ty rest) additional) e = absurd (cc)
-empty-is text_expr e = absurd (cc)
-empty-is long_expr e = absurd (cc)
-empty-is truth_expr e = absurd (cc)
-empty-is (set_expr element) e = absurd (cc)
-empty-is (named reference) e = absurd (cc)
-empty-is (extension_expr name) e = absurd (cc)
+empty-is _ e = absurd (cc)
 
 -- what is written in a field for a shape or a context describes it
 pub shape_back : (ty : Expr) → SoundType ty → type_flaws ty ≡ [] → shape_in (shape_held ty) ≡ Some ty

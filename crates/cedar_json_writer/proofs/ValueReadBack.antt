@@ -83,11 +83,10 @@ mutual
       value_of-record (value_members values) none.0 none.1
       ∙ ap (option_map record_of_pairs) (entries_back values [] sound.0 sound.1 both.1)
       ∙ ap (λ it. Some (map_value it)) (entries_from-listed values)
-  value_back (call_value function no_tree) sound flawless = absurd (cc)
   value_back (call_value function (tree value no_tree)) sound flawless =
       let both = both_none (value_flaws value) (values_flaws no_tree) flawless in
       ap₂ call_of (plain_name-back function sound.0) (value_back value sound.1.0 both.0)
-  value_back (call_value function (tree value (tree other rest))) sound flawless = absurd (cc)
+  value_back _ sound flawless = absurd (cc)
 
   values_back : (values : Trees) → SoundValues values → values_flaws values ≡ [] → values_of (value_items values) ≡ Some values
   values_back no_tree sound flawless = refl

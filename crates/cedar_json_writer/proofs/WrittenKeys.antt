@@ -174,10 +174,9 @@ mutual
     subst AreDistinct (sym (value_keys_of values)) (in_order-apart (entry_names values) sound.0),
     entries_unique values sound.1 (both_none (key_flaws values) (entries_flaws values) flawless).1,
   )
-  value_unique (call_value function no_tree) sound flawless = absurd (cc)
   value_unique (call_value function (tree value no_tree)) sound flawless =
       (apart (codes "__extn" ∷ []) refl, ((apart (codes "fn" ∷ codes "arg" ∷ []) refl, (tt, (value_unique value sound.1.0 (both_none (value_flaws value) (values_flaws no_tree) flawless).0, tt))), tt))
-  value_unique (call_value function (tree value (tree other rest))) sound flawless = absurd (cc)
+  value_unique _ sound flawless = absurd (cc)
 
   items_unique : (values : Trees) → SoundValues values → values_flaws values ≡ [] → ItemsHaveUniqueKeys (value_items values)
   items_unique no_tree sound flawless = tt

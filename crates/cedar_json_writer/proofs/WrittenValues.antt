@@ -235,11 +235,10 @@ keys_many values many = keys_many_of (map (λ pair. (string_bytes pair.0, tree_o
 keys_one_of : (pairs : Pairs) (name : String Global) (value : RestrictedExpr) → length pairs ≡ 1 → slice_get pairs 0 ≡ Some (name, value)
     → key_flaws (entries_from (map (λ pair. (string_bytes pair.0, tree_of pair.1)) pairs))
     ≡ cond (is_among (string_bytes name) value_keys) (lone_key (string_bytes name) ∷ []) []
-keys_one_of [] name value one first = absurd (omega (arith, one))
 keys_one_of (pair ∷ []) name value one first =
     let same : pair ≡ (name, value) = cc in
     ap (λ (it : String Global × RestrictedExpr). cond (is_among (string_bytes it.0) value_keys) (lone_key (string_bytes it.0) ∷ []) []) same
-keys_one_of (pair ∷ (other ∷ rest)) name value one first = absurd (omega (arith, one))
+keys_one_of _ name value one first = absurd (omega (arith, one))
 
 pub lone_free : (values : BTreeMap (String Global) RestrictedExpr) (name : String Global) (value : RestrictedExpr) → length values.entries ≡ 1
     → slice_get values.entries 0 ≡ Some (name, value) → is_among (string_bytes name) value_keys ≡ false → key_flaws (entries_of values) ≡ []
@@ -256,9 +255,8 @@ lone_flaw values name value text one first word same =
 
 -- a list of one item
 pub one_item : (args : List RestrictedExpr) (argument : RestrictedExpr) → length args ≡ 1 → argument ≡ get_or args 0 argument → args ≡ argument ∷ []
-one_item [] argument one is = absurd (omega (arith, one))
 one_item (arg ∷ []) argument one is = ap (λ a. a ∷ []) (sym is)
-one_item (arg ∷ (other ∷ rest)) argument one is = absurd (omega (arith, one))
+one_item _ argument one is = absurd (omega (arith, one))
 
 -- calls by their arguments
 pub call_free : (name : Name) (argument : RestrictedExpr) → FreeValue (tree_of argument)

@@ -1,4 +1,6 @@
 -- The words of clauses, from one place.
+pub use Rattle.json.specs.Layout.{pretty}
+pub use Rattle.json.specs.Tree.{json_tokens}
 pub use Rattle.cedar_below.specs.Words.{Entries, IsOfIdentifiers, IsReserved, PlainName, PlainUid, Text, Tree, Trees, call_value, eid_text, entity_ancestors, entity_attrs, entity_tags, entity_uid, entries_from, entries_of, entry, entry_names, is_identifier_text, items_of, map_value, name_cmp, name_of, name_text, no_entry, no_tree, number_value, plain_name, reserved_word, set_value, text_cmp, text_value, tree, tree_of, tree_step, trees_of, truth_value, uid_of, uid_text, uid_value, unreserved_id_text, value_expr}
 pub use Rattle.cedar_below.specs.declared.eid.Eid.{Eid}
 pub use Rattle.cedar_below.specs.declared.entity_uid.EntityUID.{EntityUID}

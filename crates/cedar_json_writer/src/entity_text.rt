@@ -1,9 +1,7 @@
 //! Entities, written as texts.
 
 ghost use Rattle.std.specs.Prelude.{◌≡◌, [], OnOk, IfOk, IfErr, codes, string_bytes};
-ghost use Rattle.json.specs.Layout.{pretty};
-ghost use Rattle.json.specs.Tree.{json_tokens};
-ghost use Rattle.cedar_json_writer.specs.Words.{AddsField, AddsValue, IsFlawOf, entity_ancestors, entity_attrs, entity_document, entity_flaws, entity_tags, entity_uid, pairs_flaws, tags_held, uid_array, written_pairs};
+ghost use Rattle.cedar_json_writer.specs.Words.{AddsField, AddsValue, IsFlawOf, entity_ancestors, entity_attrs, entity_document, entity_flaws, entity_tags, entity_uid, json_tokens, pairs_flaws, pretty, tags_held, uid_array, written_pairs};
 
 use crate::fault::WriteFault;
 use crate::fields::close_object;

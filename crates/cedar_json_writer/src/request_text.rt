@@ -2,9 +2,7 @@
 
 ghost use Rattle.std.specs.Prelude.{◌≡◌, [], Some, OnOk, IfOk, IfErr, string_bytes};
 ghost use Rattle.json.specs.Json.{string};
-ghost use Rattle.json.specs.Layout.{pretty};
-ghost use Rattle.json.specs.Tree.{json_tokens};
-ghost use Rattle.cedar_json_writer.specs.Words.{AddsField, AddsValue, IsFlawOf, pairs_flaws, request_document, uid_of, uid_text, written_pairs};
+ghost use Rattle.cedar_json_writer.specs.Words.{AddsField, AddsValue, IsFlawOf, json_tokens, pairs_flaws, pretty, request_document, uid_of, uid_text, written_pairs};
 
 use crate::fault::WriteFault;
 use crate::fields::{close_object, write_text_field};

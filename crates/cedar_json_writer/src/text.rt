@@ -2,10 +2,8 @@
 
 ghost use Rattle.std.specs.Prelude.{◌≡◌, ◌<◌, IfOk, IfErr, length, string_bytes};
 ghost use Rattle.std.specs.Str.{IsUtf8};
-ghost use Rattle.json.specs.Layout.{pretty};
 ghost use Rattle.json.specs.Lex.{tokens};
-ghost use Rattle.json.specs.Tree.{json_tokens};
-ghost use Rattle.cedar_json_writer.specs.Words.{Describes, IsFlawOf, IsWritable, fragment_document, fragment_flaws, too_long, written_fragment};
+ghost use Rattle.cedar_json_writer.specs.Words.{Describes, IsFlawOf, IsWritable, fragment_document, fragment_flaws, json_tokens, pretty, too_long, written_fragment};
 
 use crate::definitions::write_fragment;
 use crate::fault::{Unwritable, WriteFault};

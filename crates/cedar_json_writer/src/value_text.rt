@@ -1,9 +1,7 @@
 //! Values, written as texts.
 
 ghost use Rattle.std.specs.Prelude.{◌≡◌, [], IfOk, IfErr, string_bytes};
-ghost use Rattle.json.specs.Layout.{pretty};
-ghost use Rattle.json.specs.Tree.{json_tokens};
-ghost use Rattle.cedar_json_writer.specs.Words.{IsFlawOf, tree_of, value_document, value_expr, value_flaws};
+ghost use Rattle.cedar_json_writer.specs.Words.{IsFlawOf, json_tokens, pretty, tree_of, value_document, value_expr, value_flaws};
 
 use crate::fault::WriteFault;
 use crate::text::text_of;

@@ -2,7 +2,7 @@
 
 ghost use Rattle.std.specs.Prelude.{◌≡◌, [], Some, true, false, MatchOption, MatchResult, OnOk, IfErr, Contains};
 ghost use Rattle.std.specs.Fmt.{signed_decimal};
-ghost use Rattle.json.specs.Json.{array, number, object};
+ghost use Rattle.json.specs.Json.{number};
 ghost use Rattle.cedar_json_writer.specs.Words.{AddsField, AddsValue, IsChecked, SoundPairs, SoundValue, call_value, entries_of, flaw_of, is_among, is_long, key_flaws, map_value, pairs_document, pairs_flaws, plain_name, set_value, tree_of, trees_of, uid_document, uid_of, uid_value, value_document, value_flaws, value_keys, written_pairs};
 
 use crate::fault::{Unwritable, WriteFault};

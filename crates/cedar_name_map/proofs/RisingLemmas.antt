@@ -103,10 +103,9 @@ module _ {E K : Type 0} (see : E → K) (R : K → K → Ordering) where
   pub seen_at-rises : (all : List E) → IsStrictlySortedBy R (map see all) → (i j : ℕ) (d : E) → i < j → j < length all
       → R (seen_at see all i d) (seen_at see all j d) ≡ Less
   unfolding IsStrictlySortedBy
-  seen_at-rises [] up i j d low high = absurd (omega arith)
-  seen_at-rises (x ∷ xs) up i zero d low high = absurd (omega arith)
   seen_at-rises (x ∷ xs) up zero (suc j) d low high = of_seen_at (λ k. R (see x) k ≡ Less) xs up.0 j d (omega arith)
   seen_at-rises (x ∷ xs) up (suc i) (suc j) d low high = seen_at-rises xs up.1 i j d (omega arith) (omega arith)
+  seen_at-rises _ up i _ d low high = absurd (omega arith)
 
 module _ {E K : Type 0} (see : E → K) (R : K → K → Ordering) (total : IsTotalOrder R) (own : List E)
     (up : IsStrictlySortedBy R (map see own)) (k : K) (place : ℕ) where

@@ -1,7 +1,7 @@
 //! Whether a schema is complete, and what it lacks.
 
 ghost use Rattle.std.specs.Fmt.{WritesOnOk};
-ghost use Rattle.std.specs.Prelude.{◌≡◌, ◌≢◌, [], IfErr, IfOk, OnOk, Some, map};
+ghost use Rattle.std.specs.Prelude.{◌≡◌, [], IfErr, IfOk, OnOk, Some, map};
 ghost use Rattle.std.specs.List.{flat_map};
 ghost use Rattle.std.specs.List.Sorted.{IsPermutation, IsSorted};
 ghost use Rattle.cedar_queries.specs.Words.{IsIncomplete, complete_error_text, external_action_text, external_type_text, incomplete_text, loc_of_first, type_name, uid_of, unresolved, values_where};

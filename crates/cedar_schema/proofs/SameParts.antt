@@ -15,10 +15,9 @@ same_parts P types others actions other_actions entities same_types same_actions
 same_uids : (made held : List ActionEntity) → HoldsPairwise SameActionEntity made held
     → map (λ (it : ActionEntity). it.uid) made ≡ map (λ (it : ActionEntity). it.uid) held
 same_uids [] [] same = refl
-same_uids [] (other ∷ held) same = absurd same
-same_uids (it ∷ made) [] same = absurd same
 same_uids (it ∷ made) (other ∷ held) same =
     let rest = same_uids made held same.1 in λ i. same.0.uid i ∷ rest i
+same_uids _ _ same = absurd same
 
 -- entities that are pairwise those of a schema's actions are such entities too
 pub entities_made : (schema : PlainSchema) (made : List ActionEntity) → AreActionEntities schema

@@ -1,6 +1,6 @@
 //! What a schema shows of its fragments, collected before it is built.
 
-ghost use Rattle.std.specs.Prelude.{◌≡◌, ◌∷◌, [], IfOk, map};
+ghost use Rattle.std.specs.Prelude.{◌≡◌, [], IfOk, map};
 ghost use Rattle.std.specs.Slice.Iter.{iter_rest};
 ghost use Rattle.cedar_schema.specs.Words.{ShowsFragments, common_entries, namespace_entries, shown_common_type, shown_entry};
 

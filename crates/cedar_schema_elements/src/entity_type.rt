@@ -36,7 +36,7 @@ pub struct ValidatorEntityType {
 
 impl ValidatorEntityType {
     ghost use Rattle.std.specs.Prelude.{◌≡◌, ◌↔◌, ◌∷◌, map, IsTrue, IfOk, Contains};
-    ghost use Rattle.cedar_schema_elements.specs.Words.{HoldsOfAll, IsEnumerated, IsFiniteIterable, SameItems, Text, attribute_of, attributes_of, descendant_names, eid_text, entity_type_of, enumerated_kind, external_kind, field_at, fields_of, kind_fields, kind_openness, kind_tags, located, located_at, name_loc, option_copied, option_map, plain_kind, standard_kind, tags_of, ty_of, type_loc, type_name};
+    ghost use Rattle.cedar_schema_elements.specs.Words.{HoldsOfAll, IsEnumerated, IsFiniteIterable, SameItems, Text, attribute_of, attributes_of, descendant_names, eid_text, entity_type_of, enumerated_kind, external_kind, field_at, fields_of, kind_fields, kind_openness, kind_tags, located, located_at, name_loc, option_copied, option_map, standard_kind, tags_of, ty_of, type_loc, type_name};
 
     /// An entity type of some kind. The descendants have to come to an end.
     fn with_kind<I: IntoIterator<Item = EntityType>>(

@@ -1,6 +1,6 @@
 //! Actions, converted back as declarations.
 
-ghost use Rattle.std.specs.Prelude.{◌≡◌, ◌↔◌, Contains, IfErr, IfOk, List, OnOk, Option, false, map};
+ghost use Rattle.std.specs.Prelude.{◌≡◌, ◌↔◌, Contains, IfErr, IfOk, OnOk, Option, false, map};
 ghost use Rattle.cedar_schema_writer.specs.Words.{ActionBody, AppliesIfDefined, AreProper, ArePut, AreRequestsWritten, IsActionDeclaration, IsActionWritten, IsSoundAction, IsSoundActionEntry, IsUpper, ListsDescendantAction, PlainName, PlainUid, Refuses, SchemaAction, Text, action_body, action_declared, action_of, definitions_bag, known_names, known_schema, parent_action, plain_namespace, raw_reference, requests_written, uid_of, written_uid};
 ghost use Rattle.cedar_below.specs.declared.entity_uid.EntityUID.{EntityUID as Key};
 

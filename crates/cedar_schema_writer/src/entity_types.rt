@@ -1,6 +1,6 @@
 //! Entity types, converted back as declarations.
 
-ghost use Rattle.std.specs.Prelude.{◌≡◌, ◌↔◌, Contains, IfErr, IfOk, OnOk, Option, map, ◌≢◌, List, [], Some, false};
+ghost use Rattle.std.specs.Prelude.{◌≡◌, ◌↔◌, Contains, IfErr, IfOk, OnOk, Option, map, ◌≢◌, [], Some, false};
 ghost use Rattle.std.specs.Option.{option_copied, option_map};
 ghost use Rattle.cedar_schema_writer.specs.Words.{AreProper, ArePut, AreTagsWritten, IsKindWritten, IsSoundEntityType, IsSoundKind, IsSoundType, IsTypeDeclaration, IsUpper, ListsDescendant, PlainName, Refuses, SchemaEntityType, Ty, definitions_bag, eid_text, entity_type_of, enumerated, external, items_of, kind_body, kind_fields, kind_openness, kind_tags, known_names, known_schema, plain_namespace, raw_entity_body, raw_expr, raw_name, raw_reference, record_of, standard_kind, ty_of, type_name, type_written};
 ghost use Rattle.cedar_below.specs.declared.entity_type.EntityType.{EntityType as TypeKey};

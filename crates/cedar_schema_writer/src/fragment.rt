@@ -1,6 +1,6 @@
 //! A schema, converted back as a fragment.
 
-ghost use Rattle.std.specs.Prelude.{Contains, IfErr, IfOk, List, OnOk};
+ghost use Rattle.std.specs.Prelude.{IfErr, IfOk, List, OnOk};
 ghost use Rattle.cedar_schema_writer.specs.Words.{ActionEntity, AreProper, IsConvertedBack, IsWritable, Refuses, parts_schema, raw_fragment};
 
 use crate::actions::write_actions;

@@ -1,6 +1,6 @@
 //! Names that are written in full, and what they would name.
 
-ghost use Rattle.std.specs.Prelude.{◌≡◌, ◌↔◌, Contains, IfErr, IfOk, IsTrue, OnOk, List, map};
+ghost use Rattle.std.specs.Prelude.{◌≡◌, ◌↔◌, Contains, IfErr, IfOk, IsTrue, OnOk, map};
 ghost use Rattle.cedar_schema_writer.specs.Words.{NamesNoOther, NamesNoOtherAction, PlainName, PlainUid, Refuses, SchemaAction, SchemaEntityType, known_names, known_schema, plain_action_entry, plain_namespace, raw_name, type_name, uid_of, written_uid};
 
 use crate::names::within;

@@ -1,6 +1,6 @@
 //! Types, converted back as expressions of a fragment.
 
-ghost use Rattle.std.specs.Prelude.{◌≡◌, IfErr, IfOk, OnOk, Option, Some, string_bytes, List};
+ghost use Rattle.std.specs.Prelude.{◌≡◌, IfErr, IfOk, OnOk, Option, Some, string_bytes};
 ghost use Rattle.std.specs.BTreeMap.{insert_entry};
 ghost use Rattle.std.specs.String.{string_cmp};
 ghost use Rattle.std.specs.declared.string.String.{String as Text};

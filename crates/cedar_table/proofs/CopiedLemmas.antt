@@ -30,12 +30,11 @@ module _ {K : Type 0} (R : K → K → Ordering) (total : IsTotalOrder R) where
       → HoldsPairwise (Ties R) done copies
       → AllByRecursion (λ other. R key other ≡ Greater) (keys_of done) → AllByRecursion (λ other. R copy other ≡ Greater) (keys_of copies)
   above_copies [] [] key copy ties turn above = tt
-  above_copies [] (other ∷ copies) key copy ties turn above = absurd turn
-  above_copies (entry ∷ done) [] key copy ties turn above = absurd turn
   above_copies (entry ∷ done) (other ∷ copies) key copy ties turn above = (
     above_tied key copy entry.0 other.0 ties turn.0 above.0,
     above_copies done copies key copy ties turn.1 above.1,
   )
+  above_copies _ _ key copy ties turn above = absurd turn
 
 -- an entry is what calls give of another
 abbrev IsCopied : {K V : Type 0} → (K → Result K Memory → Type 0) → (V → Result V Memory → Type 0) → K × V → K × V → Type 0

@@ -19,16 +19,14 @@ none_from_no_some (Some x) never = absurd (never x refl)
 -- a hint that passes in two ways
 both : (row : Option (Option Hint)) (First Second : Hint → Type 0) → IsSomeAnd row (λ each. IsSomeAnd each First)
     → IsSomeAnd row (λ each. IsSomeAnd each Second) → (hint : Hint) × First hint × Second hint
-both None First Second first second = absurd first
-both (Some None) First Second first second = absurd first
 both (Some (Some hint)) First Second first second = (hint, first, second)
+both _ First Second first second = absurd first
 
 -- a hint that passes also passes where less is asked
 pub weaker : (row : Option (Option Hint)) (First Second : Hint → Type 0) → ((hint : Hint) → First hint → Second hint)
     → IsSomeAnd row (λ each. IsSomeAnd each First) → IsSomeAnd row (λ each. IsSomeAnd each Second)
-weaker None First Second onwards first = absurd first
-weaker (Some None) First Second onwards first = absurd first
 weaker (Some (Some hint)) First Second onwards first = onwards hint first
+weaker _ First Second onwards first = absurd first
 
 module _ (rows : List (Option Hint)) (hash : ℕ) where
   -- the row that is looked at in a step

@@ -150,7 +150,7 @@ impl<K: Ord + Hash + Drop, V: Drop> Table<K, V> {
 }
 
 impl<K: Ord + Hash, V> Table<K, V> {
-    ghost use Rattle.std.specs.Prelude.{◌≡◌, ◌<◌, ℕ, IfNone, IfSome, None, is_some, length};
+    ghost use Rattle.std.specs.Prelude.{◌≡◌, ◌<◌, IfNone, IfSome, None, is_some, length};
     ghost use Rattle.cedar_table.specs.Words.{StandsAt, get_by, option_copied};
 
     /// How many entries there are.

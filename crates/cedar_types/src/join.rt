@@ -3,7 +3,7 @@
 ghost use Rattle.std.specs.Prelude.{◌≡◌, ◌&&◌, ◌↔◌, ◌++◌, [], ◌∷◌, IfOk, IfSome, None, OnOk, map, string_bytes};
 ghost use Rattle.std.specs.declared.alloc.Global.{Global};
 ghost use Rattle.std.specs.declared.string.String.{String};
-ghost use Rattle.cedar_types.specs.Words.{Below, ClosedAttributes, IsAnswerOrMemory, IsHandedOn, IsJoinAnswer, IsLeastOwnBound, IsPermissiveAttribute, IsReduceAnswer, IsStrictAttribute, IsUnplaced, Text, «Type», attribute_loc, attribute_of, attribute_ty, either_open, fields_of, kind_ty, listed_at, located_at, lub_ty, never, record_of, ty_of};
+ghost use Rattle.cedar_types.specs.Words.{Below, ClosedAttributes, IsAnswerOrMemory, IsHandedOn, IsJoinAnswer, IsLeastOwnBound, IsPermissiveAttribute, IsReduceAnswer, IsStrictAttribute, IsUnplaced, Text, attribute_loc, attribute_of, either_open, fields_of, kind_ty, listed_at, located_at, lub_ty, never, record_of, ty_of};
 ghost use Rattle.cedar_below.specs.declared.validation_mode.ValidationMode.TheVariants as mode;
 
 use crate::attributes::{AttributeType, Attributes};

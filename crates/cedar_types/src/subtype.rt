@@ -1,7 +1,7 @@
 //! Subtyping of types and of entity kinds.
 
-ghost use Rattle.std.specs.Prelude.{◌≡◌, ◌↔◌, IsTrue, map, string_bytes};
-ghost use Rattle.cedar_types.specs.Words.{AttributeBelow, Below, FieldsBelow, FlagsBelow, Included, IsSortedByName, NamesBelow, OpennessBelow, attribute_of, field_names, fields_of, kind_ty, lub_names, lub_ty, ty_of};
+ghost use Rattle.std.specs.Prelude.{◌≡◌, ◌↔◌, IsTrue};
+ghost use Rattle.cedar_types.specs.Words.{AttributeBelow, Below, FieldsBelow, FlagsBelow, Included, NamesBelow, OpennessBelow, attribute_of, fields_of, kind_ty, lub_names, lub_ty, ty_of};
 
 use crate::attributes::{AttributeType, Attributes};
 use crate::entity_kind::EntityKind;

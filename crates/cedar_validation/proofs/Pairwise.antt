@@ -34,9 +34,6 @@ pub pairwise_joined : {A B C : Type 0} (R : A → B → Type 0) (S : B → C →
     → ((x : A) (y : B) (z : C) → R x y → S y z → T x z) → (xs : List A) (ys : List B) (zs : List C)
     → HoldsPairwise R xs ys → HoldsPairwise S ys zs → HoldsPairwise T xs zs
 pairwise_joined R S T step [] [] [] first second = tt
-pairwise_joined R S T step [] [] (z ∷ zs) first second = absurd second
-pairwise_joined R S T step [] (y ∷ ys) zs first second = absurd first
-pairwise_joined R S T step (x ∷ xs) [] zs first second = absurd first
-pairwise_joined R S T step (x ∷ xs) (y ∷ ys) [] first second = absurd second
 pairwise_joined R S T step (x ∷ xs) (y ∷ ys) (z ∷ zs) first second =
     (step x y z first.0 second.0, pairwise_joined R S T step xs ys zs first.1 second.1)
+pairwise_joined R S T step _ _ _ first second = absurd assumption

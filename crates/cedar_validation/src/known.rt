@@ -1,7 +1,7 @@
 //! Entity types and extension types that are known.
 
 ghost use Rattle.std.specs.Prelude.{◌≡◌, ◌⊎◌, ◌↔◌, [], ◌∷◌, Contains, IfErr, IfOk, IsTrue, OnOk, map};
-ghost use Rattle.cedar_validation.specs.Words.{HasAction, HasEntityType, IsKnownThroughout, IsUnknownIn, Knows, PlainName, PlainUid, extension_types, fault_of, kind_ty, lub_names, out_of_memory, plain_name, plain_parts, type_name, undeclared_entity_types, unknown_extension_type};
+ghost use Rattle.cedar_validation.specs.Words.{HasAction, IsKnownThroughout, IsUnknownIn, Knows, PlainName, PlainUid, extension_types, fault_of, kind_ty, lub_names, out_of_memory, plain_name, plain_parts, type_name, undeclared_entity_types, unknown_extension_type};
 
 use crate::parts::Parts;
 use cedar_below::{EntityType, Extensions, M, Name, NonEmpty};

@@ -1,7 +1,7 @@
 //! Worked examples of what can be converted back, and what can't.
 
 ghost use Rattle.std.specs.Prelude.{◌≡◌, [], ◌∷◌, None, Option, codes};
-ghost use Rattle.declaration_examples.specs.Words.{IsConvertedBack, IsWritable, PlainName, Ty, action_attribute, action_entry, action_named, action_within, alias_name, any_entity, any_set, end, enumerated_kind, extension_of, group_of, never, one_type, plain_kind, record_of, sample_bag, sample_schema, schema_of_entries, set_of, standard_kind, truth, type_entry, type_written, union_of, with_attribute, within_sample};
+ghost use Rattle.declaration_examples.specs.Words.{IsConvertedBack, IsWritable, PlainName, Ty, action_attribute, action_entry, action_named, action_within, alias_name, any_entity, any_set, end, enumerated_kind, extension_of, group_of, never, one_type, record_of, sample_bag, sample_schema, schema_of_entries, set_of, standard_kind, truth, type_entry, type_written, union_of, with_attribute, within_sample};
 ghost use Rattle.cedar_type_rules.specs.declared.bool_type.BoolType.TheVariants as truth_type;
 ghost use Rattle.cedar_type_rules.specs.declared.open_tag.OpenTag.TheVariants as openness;
 

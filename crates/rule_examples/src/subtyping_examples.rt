@@ -1,7 +1,7 @@
 //! Worked examples of subtyping, of agreement and of membership.
 
 ghost use Rattle.std.specs.Prelude.{◌≢◌, true, false, [], ◌∷◌, codes, pos};
-ghost use Rattle.rule_examples.specs.Words.{Agree, Below, ClosedAttributes, Extensions, Has, IsUnknown, MayHave, Meets, OpenAttributes, Permissive, PlainName, Strict, TakesText, Text, Tree, Trees, Ty, ValidationMode, any_entity, any_set, call_value, end, entry, extension_of, field, long, map_value, never, no_entry, no_tree, number_value, record_of, set_of, set_value, text, text_value, tree, truth, uid_value, union_of};
+ghost use Rattle.rule_examples.specs.Words.{Agree, Below, ClosedAttributes, Extensions, Has, IsUnknown, MayHave, Meets, OpenAttributes, Permissive, PlainName, Strict, TakesText, Text, Tree, Trees, Ty, ValidationMode, any_entity, any_set, call_value, end, entry, extension_of, field, long, map_value, never, no_entry, no_tree, number_value, record_of, set_of, set_value, text_value, tree, truth, uid_value, union_of};
 ghost use Rattle.cedar_type_rules.specs.declared.bool_type.BoolType.TheVariants as bool_type;
 
 /// Sets are below sets of more, and all are below the any-set.

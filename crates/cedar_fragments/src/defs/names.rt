@@ -1,7 +1,7 @@
 //! What the defined names hold, and how names are added to them.
 
 ghost use Rattle.std.specs.Prelude.{◌≡◌, ◌↔◌, IsTrue, IfOk, OnOk, OnErr, map, Contains, [], ◌∷◌};
-ghost use Rattle.cedar_fragments.specs.Words.{HasAlso, HoldsAlso, HoldsJust, Names, StandsWhere, common_type_names, declared_names, definition_names, entity_type_names, fragment_names, held_names, name_of, uid_of, uids_of_actions};
+ghost use Rattle.cedar_fragments.specs.Words.{HasAlso, HoldsAlso, HoldsJust, StandsWhere, common_type_names, declared_names, definition_names, entity_type_names, fragment_names, held_names, name_of, uid_of, uids_of_actions};
 
 use crate::defs::all_defs::AllDefs;
 use crate::namespace::{

@@ -1,8 +1,7 @@
 //! The actions of a namespace.
 
-ghost use Rattle.std.specs.Prelude.{◌≡◌, ◌⊎◌, ◌↔◌, IfOk, IfErr, OnOk, map, Contains, string_bytes, []};
-ghost use Rattle.std.specs.Option.{option_map};
-ghost use Rattle.cedar_fragments.specs.Words.{Fault, HasAttributes, IsDefinitionFault, IsSound, NamesAllWithAttributes, Reference, ReferenceType, Text, action_body, action_declarations, action_defs, action_fragment_body, action_fragment_declarations, action_word, applies_to, fault_of, fragment_parent, fragment_requests, id_text, name_within, namespace_name, out_of_memory, parent_action, parent_actions, path_within, positional_reference, raw_reference, requests_by, reserved_name, reserved_word, text_cmp, type_name, uid_of, with_attributes};
+ghost use Rattle.std.specs.Prelude.{◌≡◌, ◌⊎◌, IfOk, IfErr, OnOk, map, Contains, string_bytes, []};
+ghost use Rattle.cedar_fragments.specs.Words.{IsDefinitionFault, IsSound, NamesAllWithAttributes, Reference, ReferenceType, action_body, action_declarations, action_defs, action_fragment_body, action_fragment_declarations, action_word, applies_to, fault_of, fragment_parent, fragment_requests, id_text, name_within, namespace_name, out_of_memory, parent_action, parent_actions, path_within, positional_reference, raw_reference, reserved_name, reserved_word, text_cmp, uid_of, with_attributes};
 ghost use Rattle.std.specs.List.{AllByRecursion};
 ghost use Rattle.std.specs.Slice.Iter.{iter_rest};
 ghost use Rattle.std.specs.List.Sorted.{IsStrictlySortedBy};

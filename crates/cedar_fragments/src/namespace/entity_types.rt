@@ -3,7 +3,7 @@
 ghost use Rattle.std.specs.Prelude.{◌≡◌, ◌⊎◌, IfOk, IfErr, OnOk, map, Contains, []};
 ghost use Rattle.std.specs.List.{AllByRecursion};
 ghost use Rattle.std.specs.Slice.Iter.{iter_rest};
-ghost use Rattle.cedar_fragments.specs.Words.{Fault, IsActionType, IsDefinitionFault, IsEntityTypeNameFault, IsSound, NamesNoAttributes, Reference, ReferenceType, entity_declarations, entity_parents, entity_type_declarations, entity_type_defs, fault_of, fragment_body, name_within, namespace_name, out_of_memory, path_within, positional_expr, positional_reference, raw_entity_body, raw_expr, raw_reference, reserved_word, standard, type_name, unreserved_id_text};
+ghost use Rattle.cedar_fragments.specs.Words.{IsActionType, IsDefinitionFault, IsEntityTypeNameFault, IsSound, NamesNoAttributes, Reference, ReferenceType, entity_declarations, entity_parents, entity_type_declarations, entity_type_defs, fault_of, fragment_body, name_within, namespace_name, out_of_memory, path_within, positional_expr, positional_reference, raw_entity_body, raw_expr, raw_reference, reserved_word, standard, type_name, unreserved_id_text};
 ghost use Rattle.cedar_names.specs.declared.json_schema.raw_name.RawName.{RawName as Raw};
 ghost use Rattle.std.specs.Option.{option_map};
 ghost use Rattle.cedar_names.specs.declared.json_schema.conditional_name.ConditionalName.{ConditionalName as Conditional};

@@ -1,6 +1,6 @@
 //! How deep types are nested.
 
-ghost use Rattle.std.specs.Prelude.{◌≡◌, ◌↔◌, ◌≤◌, IsTrue};
+ghost use Rattle.std.specs.Prelude.{◌↔◌, ◌≤◌, IsTrue};
 ghost use Rattle.cedar_names.specs.Nesting.{record_nesting, type_nesting, variant_nesting};
 
 use crate::json_schema::type_of::{RecordType, Type, TypeVariant};

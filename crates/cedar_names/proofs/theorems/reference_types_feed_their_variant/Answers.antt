@@ -8,14 +8,9 @@ use Rattle.cedar_names.proofs.theorems.reference_types_feed_their_variant.Goals 
 kinds_feed : FeedsVariantFirst (λ (kind : ReferenceType). kind) (reference_type_hash.ghosts).hash_input
 unfolding le_bytes
 kinds_feed Common Common same = refl
-kinds_feed Common Entity same = absurd cc
-kinds_feed Common CommonOrEntity same = absurd cc
-kinds_feed Entity Common same = absurd cc
 kinds_feed Entity Entity same = refl
-kinds_feed Entity CommonOrEntity same = absurd cc
-kinds_feed CommonOrEntity Common same = absurd cc
-kinds_feed CommonOrEntity Entity same = absurd cc
 kinds_feed CommonOrEntity CommonOrEntity same = refl
+kinds_feed _ _ same = absurd cc
 
 pub returns : goal.returns
 returns c = kinds_feed

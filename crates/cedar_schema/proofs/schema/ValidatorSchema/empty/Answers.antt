@@ -17,8 +17,7 @@ none_of_none types [] [] no_actions no_entities = record {
   each = λ uid defined. absurd (omega (arith, defined.1.1));
   in_order = tt;
 }
-none_of_none types (action ∷ rest) entities no_actions no_entities = absurd cc
-none_of_none types [] (entity ∷ rest) no_actions no_entities = absurd cc
+none_of_none types _ _ no_actions no_entities = absurd cc
 
 pub invariant_of-content-clause-entities_of_actions : goal.invariant_of-content-clause-entities_of_actions
 invariant_of-content-clause-entities_of_actions c =
