@@ -105,10 +105,10 @@ fn put_hint(rows: &mut [Option<Hint>], hash: u64, place: usize) {
     }
 }
 
-/// How many rows there are for so many entries: a power of two, and twice as many as there are
+/// How many rows there are for so many entries: a power of two, and four times as many as there are
 /// entries that may have a hint, at least.
 fn rows_for(entries: usize) -> usize {
-    (2 * entries.min(u32::MAX as usize)).next_power_of_two()
+    (4 * entries.min(u32::MAX as usize)).next_power_of_two()
 }
 
 /// Rows with hints to entries. Out of memory is the only refusal.
