@@ -1,7 +1,9 @@
-//! Tests of fragments and of their plain data, of the names that they declare and define, of what
-//! references resolve to, and of common types that are elaborated.
+//! Tests of names and values, of fragments and of their plain data, of the names that they declare
+//! and define, of what references resolve to, and of common types that are elaborated.
 #![tactic(auto)]
 
+#[cfg(test)]
+mod below;
 #[cfg(test)]
 mod common;
 #[cfg(test)]
@@ -11,11 +13,15 @@ mod declarations;
 #[cfg(test)]
 mod given;
 #[cfg(test)]
+mod names;
+#[cfg(test)]
 mod parts;
 #[cfg(test)]
 mod plain;
 #[cfg(test)]
 mod qualification;
+#[cfg(test)]
+mod reading;
 #[cfg(test)]
 mod refusals;
 #[cfg(test)]

@@ -1,10 +1,11 @@
-//! Tests of types, of entity types and of actions.
+//! Tests of types, of entity types, of actions and of the closure of edges.
 #![tactic(auto)]
 
 #[cfg(test)]
 mod actions;
 #[cfg(test)]
 mod attributes;
+pub mod closure;
 #[cfg(test)]
 mod copies;
 #[cfg(test)]

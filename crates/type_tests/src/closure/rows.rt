@@ -1,0 +1,158 @@
+//! Rows: chains, rings, and what is at their edges.
+
+use crate::closure::member::{Member, edges_in_all, mark_of, marks_stand, nodes_of};
+use cedar_below::M;
+use cedar_graph::{TCNode, compute_tc, compute_tc_counted, link_table};
+use cedar_table::Table;
+use shorthand::checked::{holds, same};
+use std::alloc::Global;
+use std::collections::BTreeMap;
+use std::test::Fail;
+
+/// Edges from each number below the count to the next.
+fn chain(alloc: Global, count: u32) -> M<Vec<(u32, u32)>> {
+    let mut edges = Vec::new(alloc);
+    for to in 1..count {
+        edges.push((to - 1, to))?;
+    }
+    Ok(edges)
+}
+
+/// A chain whose last node is a member of the first.
+fn ring(alloc: Global, count: u32) -> M<Vec<(u32, u32)>> {
+    let mut edges = chain(alloc, count)?;
+    edges.push((count.saturating_sub(1), 0))?;
+    Ok(edges)
+}
+
+/// Whether a chain is closed with so many edges in all, in at most as many joins as there are pairs
+/// of nodes.
+fn closes_chain(alloc: Global, count: u32, total: usize) -> Result<bool, Fail> {
+    let mut nodes = nodes_of(alloc, count, &chain(alloc, count)?)?;
+    let joins = compute_tc_counted(alloc, &mut nodes, true)?;
+    let most = u128::from(count).saturating_mul(u128::from(count));
+    let is_whole = nodes.len() == count as usize && marks_stand(&nodes);
+    Ok(is_whole && joins <= most && edges_in_all(&nodes) == total)
+}
+
+/// Lengths of chains, each with the edges that the closed one has in all.
+const CHAINS: &[(u32, usize)] = &[(1, 0), (63, 1953), (64, 2016), (65, 2080), (130, 8385)];
+
+#[test]
+fn chains_are_closed(rt: HostRuntime) -> Result<(), Fail> {
+    for &(count, total) in CHAINS {
+        holds(closes_chain(rt.alloc(), count, total)?, "a chain")?;
+    }
+    Ok(())
+}
+
+/// What closing answers where cycles are refused: how many edges there are in all, or who is on a
+/// cycle.
+fn refusing(alloc: Global, count: u32, edges: &[(u32, u32)]) -> Result<String, Fail> {
+    let mut nodes = nodes_of(alloc, count, edges)?;
+    match compute_tc(alloc, &mut nodes, true) {
+        Ok(()) => Ok(format!(in alloc; "{} edges", edges_in_all(&nodes))?),
+        Err(refused) => Ok(refused.to_string(alloc)?),
+    }
+}
+
+/// How many edges there are in all where a graph is closed and cycles are allowed.
+fn allowing(alloc: Global, count: u32, edges: &[(u32, u32)]) -> Result<usize, Fail> {
+    let mut nodes = nodes_of(alloc, count, edges)?;
+    compute_tc(alloc, &mut nodes, false)?;
+    Ok(edges_in_all(&nodes))
+}
+
+#[test]
+fn a_ring_is_closed_or_refused(rt: HostRuntime) -> Result<(), Fail> {
+    let alloc = rt.alloc();
+    let ring = ring(alloc, 65)?;
+    let refused = refusing(alloc, 65, &ring)?;
+    holds(refused.starts_with("a cycle"), refused.as_str())?;
+    holds(allowing(alloc, 65, &ring)? == 4225, "each reaches each")
+}
+
+/// Graphs: how many nodes and which edges they have, what closing answers where cycles are refused,
+/// and how many edges there are in all where they are allowed.
+const GRAPHS: &[(u32, &[(u32, u32)], &str, usize)] = &[
+    (0, &[], "0 edges", 0),
+    (2, &[(0, 1), (1, 9)], "3 edges", 3),
+    (
+        3,
+        &[(0, 1), (1, 1), (1, 2)],
+        "a cycle of edges leads back to 1",
+        4,
+    ),
+    (5, &[(0, 1), (1, 4), (2, 3), (3, 4)], "6 edges", 6),
+];
+
+#[test]
+fn graphs_are_closed_or_refused(rt: HostRuntime) -> Result<(), Fail> {
+    let alloc = rt.alloc();
+    for &(count, edges, refused, total) in GRAPHS {
+        same(refused, refusing(alloc, count, edges)?.as_str(), refused)?;
+        holds(allowing(alloc, count, edges)? == total, refused)?;
+    }
+    Ok(())
+}
+
+/// How many edges the nodes of a table have in all, where each has its key and its mark still.
+fn edges_in_table(nodes: &Table<u32, Member>) -> Option<usize> {
+    let mut total = 0usize;
+    for (key, node) in nodes {
+        if node.key != *key || node.mark != mark_of(*key) {
+            return None;
+        }
+        total = total.saturating_add(node.owners.len());
+    }
+    Some(total)
+}
+
+/// What linking three nodes by edges answers, of which the second has an edge to the first: how
+/// many edges there are in all, or the refusal.
+fn linking(alloc: Global, edges: &[(u32, u32)], enforce_dag: bool) -> Result<String, Fail> {
+    let mut ordered = BTreeMap::new(alloc);
+    for (key, node) in nodes_of(alloc, 3, &[(1, 0)])? {
+        ordered.insert(key, node)?;
+    }
+    let nodes = Table::from_map(alloc, ordered)?;
+    match link_table(alloc, nodes, edges, enforce_dag) {
+        Ok(linked) => {
+            let total = edges_in_table(&linked).ok_or("a node is changed")?;
+            Ok(format!(in alloc; "{total} edges")?)
+        }
+        Err(refused) => Ok(format!(in alloc; "{refused:?}")?),
+    }
+}
+
+/// Edges that link three nodes, of which the second has an edge to the first, and what that answers
+/// where cycles are refused, and where they are allowed.
+const LINKED: &[(&[(u32, u32)], &str, &str)] = &[
+    (&[], "1 edges", "1 edges"),
+    (&[(0, 1), (1, 2)], "4 edges", "4 edges"),
+    (&[(0, 1), (0, 1), (1, 0)], "HasCycle(0)", "4 edges"),
+    (&[(0, 1), (1, 9)], "Lacks(9)", "Lacks(9)"),
+    (&[(9, 0), (0, 0)], "Lacks(9)", "Lacks(9)"),
+];
+
+#[test]
+fn tables_are_linked_or_refused(rt: HostRuntime) -> Result<(), Fail> {
+    let alloc = rt.alloc();
+    for &(edges, refusing, allowing) in LINKED {
+        same(refusing, linking(alloc, edges, true)?.as_str(), refusing)?;
+        same(allowing, linking(alloc, edges, false)?.as_str(), allowing)?;
+    }
+    Ok(())
+}
+
+#[test]
+fn an_edge_to_no_node_leads_no_further(rt: HostRuntime) -> Result<(), Fail> {
+    let alloc = rt.alloc();
+    let mut nodes = nodes_of(alloc, 2, &[(0, 1), (1, 9)])?;
+    let joins = compute_tc_counted(alloc, &mut nodes, true)?;
+    let first = nodes.get(&0).ok_or("a node is lost")?;
+    holds(
+        joins == 1 && first.has_edge_to(&9) && *first.get_key() == 0,
+        "0 to 9",
+    )
+}
