@@ -1,10 +1,10 @@
 -- Tokens that are written one after another, and what is free of flaws.
-use Rattle.std.proofs.Common.{◌≡◌, List, [], ◌∷◌, ◌++◌, Err, IfErr, Ok, OnOk, Result, Some, None, ap, refl, sym, subst, ◌∙◌, append_assoc}
+use Rattle.std.proofs.Common.{◌≡◌, List, [], ◌∷◌, ◌++◌, Err, IfErr, MatchResult, Ok, OnOk, Result, Some, None, ap, refl, sym, subst, ◌∙◌, append_assoc}
 use Rattle.std.proofs.lemmas.List.Elements.{Contains-append_left, Contains-append_right}
 use Rattle.json.specs.Json.{Json, array, object, Items, no_items, item, Members, no_members, member}
 use Rattle.json.specs.Token.{Token, begin_array, begin_object, end_array, end_object, key}
 use Rattle.json.specs.Tree.{items_tokens, json_tokens, members_tokens}
-use Rattle.cedar_json_writer.specs.Words.{AddsField, AddsFields, AddsValue, Flaw, IsChecked, IsFlawOf, IsFree, Text, WriteFault, flaw_of}
+use Rattle.cedar_json_writer.specs.Words.{AddsField, AddsFields, AddsMembers, AddsValue, Flaw, IsChecked, IsFlawOf, IsFree, Text, WriteFault, flaw_of}
 use Rattle.cedar_json_writer.specs.declared.fault.WriteFault.TheVariants as fault
 
 -- what follows from the clause of a success is one too
@@ -12,10 +12,17 @@ pub on_ok : {A E P Q : Type 0} (r : Result A E) → OnOk r P → (P → Q) → O
 on_ok (Ok a) is so = so is
 on_ok (Err e) is so = tt
 
--- want of memory is no flaw, so it is one of any list
-pub memory_flaw : {A : Type 0} (flaws : List Flaw) (r : Result A WriteFault) → IfErr r (λ f. f ≡ fault.Memory) → IfErr r (IsFlawOf flaws)
-memory_flaw flaws (Ok a) is = tt
-memory_flaw flaws (Err f) is = subst (IsFlawOf flaws) (sym is) tt
+-- what has no flaw before a step that only memory may stop has none behind it
+pub flawless_checked : {A : Type 0} (flaws : List Flaw) (r : Result A WriteFault) → IfErr r (λ f. f ≡ fault.Memory) → flaws ≡ []
+    → MatchResult r (λ _. flaws ≡ []) (IsFlawOf flaws)
+flawless_checked flaws (Ok a) is none = none
+flawless_checked flaws (Err f) is none = subst (IsFlawOf flaws) (sym is) tt
+
+-- what is checked has no flaw, or the refusal names one
+pub flawless_as : {A : Type 0} (flaws : List Flaw) (Sound : Type 0) (r : Result A WriteFault) → IsChecked r flaws Sound
+    → MatchResult r (λ _. flaws ≡ []) (IsFlawOf flaws)
+flawless_as flaws Sound (Ok a) is = is.flawless
+flawless_as flaws Sound (Err f) is = is
 
 -- what is free before a step that only memory may stop is checked behind it
 pub checked : {A : Type 0} {flaws : List Flaw} {Sound : Type 0} (r : Result A WriteFault) → IfErr r (λ f. f ≡ fault.Memory) → IsFree flaws Sound
@@ -65,12 +72,17 @@ pub fields_after : (old middle new : List Token) (first second : Members → Mem
     → AddsFields old new (λ rest. first (second rest))
 fields_after old middle new first second one two rest = two rest ∙ one (second rest)
 
+-- fields behind a bracket, and the last members, are an object
+pub object_closed : (old opened inside new : List Token) (fields : Members → Members) (last : Members) → opened ≡ old ++ begin_object ∷ []
+    → AddsFields opened inside fields → AddsMembers inside new last → AddsValue old new (object (fields last))
+object_closed old opened inside new fields last begun added ended =
+    ended ∙ added last ∙ ap (λ l. l ++ members_tokens (fields last)) begun
+    ∙ append_assoc old (begin_object ∷ []) (members_tokens (fields last))
+
 -- fields between brackets are an object
 pub object_added : (old opened inside new : List Token) (fields : Members → Members) → opened ≡ old ++ begin_object ∷ []
     → AddsFields opened inside fields → new ≡ inside ++ end_object ∷ [] → AddsValue old new (object (fields no_members))
-object_added old opened inside new fields begun added ended =
-    ended ∙ added no_members ∙ ap (λ l. l ++ members_tokens (fields no_members)) begun
-    ∙ append_assoc old (begin_object ∷ []) (members_tokens (fields no_members))
+object_added old opened inside new fields begun added ended = object_closed old opened inside new fields no_members begun added ended
 
 -- an object that is written behind its key is a field
 pub object_by : (old opened new : List Token) (name : Text) (j : Json) → opened ≡ old ++ key name ∷ begin_object ∷ []
@@ -126,12 +138,18 @@ module _ {E : Type 0} (shape : MembersShape E) where
   turn_by old now keyed new all left rest e so_far is named added free =
       turn old now new all left rest e so_far is (field_added now keyed new (shape.text e) (shape.document e) named added) free
 
-  -- where none is left
+  -- where none is left, and the bracket closes them
+  pub members_ended : (opened now new : List Token) (all left : List E) → SoFar shape opened now all left → left ≡ []
+      → new ≡ now ++ end_object ∷ [] → AddsMembers opened new (shape.members all)
+  members_ended opened now new all left so_far none ended =
+      ended ∙ ap (λ ms. now ++ members_tokens ms) (sym shape.no_more) ∙ ap (λ es. now ++ members_tokens (shape.members es)) (sym none)
+      ∙ sym so_far.tokens
+
+  -- and they are an object behind the bracket that opens it
   pub members_added : (old opened now new : List Token) (all left : List E) → SoFar shape opened now all left → left ≡ []
       → opened ≡ old ++ begin_object ∷ [] → new ≡ now ++ end_object ∷ [] → AddsValue old new (object (shape.members all))
   members_added old opened now new all left so_far none begun ended =
-      ended ∙ ap (λ ms. now ++ members_tokens ms) (sym shape.no_more) ∙ ap (λ es. now ++ members_tokens (shape.members es)) (sym none)
-      ∙ sym so_far.tokens ∙ ap (λ l. l ++ members_tokens (shape.members all)) begun
+      members_ended opened now new all left so_far none ended ∙ ap (λ l. l ++ members_tokens (shape.members all)) begun
       ∙ append_assoc old (begin_object ∷ []) (members_tokens (shape.members all))
 
   -- all are free

@@ -3,8 +3,8 @@ use Rattle.std.proofs.Common.{◌≡◌, Global, List, [], ◌∷◌, ◌++◌, 
 use Rattle.std.specs.declared.vec.Vec.{Vec}
 use Rattle.json.specs.Json.{Json, object, no_members, member}
 use Rattle.json.specs.Token.{Token, begin_object, end_object}
-use Rattle.cedar_json_writer.specs.Words.{ActionEntityUID, AddsField, AddsValue, Each, Entity, Expr, IfThere, IsFlawOf, IsFree, IsWrittenEntity, RawName, SoundAction, SoundPairs, SoundParent, SoundRequests, WriteFault, WrittenAction, action_flaws, flaws_in, optional_member, pairs_flaws, raw_name, raw_reference, requests, requests_flaws, written_parent}
-use Rattle.cedar_json_writer.proofs.WritingLemmas.{fields_after, flaw_left, flaw_right, none_both, object_added}
+use Rattle.cedar_json_writer.specs.Words.{ActionEntityUID, AddsField, AddsMembers, AddsValue, Each, Entity, Expr, IfThere, IsFlawOf, IsFree, IsWrittenEntity, RawName, SoundAction, SoundPairs, SoundParent, SoundRequests, WriteFault, WrittenAction, action_flaws, flaws_in, optional_member, pairs_flaws, raw_name, raw_reference, requests, requests_flaws, written_parent}
+use Rattle.cedar_json_writer.proofs.WritingLemmas.{fields_after, flaw_left, flaw_right, none_both, object_added, object_closed}
 use Rattle.cedar_json_writer.proofs.WrittenEntities.{names_sound}
 use Rattle.cedar_json_writer.proofs.WrittenTypes.{FreeType, raw_ids}
 
@@ -43,20 +43,18 @@ groups_sound None = tt
 groups_sound (Some parents) = parents_sound parents.items
 
 -- the object of an action
-pub action_added : (old opened applied grouped described flagged new : List Token) (applies_to member_of attributes external : Option Json)
+pub action_added : (old opened applied grouped described new : List Token) (applies_to member_of attributes external : Option Json)
     → opened ≡ old ++ begin_object ∷ [] → AddsField opened applied (codes "appliesTo") applies_to → AddsField applied grouped (codes "memberOf") member_of
-    → AddsField grouped described (codes "attributes") attributes → AddsField described flagged (codes "external") external
-    → new ≡ flagged ++ end_object ∷ []
+    → AddsField grouped described (codes "attributes") attributes → AddsMembers described new (optional_member (codes "external") external no_members)
     → AddsValue old new (object (optional_member (codes "appliesTo") applies_to (optional_member (codes "memberOf") member_of
     (optional_member (codes "attributes") attributes (optional_member (codes "external") external no_members)))))
-action_added old opened applied grouped described flagged new applies_to member_of attributes external begun one two three four ended =
+action_added old opened applied grouped described new applies_to member_of attributes external begun one two three ended =
     let r = optional_member (codes "appliesTo") applies_to in
     let m = optional_member (codes "memberOf") member_of in
     let a = optional_member (codes "attributes") attributes in
     let e = optional_member (codes "external") external in
-    object_added old opened flagged new (λ rest. r (m (a (e rest)))) begun
-    (fields_after opened described flagged (λ rest. r (m (a rest))) e
-    (fields_after opened grouped described (λ rest. r (m rest)) a (fields_after opened applied grouped r m one two) three) four) ended
+    object_closed old opened described new (λ rest. r (m (a rest))) (e no_members) begun
+    (fields_after opened grouped described (λ rest. r (m rest)) a (fields_after opened applied grouped r m one two) three) ended
 
 pub action_free : (it : WrittenAction) → IsFree (flaws_in requests_flaws it.applies_to) (IfThere SoundRequests it.applies_to)
     → IfThere (Each SoundParent) it.member_of → IsFree (flaws_in pairs_flaws it.attributes) (IfThere SoundPairs it.attributes)

@@ -44,21 +44,22 @@ some_tags old new tags some added = by tags.entries some added
     by (entry ∷ rest) filled is = is
 
 -- the object of an entity
-pub entity_added : (old opened named one two listed three inside new : List Token) (uid attributes ancestors : Json) (tags : Option Json)
-    → opened ≡ old ++ begin_object ∷ [] → named ≡ opened ++ key (codes "uid") ∷ [] → AddsValue named one uid
+pub entity_added : (old one two listed three inside new : List Token) (uid attributes ancestors : Json) (tags : Option Json)
+    → AddsField (old ++ begin_object ∷ []) one (codes "uid") (Some uid)
     → AddsField one two (codes "attrs") (Some attributes) → listed ≡ two ++ key (codes "parents") ∷ []
     → AddsValue listed three ancestors → AddsField three inside (codes "tags") tags → new ≡ inside ++ end_object ∷ []
     → AddsValue old new (object (member (codes "uid") uid (member (codes "attrs") attributes (member (codes "parents") ancestors
     (optional_member (codes "tags") tags no_members)))))
-entity_added old opened named one two listed three inside new uid attributes ancestors tags begun is_named first second is_listed third fourth ended =
+entity_added old one two listed three inside new uid attributes ancestors tags first second is_listed third fourth ended =
+    let opened = old ++ begin_object ∷ [] in
     let u = optional_member (codes "uid") (Some uid) in
     let a = optional_member (codes "attrs") (Some attributes) in
     let p = optional_member (codes "parents") (Some ancestors) in
     let t = optional_member (codes "tags") tags in
-    object_added old opened inside new (λ rest. u (a (p (t rest)))) begun
+    object_added old opened inside new (λ rest. u (a (p (t rest)))) refl
     (fields_after opened three inside (λ rest. u (a (p rest))) t
     (fields_after opened two three (λ rest. u (a rest)) p
-    (fields_after opened one two u a (field_added opened named one (codes "uid") uid is_named first) second)
+    (fields_after opened one two u a first second)
     (field_added two listed three (codes "parents") ancestors is_listed third)) fourth) ended
 
 -- the object of a request

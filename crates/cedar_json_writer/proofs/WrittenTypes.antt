@@ -1,5 +1,5 @@
 -- What is written of types, row by row.
-use Rattle.std.proofs.Common.{◌≡◌, ◌≢◌, List, [], ◌∷◌, ◌++◌, Bool, true, false, not, ◌&&◌, ◌||◌, cond, map, string_cmp, Some, None, Contains, codes, string_bytes, refl, ap, sym, subst, ◌∙◌, arith}
+use Rattle.std.proofs.Common.{◌≡◌, ◌≢◌, List, [], ◌∷◌, ◌++◌, Bool, true, false, not, ◌&&◌, ◌||◌, cond, map, string_cmp, Some, None, Contains, codes, string_bytes, refl, ap, sym, subst, ◌∙◌, append_assoc, arith}
 use Rattle.std.proofs.lemmas.Slice.Eq.{bytes_eq-Decides}
 use Rattle.std.specs.List.Sorted.{IsStrictlySortedBy}
 use Rattle.std.specs.Map.{keys_of}
@@ -7,13 +7,14 @@ use Rattle.std.specs.Str.{bytes_eq}
 use Rattle.std.specs.declared.alloc.Global.{Global}
 use Rattle.std.specs.declared.string.String.{String}
 use Rattle.json.specs.Json.{object, string, Members, no_members, member}
-use Rattle.json.specs.Token.{Token, begin_object, end_object, key}
+use Rattle.json.specs.Token.{Token, begin_object}
+use Rattle.json.specs.Tree.{json_tokens, members_tokens}
 use Rattle.cedar_below.proofs.NameReading.{ids_are_identifiers}
 use Rattle.cedar_below.proofs.Ordered.{IsStrictlySortedBy-map}
-use Rattle.cedar_json_writer.specs.Words.{AddsField, AddsFields, AddsValue, Common, CommonOrEntity, Each, Entity, Expr, IsFlawOf, IsFree, IsOfIdentifiers, PlainName, RawName, SoundAttributes, SoundType, Text, TypeOfAttribute, UnreservedId, WriteFault, attribute_document, attribute_members, attribute_names, attributes_flaws, extension_expr, flag_held, id_key, is_among, is_identifier_text, is_unreserved, long_expr, members_from, name_text, named, optional_member, plain_members, raw_attribute, raw_name, raw_reference, record_expr, reserved_word, set_expr, spelled_name, text_cmp, text_expr, truth_expr, type_document, type_flaws, type_members, type_word, type_words, unreserved_id_text}
+use Rattle.cedar_json_writer.specs.Words.{AddsField, AddsFields, AddsMembers, AddsValue, Common, CommonOrEntity, Each, Entity, Expr, IsFlawOf, IsFree, IsOfIdentifiers, PlainName, RawName, SoundAttributes, SoundType, Text, TypeOfAttribute, UnreservedId, WriteFault, attribute_document, attribute_members, attribute_names, attributes_flaws, extension_expr, flag_held, form_opening, id_key, is_among, is_identifier_text, is_unreserved, long_expr, members_from, name_text, named, optional_member, plain_members, raw_attribute, raw_name, raw_reference, record_expr, reserved_word, set_expr, spelled_name, text_cmp, text_expr, truth_expr, type_document, type_flaws, type_members, type_word, type_words, unreserved_id_text}
 use Rattle.cedar_names.specs.Expr.{Members as AttributeList}
 use Rattle.cedar_json.proofs.NameLemmas.{spelled_name-text}
-use Rattle.cedar_json_writer.proofs.WritingLemmas.{MembersShape, field_added, fields_after, object_added}
+use Rattle.cedar_json_writer.proofs.WritingLemmas.{MembersShape, fields_after, object_closed}
 
 -- a written name is of identifiers
 pub raw_ids : (name : RawName) → IsOfIdentifiers (raw_name name)
@@ -199,30 +200,37 @@ pub extension_free : (name : UnreservedId) → FreeType (extension_expr (unreser
 unfolding type_flaws SoundType
 extension_free name = record { flawless = refl; sound = unreserved-is name }
 
-pub set_fields : (old worded keyed new : List Token) (element : Expr) → AddsField old worded (codes "type") (Some (string (codes "Set")))
-    → keyed ≡ worded ++ key (codes "element") ∷ [] → AddsValue keyed new (type_document element) → AddsFields old new (type_members (set_expr element))
+pub set_fields : (old formed new : List Token) (element : Expr) → formed ≡ old ++ form_opening (codes "Set") (codes "element")
+    → AddsValue formed new (type_document element) → AddsFields old new (type_members (set_expr element))
 unfolding type_members
-set_fields old worded keyed new element word is_keyed added =
-    fields_after old worded new (optional_member (codes "type") (Some (string (codes "Set"))))
-    (optional_member (codes "element") (Some (type_document element))) word
-    (field_added worded keyed new (codes "element") (type_document element) is_keyed added)
+set_fields old formed new element form added rest =
+    let held = json_tokens (type_document element) in
+    ap (λ l. l ++ members_tokens rest) added ∙ append_assoc formed held (members_tokens rest)
+    ∙ ap (λ l. l ++ (held ++ members_tokens rest)) form
+    ∙ append_assoc old (form_opening (codes "Set") (codes "element")) (held ++ members_tokens rest)
 
 pub set_flaw : (element : Expr) (f : WriteFault) → IsFlawOf (type_flaws element) f → IsFlawOf (type_flaws (set_expr element)) f
 unfolding type_flaws
 set_flaw element f is = is
 
-pub record_fields : (old worded held new : List Token) (all : AttributeList) (additional : Bool)
-    → AddsField old worded (codes "type") (Some (string (codes "Record")))
-    → AddsField worded held (codes "attributes") (Some (object (attribute_members all))) → AddsField held new (codes "additionalAttributes") (flag_held false additional)
+pub record_fields : (old formed opened closed new : List Token) (all : AttributeList) (additional : Bool)
+    → formed ≡ old ++ form_opening (codes "Record") (codes "attributes") → opened ≡ formed ++ begin_object ∷ []
+    → AddsMembers opened closed (attribute_members all) → AddsField closed new (codes "additionalAttributes") (flag_held false additional)
     → AddsFields old new (type_members (record_expr all additional))
 unfolding type_members
-record_fields old worded held new all additional word added flag =
-    fields_after old held new
+record_fields old formed opened closed new all additional form begun added flag =
+    fields_after old closed new
     (λ rest. member (codes "type") (string (codes "Record")) (member (codes "attributes") (object (attribute_members all)) rest))
-    (optional_member (codes "additionalAttributes") (flag_held false additional))
-    (fields_after old worded held (optional_member (codes "type") (Some (string (codes "Record"))))
-    (optional_member (codes "attributes") (Some (object (attribute_members all)))) word added)
-    flag
+    (optional_member (codes "additionalAttributes") (flag_held false additional)) listed_first flag
+  where
+    listed_first : AddsFields old closed
+        (λ rest. member (codes "type") (string (codes "Record")) (member (codes "attributes") (object (attribute_members all)) rest))
+    listed_first rest =
+        let inside = members_tokens (attribute_members all) ++ members_tokens rest in
+        ap (λ l. l ++ members_tokens rest) added ∙ append_assoc opened (members_tokens (attribute_members all)) (members_tokens rest)
+        ∙ ap (λ l. l ++ inside) begun ∙ append_assoc formed (begin_object ∷ []) inside
+        ∙ ap (λ l. l ++ begin_object ∷ inside) form
+        ∙ append_assoc old (form_opening (codes "Record") (codes "attributes")) (begin_object ∷ inside)
 
 listed-names : (entries : Entries) → attribute_names (listed entries) ≡ map string_bytes (keys_of entries)
 listed-names [] = refl
@@ -246,9 +254,9 @@ unfolding type_flaws
 record_flaw all additional f is = is
 
 -- the object of an attribute
-pub attribute_added : (old opened inside flagged new : List Token) (required : Bool) (ty : Expr) → opened ≡ old ++ begin_object ∷ []
-    → AddsFields opened inside (type_members ty) → AddsField inside flagged (codes "required") (flag_held true required)
-    → new ≡ flagged ++ end_object ∷ [] → AddsValue old new (attribute_document required ty)
-attribute_added old opened inside flagged new required ty begun added flag ended =
-    object_added old opened flagged new (λ rest. type_members ty (optional_member (codes "required") (flag_held true required) rest)) begun
-    (fields_after opened inside flagged (type_members ty) (optional_member (codes "required") (flag_held true required)) added flag) ended
+pub attribute_added : (old opened inside new : List Token) (required : Bool) (ty : Expr) → opened ≡ old ++ begin_object ∷ []
+    → AddsFields opened inside (type_members ty)
+    → AddsMembers inside new (optional_member (codes "required") (flag_held true required) no_members)
+    → AddsValue old new (attribute_document required ty)
+attribute_added old opened inside new required ty begun added ended =
+    object_closed old opened inside new (type_members ty) (optional_member (codes "required") (flag_held true required) no_members) begun added ended

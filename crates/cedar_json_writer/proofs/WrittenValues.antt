@@ -12,10 +12,10 @@ use Rattle.json.specs.Token.{Token, begin_array, begin_object, end_array, end_ob
 use Rattle.json.specs.Tree.{items_tokens, json_tokens}
 use Rattle.cedar_below.proofs.NameReading.{ids_are_identifiers}
 use Rattle.cedar_below.proofs.Ordered.{IsStrictlySortedBy-map}
-use Rattle.cedar_json_writer.specs.Words.{AddsField, AddsValue, Arguments, EntityUID, Entries, Flaw, IsFlawOf, IsFree, IsPlain, Name, PlainUid, RestrictedExpr, SoundEntries, SoundValue, SoundValues, Text, Tree, Unwritable, WriteFault, arguments, arity_flaws, call_value, count, entries_flaws, entries_from, entries_of, entry_names, flaw_of, fold-roll-RestrictedExpr, is_among, is_long, key_flaws, lone_key, map_value, name_text, number_value, optional_member, plain_name, roll-RestrictedExpr, set_value, text_cmp, text_value, tree_of, tree_step, trees_of, truth_value, uid_document, uid_of, uid_value, value_document, value_flaws, value_items, value_keys, value_members, values_flaws}
+use Rattle.cedar_json_writer.specs.Words.{AddsField, AddsValue, Arguments, EntityUID, Entries, Flaw, IsFlawOf, IsFree, IsPlain, Name, PlainUid, RestrictedExpr, SoundEntries, SoundValue, SoundValues, Text, Tree, Unwritable, WriteFault, arguments, arity_flaws, call_opening, call_value, count, entries_flaws, entries_from, entries_of, entry_names, flaw_of, fold-roll-RestrictedExpr, is_among, is_long, key_flaws, lone_key, map_value, name_text, number_value, optional_member, plain_name, roll-RestrictedExpr, set_value, text_cmp, text_value, tree_of, tree_step, trees_of, truth_value, uid_document, uid_of, uid_value, value_document, value_flaws, value_items, value_keys, value_members, values_flaws}
 use Rattle.cedar_below.specs.declared.value.RestrictedExpr.TheOpen as layer
 use Rattle.cedar_below.specs.declared.value.RestrictedExpr.TheVariants as expr
-use Rattle.cedar_json_writer.proofs.WritingLemmas.{MembersShape, field_added, fields_after, flaw_left, flaw_right, none_both, object_added, object_by}
+use Rattle.cedar_json_writer.proofs.WritingLemmas.{MembersShape, field_added, fields_after, flaw_left, flaw_right, none_both, object_added}
 use Rattle.cedar_json_writer.specs.declared.fault.WriteFault.TheVariants as fault
 
 -- a name that isn't reserved is plain
@@ -68,12 +68,19 @@ pub text_added : (old new : List Token) (text : Text) → AddsValue old new (str
 unfolding value_document
 text_added old new text added = added
 
-pub uid_added : (old opened keyed held new : List Token) (uid : PlainUid) → opened ≡ old ++ begin_object ∷ [] → keyed ≡ opened ++ key (codes "__entity") ∷ []
-    → AddsValue keyed held (uid_document uid) → new ≡ held ++ end_object ∷ [] → AddsValue old new (value_document (uid_value uid))
+-- a uid in the first field of an object
+pub uid_opened : (old opened keyed new : List Token) (name : Text) (uid : PlainUid) → opened ≡ old ++ begin_object ∷ []
+    → keyed ≡ opened ++ key name ∷ [] → AddsValue keyed new (uid_document uid)
+    → AddsField (old ++ begin_object ∷ []) new name (Some (uid_document uid))
+uid_opened old opened keyed new name uid begun is_keyed added =
+    subst (λ l. AddsField l new name (Some (uid_document uid))) begun (field_added opened keyed new name (uid_document uid) is_keyed added)
+
+pub uid_added : (old held new : List Token) (uid : PlainUid)
+    → AddsField (old ++ begin_object ∷ []) held (codes "__entity") (Some (uid_document uid)) → new ≡ held ++ end_object ∷ []
+    → AddsValue old new (value_document (uid_value uid))
 unfolding value_document
-uid_added old opened keyed held new uid begun is_keyed added ended =
-    object_added old opened held new (optional_member (codes "__entity") (Some (uid_document uid))) begun
-    (field_added opened keyed held (codes "__entity") (uid_document uid) is_keyed added) ended
+uid_added old held new uid added ended =
+    object_added old (old ++ begin_object ∷ []) held new (optional_member (codes "__entity") (Some (uid_document uid))) refl added ended
 
 pub uid_fields_added : (old opened typed named new : List Token) (uid : PlainUid) → opened ≡ old ++ begin_object ∷ []
     → AddsField opened typed (codes "type") (Some (string (name_text uid.ty))) → AddsField typed named (codes "id") (Some (string uid.eid))
@@ -288,17 +295,14 @@ arity_flaw name args held many same =
     flaw_left (arity_flaws (trees_of args)) (values_flaws (trees_of args)) (fault.Unwritable (Arguments held))
     (subst (λ (flaws : List Flaw). Contains flaws (arguments held)) (sym (arity_of args many)) (0, omega arith, ap arguments (sym same)))
 
-pub call_added : (old opened inside named held valued closed new : List Token) (name : Name) (argument : RestrictedExpr)
-    → opened ≡ old ++ begin_object ∷ [] → inside ≡ opened ++ key (codes "__extn") ∷ begin_object ∷ []
-    → AddsField inside named (codes "fn") (Some (string (name_text (plain_name name)))) → held ≡ named ++ key (codes "arg") ∷ []
-    → AddsValue held valued (value_document (tree_of argument)) → closed ≡ valued ++ end_object ∷ [] → new ≡ closed ++ end_object ∷ []
+pub call_added : (old opened valued new : List Token) (name : Name) (argument : RestrictedExpr)
+    → opened ≡ old ++ call_opening (name_text (plain_name name)) → AddsValue opened valued (value_document (tree_of argument))
+    → new ≡ valued ++ end_object ∷ end_object ∷ []
     → AddsValue old new (value_document (call_value (plain_name name) (trees_of (argument ∷ []))))
 unfolding value_document
-call_added old opened inside named held valued closed new name argument begun begun_inside function is_held added ended_inside ended =
-    let fn = optional_member (codes "fn") (Some (string (name_text (plain_name name)))) in
-    let arg = optional_member (codes "arg") (Some (value_document (tree_of argument))) in
-    object_added old opened closed new (optional_member (codes "__extn") (Some (object (fn (arg no_members))))) begun
-    (object_by opened inside closed (codes "__extn") (object (fn (arg no_members))) begun_inside
-    (λ is_begun. object_added _ inside valued closed (λ rest. fn (arg rest)) is_begun
-    (fields_after inside named valued fn arg function (field_added named held valued (codes "arg") (value_document (tree_of argument)) is_held added))
-    ended_inside)) ended
+call_added old opened valued new name argument begun added ended =
+    let held = json_tokens (value_document (tree_of argument)) in
+    let opening = call_opening (name_text (plain_name name)) in
+    ended ∙ ap (λ l. l ++ end_object ∷ end_object ∷ []) (added ∙ ap (λ l. l ++ held) begun ∙ append_assoc old opening held)
+    ∙ append_assoc old (opening ++ held) (end_object ∷ end_object ∷ [])
+    ∙ ap (λ l. old ++ (opening ++ l)) (sym (append_assoc held (end_object ∷ []) (end_object ∷ [])))

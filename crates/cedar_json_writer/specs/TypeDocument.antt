@@ -1,6 +1,7 @@
 -- The JSON values that types are written as.
 use Rattle.std.specs.Prelude.{List, [], ◌∷◌, Bool, true, false, Option, Some, None, cond, codes}
 use Rattle.json.specs.Json.{Json, string, object, Members, no_members, member}
+use Rattle.json.specs.Token.{Token, key}
 use Rattle.cedar_below.specs.Words.{PlainName, Text, name_text}
 use Rattle.cedar_names.specs.Words.{Expr, Reference, extension_expr, long_expr, named, record_expr, set_expr, text_expr, truth_expr}
 use Rattle.cedar_names.specs.Expr.{Members as AttributeList, no_member as no_attribute, member as attribute}
@@ -59,15 +60,10 @@ attribute_document required ty =
     object (type_members ty
     (optional_member (codes "required") (flag_held true required) no_members))
 
--- the attributes of a record type; none of other types
-abbrev pub attributes_of : Expr → AttributeList
-attributes_of text_expr = no_attribute
-attributes_of long_expr = no_attribute
-attributes_of truth_expr = no_attribute
-attributes_of (set_expr element) = no_attribute
-attributes_of (record_expr all additional) = all
-attributes_of (named reference) = no_attribute
-attributes_of (extension_expr name) = no_attribute
+-- the tokens of the word of a form, and of the key of the field of what types are within
+abbrev pub form_opening : Text → Text → List Token
+form_opening word within =
+    key (codes "type") ∷ Token.string word ∷ key within ∷ []
 
 -- the object of a type
 abbrev pub type_document : Expr → Json

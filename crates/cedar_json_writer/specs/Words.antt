@@ -31,11 +31,11 @@ unfoldable pub use Rattle.cedar_json_writer.specs.Flaws.{attributes_flaws, entri
 pub use Rattle.cedar_json_writer.specs.FragmentDocument.{action_document, body_members, common_types_held, declared_members, definition_document, entity_type_document, fragment_document, namespace_text, pairs_document, parent_array, parent_document, parents_held, reference_array, requests_document}
 pub use Rattle.cedar_json_writer.specs.Sound.{Each, IfThere, IsPlain, IsWrittenEntity, SoundAction, SoundBody, SoundDeclarations, SoundDefinition, SoundFragment, SoundPairs, SoundParent, SoundRequests, attribute_names}
 unfoldable pub use Rattle.cedar_json_writer.specs.Sound.{SoundAttributes, SoundEntries, SoundType, SoundValue, SoundValues}
-pub use Rattle.cedar_json_writer.specs.TypeDocument.{attribute_document, attributes_of, is_empty_record, reference_members, reference_text, shape_held, type_document}
+pub use Rattle.cedar_json_writer.specs.TypeDocument.{attribute_document, form_opening, is_empty_record, reference_members, reference_text, shape_held, type_document}
 unfoldable pub use Rattle.cedar_json_writer.specs.TypeDocument.{attribute_members, type_members}
-pub use Rattle.cedar_json_writer.specs.ValueDocument.{uid_document}
+pub use Rattle.cedar_json_writer.specs.ValueDocument.{call_opening, uid_document}
 unfoldable pub use Rattle.cedar_json_writer.specs.ValueDocument.{value_document, value_items, value_members}
-pub use Rattle.cedar_json_writer.specs.Writing.{AddsField, AddsFields, AddsValue, IsChecked, IsFlawOf, IsFree, flaw_of}
+pub use Rattle.cedar_json_writer.specs.Writing.{AddsField, AddsFields, AddsMembers, AddsValue, IsChecked, IsFlawOf, IsFree, flaw_of}
 pub use Rattle.cedar_json_writer.specs.WrittenFields.{flag_held, keyed_members, optional_member, text_array}
 pub use Rattle.cedar_json_writer.specs.declared.fault.Unwritable.{Unwritable}
 pub use Rattle.cedar_json_writer.specs.declared.fault.Unwritable.TheVariants.{Arguments, TooDeep}

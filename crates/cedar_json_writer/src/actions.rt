@@ -7,7 +7,8 @@ ghost use Rattle.cedar_json_writer.specs.Words.{AddsField, AddsValue, IfThere, I
 use crate::entity_types::write_shape_field;
 use crate::fault::WriteFault;
 use crate::fields::{
-    close_object, open_object, write_flag, write_name_field, write_names_field, write_text_field,
+    close_object, close_with_flag, open_object, write_name_field, write_names_field,
+    write_text_field,
 };
 use crate::values::write_attribute_values;
 use cedar_below::{M, Value};
@@ -116,6 +117,5 @@ pub(crate) fn write_action(
     write_applies_to_field(alloc, out, &it.applies_to)?;
     write_member_of_field(alloc, out, &it.member_of)?;
     write_attributes_field(alloc, out, &it.attributes)?;
-    write_flag(out, "external", false, it.external)?;
-    close_object(out)
+    close_with_flag(out, "external", false, it.external)
 }

@@ -1,12 +1,12 @@
 //! Entities, written as texts.
 
-ghost use Rattle.std.specs.Prelude.{◌≡◌, [], OnOk, IfOk, IfErr, codes, string_bytes};
+ghost use Rattle.std.specs.Prelude.{◌≡◌, [], MatchResult, OnOk, IfOk, IfErr, codes, string_bytes};
 ghost use Rattle.cedar_json_writer.specs.Words.{AddsField, AddsValue, IsFlawOf, entity_ancestors, entity_attrs, entity_document, entity_flaws, entity_tags, entity_uid, json_tokens, pairs_flaws, pretty, tags_held, uid_array, written_pairs};
 
 use crate::fault::WriteFault;
 use crate::fields::close_object;
 use crate::text::text_of;
-use crate::values::{write_attribute_values, write_uid};
+use crate::values::{open_with_uid, write_attribute_values, write_uid};
 use cedar_below::{Entity, M, Value};
 use json::{Pretty, Token};
 use std::alloc::Global;
@@ -32,8 +32,8 @@ fn write_tags(
 ) -> Result<(), WriteFault>
     ensures written { OnOk result (AddsField out.old out.new (codes "tags")
         (tags_held (written_pairs tags.now))) }
-    ensures writable { OnOk result (pairs_flaws (written_pairs tags.now) ≡ []) }
-    ensures fault { IfErr result (IsFlawOf (pairs_flaws (written_pairs tags.now))) }
+    ensures checked { MatchResult result (λ _. pairs_flaws (written_pairs tags.now) ≡ [])
+        (IsFlawOf (pairs_flaws (written_pairs tags.now))) }
 {
     if tags.is_empty() {
         return Ok(());
@@ -46,14 +46,13 @@ fn write_entity(alloc: Global, out: &mut Pretty, entity: &Entity) -> Result<(), 
     ensures written { OnOk result (AddsValue out.old out.new (entity_document
         (entity_uid entity.now) (written_pairs (entity_attrs entity.now))
         (entity_ancestors entity.now) (written_pairs (entity_tags entity.now)))) }
-    ensures writable { OnOk result (entity_flaws (written_pairs (entity_attrs entity.now))
-        (written_pairs (entity_tags entity.now)) ≡ []) }
-    ensures fault { IfErr result (IsFlawOf (entity_flaws (written_pairs (entity_attrs entity.now))
+    ensures checked { MatchResult result
+        (λ _. entity_flaws (written_pairs (entity_attrs entity.now))
+        (written_pairs (entity_tags entity.now)) ≡ [])
+        (IsFlawOf (entity_flaws (written_pairs (entity_attrs entity.now))
         (written_pairs (entity_tags entity.now)))) }
 {
-    out.token(Token::BeginObject)?;
-    out.token(Token::Key("uid"))?;
-    write_uid(alloc, out, entity.uid())?;
+    open_with_uid(alloc, out, "uid", entity.uid())?;
     write_attribute_values(alloc, out, "attrs", entity.attrs())?;
     out.token(Token::Key("parents"))?;
     write_ancestors(alloc, out, entity)?;

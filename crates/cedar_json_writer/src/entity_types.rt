@@ -5,7 +5,7 @@ ghost use Rattle.cedar_json_writer.specs.Words.{AddsField, AddsFields, Entity, I
 ghost use Rattle.cedar_names.specs.declared.json_schema.entity_type.EntityTypeKind.TheVariants as kind;
 
 use crate::fault::WriteFault;
-use crate::fields::{close_object, open_object, write_flag, write_ids, write_names_field};
+use crate::fields::{close_with_flag, open_object, write_ids, write_names_field};
 use crate::types::write_type;
 use cedar_below::M;
 use cedar_names::json_schema::{
@@ -139,6 +139,5 @@ pub(crate) fn write_entity_type(
 {
     open_object(out, id)?;
     write_kind(alloc, out, &it.kind)?;
-    write_flag(out, "external", false, it.external)?;
-    close_object(out)
+    close_with_flag(out, "external", false, it.external)
 }

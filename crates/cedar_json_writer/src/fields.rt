@@ -1,11 +1,11 @@
 //! Fields and arrays that are written.
 
 ghost use Rattle.std.specs.Prelude.{◌≡◌, ◌++◌, ◌∷◌, [], Some, None, OnOk, IfErr, map};
-ghost use Rattle.json.specs.Json.{string};
+ghost use Rattle.json.specs.Json.{no_members, string};
 ghost use Rattle.json.specs.Token.{begin_object, end_object, key};
 ghost use Rattle.json.specs.Tree.{items_tokens};
 ghost use Rattle.json.specs.Value.{items_of as spec_items};
-ghost use Rattle.cedar_json_writer.specs.Words.{AddsField, AddsValue, Entity, eid_text, flag_held, items_of, name_of, name_text, raw_reference, reference_array, text_array};
+ghost use Rattle.cedar_json_writer.specs.Words.{AddsField, AddsMembers, AddsValue, Entity, eid_text, flag_held, items_of, name_of, name_text, optional_member, raw_reference, reference_array, text_array};
 
 use crate::fault::WriteFault;
 use cedar_below::{Eid, InternalName, M, NonEmpty};
@@ -49,6 +49,22 @@ pub(crate) fn write_flag(out: &mut Pretty, name: &str, absent: bool, flag: bool)
         out.token(Token::Bool(flag))?;
     }
     Ok(())
+}
+
+/// Writes the bracket that closes an object, behind its last field, which holds a truth value where
+/// it says what its absence doesn't.
+pub(crate) fn close_with_flag(
+    out: &mut Pretty,
+    name: &str,
+    absent: bool,
+    flag: bool,
+) -> Result<(), WriteFault>
+    ensures written { OnOk result (AddsMembers out.old out.new
+        (optional_member name.now (flag_held absent flag) no_members)) }
+    ensures fault { IfErr result (λ fault. fault ≡ WriteFault.Memory) }
+{
+    write_flag(out, name, absent, flag)?;
+    close_object(out)
 }
 
 /// Writes a name as a text.

@@ -1,6 +1,6 @@
 //! Requests, written as texts.
 
-ghost use Rattle.std.specs.Prelude.{◌≡◌, [], Some, OnOk, IfOk, IfErr, string_bytes};
+ghost use Rattle.std.specs.Prelude.{◌≡◌, [], Some, MatchResult, OnOk, IfOk, IfErr, string_bytes};
 ghost use Rattle.json.specs.Json.{string};
 ghost use Rattle.cedar_json_writer.specs.Words.{AddsField, AddsValue, IsFlawOf, json_tokens, pairs_flaws, pretty, request_document, uid_of, uid_text, written_pairs};
 
@@ -34,8 +34,8 @@ fn write_request(
     ensures written { OnOk result (AddsValue out.old out.new (request_document
         (uid_of principal.now) (uid_of action.now) (uid_of resource.now)
         (written_pairs context.now))) }
-    ensures writable { OnOk result (pairs_flaws (written_pairs context.now) ≡ []) }
-    ensures fault { IfErr result (IsFlawOf (pairs_flaws (written_pairs context.now))) }
+    ensures checked { MatchResult result (λ _. pairs_flaws (written_pairs context.now) ≡ [])
+        (IsFlawOf (pairs_flaws (written_pairs context.now))) }
 {
     out.token(Token::BeginObject)?;
     write_uid_field(alloc, out, "principal", principal)?;

@@ -1,12 +1,15 @@
 //! Types that are written.
 
-ghost use Rattle.std.specs.Prelude.{◌≡◌, Some, None, true, false, MatchOption, OnOk, IfErr, codes};
-ghost use Rattle.json.specs.Json.{member, object, string};
-ghost use Rattle.cedar_json_writer.specs.Words.{AddsField, AddsFields, AddsValue, Common, IsChecked, SoundType, attribute_document, attribute_members, attributes_of, extension_expr, is_among, name_text, named, raw_attribute, raw_expr, raw_name, raw_record, raw_reference, raw_variant, set_expr, type_document, type_flaws, type_members, type_words, unreserved_id_text};
+ghost use Rattle.std.specs.Prelude.{◌≡◌, ◌++◌, ◌∷◌, [], Some, None, true, false, MatchOption, OnOk, IfErr, codes};
+ghost use Rattle.json.specs.Json.{member, string};
+ghost use Rattle.json.specs.Token.{end_object};
+ghost use Rattle.cedar_json_writer.specs.Words.{AddsField, AddsFields, AddsValue, Common, IsChecked, SoundType, attribute_document, extension_expr, flag_held, form_opening, is_among, name_text, named, optional_member, raw_attribute, raw_expr, raw_name, raw_record, raw_reference, raw_variant, set_expr, type_document, type_flaws, type_members, type_words, unreserved_id_text};
 
 use crate::fault::{Unwritable, WriteFault};
-use crate::fields::{close_object, open_object, write_flag, write_name_field, write_text_field};
-use cedar_below::UnreservedId;
+use crate::fields::{
+    close_object, close_with_flag, open_object, write_flag, write_name_field, write_text_field,
+};
+use cedar_below::{M, UnreservedId};
 use cedar_names::json_schema::{RawName, RecordType, Type, TypeOfAttribute, TypeVariant};
 use json::{Pretty, Token};
 use std::alloc::Global;
@@ -95,6 +98,27 @@ fn write_extension(out: &mut Pretty, name: &UnreservedId) -> Result<(), WriteFau
     Ok(())
 }
 
+/// Writes the word of a form, and the key of the field of what types are within.
+fn write_form(out: &mut Pretty, word: &str, within: &str) -> M<()>
+    ensures { OnOk result (out.new ≡ out.old ++ form_opening word.now within.now) }
+{
+    out.token(Token::Key("type"))?;
+    out.token(Token::String(word))?;
+    out.token(Token::Key(within))?;
+    Ok(())
+}
+
+/// Writes the bracket that closes attributes, and the field for whether there may be others.
+fn close_attributes(out: &mut Pretty, additional: bool) -> Result<(), WriteFault>
+    ensures written { OnOk result (AddsFields (out.old ++ end_object ∷ []) out.new
+        (optional_member (codes "additionalAttributes") (flag_held false additional))) }
+    ensures fault { IfErr result (λ fault. fault ≡ WriteFault.Memory) }
+{
+    out.token(Token::EndObject)?;
+    write_flag(out, "additionalAttributes", false, additional)?;
+    Ok(())
+}
+
 /// Writes the fields of a type.
 #[cycle(type_writing)]
 fn write_fields(alloc: Global, out: &mut Pretty, ty: &Type<RawName>) -> Result<(), WriteFault>
@@ -143,8 +167,7 @@ fn write_set(alloc: Global, out: &mut Pretty, element: &Type<RawName>) -> Result
     ensures checked { IsChecked result (type_flaws (set_expr (raw_expr None element.now)))
         (SoundType (set_expr (raw_expr None element.now))) }
 {
-    write_text_field(out, "type", "Set")?;
-    out.token(Token::Key("element"))?;
+    write_form(out, "Set", "element")?;
     write_type(alloc, out, element)
 }
 
@@ -160,30 +183,12 @@ fn write_record(
     ensures checked { IsChecked result (type_flaws (raw_record None record_type.now))
         (SoundType (raw_record None record_type.now)) }
 {
-    write_text_field(out, "type", "Record")?;
-    write_attributes(alloc, out, record_type)?;
-    let additional = record_type.additional_attributes;
-    write_flag(out, "additionalAttributes", false, additional)?;
-    Ok(())
-}
-
-/// Writes the field of the attributes of a record type.
-#[cycle(type_writing)]
-fn write_attributes(
-    alloc: Global,
-    out: &mut Pretty,
-    record_type: &RecordType<RawName>,
-) -> Result<(), WriteFault>
-    ensures written { OnOk result (AddsField out.old out.new (codes "attributes")
-        (Some (object (attribute_members (attributes_of (raw_record None record_type.now)))))) }
-    ensures checked { IsChecked result (type_flaws (raw_record None record_type.now))
-        (SoundType (raw_record None record_type.now)) }
-{
-    open_object(out, "attributes")?;
+    write_form(out, "Record", "attributes")?;
+    out.token(Token::BeginObject)?;
     for (name, attribute) in &record_type.attributes {
         write_attribute(alloc, out, name.as_str(), attribute)?;
     }
-    close_object(out)
+    close_attributes(out, record_type.additional_attributes)
 }
 
 /// Writes the field of an attribute, under its name.
@@ -202,8 +207,7 @@ fn write_attribute(
 {
     open_object(out, name)?;
     write_fields(alloc, out, &attribute.ty)?;
-    write_flag(out, "required", true, attribute.required)?;
-    close_object(out)
+    close_with_flag(out, "required", true, attribute.required)
 }
 
 /// Writes the object of a type.

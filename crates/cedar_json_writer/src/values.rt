@@ -1,12 +1,13 @@
 //! Values of Cedar that are written.
 
-ghost use Rattle.std.specs.Prelude.{◌≡◌, [], Some, true, false, MatchOption, MatchResult, OnOk, IfErr, Contains};
+ghost use Rattle.std.specs.Prelude.{◌≡◌, ◌++◌, ◌∷◌, [], Some, true, false, MatchOption, MatchResult, OnOk, IfErr, Contains};
 ghost use Rattle.std.specs.Fmt.{signed_decimal};
 ghost use Rattle.json.specs.Json.{number};
-ghost use Rattle.cedar_json_writer.specs.Words.{AddsField, AddsValue, IsChecked, SoundPairs, SoundValue, call_value, entries_of, flaw_of, is_among, is_long, key_flaws, map_value, pairs_document, pairs_flaws, plain_name, set_value, tree_of, trees_of, uid_document, uid_of, uid_value, value_document, value_flaws, value_keys, written_pairs};
+ghost use Rattle.json.specs.Token.{begin_object, end_object};
+ghost use Rattle.cedar_json_writer.specs.Words.{AddsField, AddsValue, IsChecked, SoundPairs, SoundValue, call_opening, call_value, entries_of, flaw_of, is_among, is_long, key_flaws, map_value, name_text, pairs_document, pairs_flaws, plain_name, set_value, tree_of, trees_of, uid_document, uid_of, uid_value, value_document, value_flaws, value_keys, written_pairs};
 
 use crate::fault::{Unwritable, WriteFault};
-use crate::fields::{close_object, open_object, write_name_field, write_text_field};
+use crate::fields::{close_object, open_object, write_name, write_name_field, write_text_field};
 use cedar_below::{EntityUID, M, Name, RestrictedExpr, Value};
 use json::{Pretty, Token};
 use std::alloc::Global;
@@ -64,15 +65,45 @@ pub(crate) fn write_uid(alloc: Global, out: &mut Pretty, uid: &EntityUID) -> M<(
     Ok(())
 }
 
+/// Writes the bracket that opens an object, and its first field, which holds a uid.
+pub(crate) fn open_with_uid(alloc: Global, out: &mut Pretty, name: &str, uid: &EntityUID) -> M<()>
+    ensures { OnOk result (AddsField (out.old ++ begin_object ∷ []) out.new name.now
+        (Some (uid_document (uid_of uid.now)))) }
+{
+    out.token(Token::BeginObject)?;
+    out.token(Token::Key(name))?;
+    write_uid(alloc, out, uid)
+}
+
 /// Writes a reference to an entity.
 fn write_entity(alloc: Global, out: &mut Pretty, uid: &EntityUID) -> Result<(), WriteFault>
     ensures written { OnOk result (AddsValue out.old out.new
         (value_document (uid_value (uid_of uid.now)))) }
     ensures fault { IfErr result (λ fault. fault ≡ WriteFault.Memory) }
 {
+    open_with_uid(alloc, out, "__entity", uid)?;
+    close_object(out)
+}
+
+/// Writes what stands before the argument of a call.
+fn open_call(alloc: Global, out: &mut Pretty, function: &Name) -> M<()>
+    ensures { OnOk result (out.new
+        ≡ out.old ++ call_opening (name_text (plain_name function.now))) }
+{
     out.token(Token::BeginObject)?;
-    out.token(Token::Key("__entity"))?;
-    write_uid(alloc, out, uid)?;
+    open_object(out, "__extn")?;
+    out.token(Token::Key("fn"))?;
+    write_name(alloc, out, function.as_internal())?;
+    out.token(Token::Key("arg"))?;
+    Ok(())
+}
+
+/// Writes the brackets that close the objects of a call.
+fn close_call(out: &mut Pretty) -> Result<(), WriteFault>
+    ensures written { OnOk result (out.new ≡ out.old ++ end_object ∷ end_object ∷ []) }
+    ensures fault { IfErr result (λ fault. fault ≡ WriteFault.Memory) }
+{
+    out.token(Token::EndObject)?;
     close_object(out)
 }
 
@@ -158,13 +189,9 @@ fn write_call(
     if args.len() != 1 {
         return Err(WriteFault::Unwritable(Unwritable::Arguments(args.len())));
     }
-    out.token(Token::BeginObject)?;
-    open_object(out, "__extn")?;
-    write_name_field(alloc, out, "fn", function.as_internal())?;
-    out.token(Token::Key("arg"))?;
+    open_call(alloc, out, function)?;
     write_value(alloc, out, &args[0])?;
-    out.token(Token::EndObject)?;
-    close_object(out)
+    close_call(out)
 }
 
 /// Writes a field that holds values, each under its text.

@@ -9,17 +9,16 @@ use Rattle.cedar_json_writer.proofs.actions.write_action.Goals as goal
 pub returns-clause-written : goal.returns-clause-written
 returns-clause-written c =
     let it = written_action c.args.it.now in
-    on_ok c.close_object.result c.close_object.ensures.written
-    (λ ended. object_by c.args.out.now c.open_object.new.out c.close_object.new.out c.args.id.now (action_document it) c.in_ok-open_object.ensures
+    on_ok c.close_with_flag.result c.close_with_flag.ensures.written
+    (λ ended. object_by c.args.out.now c.open_object.new.out c.close_with_flag.new.out c.args.id.now (action_document it) c.in_ok-open_object.ensures
     (λ begun. action_added _ c.open_object.new.out c.write_applies_to_field.new.out c.write_member_of_field.new.out
-    c.write_attributes_field.new.out c.write_flag.new.out c.close_object.new.out (option_map requests_document it.applies_to)
+    c.write_attributes_field.new.out c.close_with_flag.new.out (option_map requests_document it.applies_to)
     (option_map parent_array it.member_of) (option_map pairs_document it.attributes) (flag_held false it.external) begun
-    c.in_ok-write_applies_to_field.ensures.written c.in_ok-write_member_of_field.ensures c.in_ok-write_attributes_field.ensures.written
-    c.in_ok-write_flag.ensures ended))
+    c.in_ok-write_applies_to_field.ensures.written c.in_ok-write_member_of_field.ensures c.in_ok-write_attributes_field.ensures.written ended))
 
 pub returns-clause-checked : goal.returns-clause-checked
 returns-clause-checked c =
-    checked c.close_object.result c.close_object.ensures.fault
+    checked c.close_with_flag.result c.close_with_flag.ensures.fault
     (action_free (written_action c.args.it.now) c.in_ok-write_applies_to_field.ensures.checked (groups_sound c.args.it.now.member_of)
     c.in_ok-write_attributes_field.ensures.checked)
 

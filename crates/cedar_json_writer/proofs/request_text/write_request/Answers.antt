@@ -1,7 +1,7 @@
 use Rattle.json.specs.Json.{string}
 use Rattle.cedar_json_writer.specs.Words.{pairs_document, pairs_flaws, uid_of, uid_text, written_pairs}
 use Rattle.cedar_json_writer.proofs.WrittenEntityData.{request_added}
-use Rattle.cedar_json_writer.proofs.WritingLemmas.{memory_flaw, on_ok}
+use Rattle.cedar_json_writer.proofs.WritingLemmas.{flawless_checked, on_ok}
 use Rattle.cedar_json_writer.proofs.request_text.write_request.Goals as goal
 
 pub returns-clause-written : goal.returns-clause-written
@@ -13,9 +13,7 @@ returns-clause-written c =
     c.in_ok-write_uid_field-2.ensures c.in_ok-write_uid_field-3.ensures
     c.in_ok-write_attribute_values.ensures.written ended)
 
-pub returns-clause-writable : goal.returns-clause-writable
-returns-clause-writable c =
-    on_ok c.close_object.result c.close_object.ensures.written (λ ended. c.in_ok-write_attribute_values.ensures.checked.flawless)
-
-pub returns-clause-fault : goal.returns-clause-fault
-returns-clause-fault c = memory_flaw (pairs_flaws (written_pairs c.args.context.now)) c.close_object.result c.close_object.ensures.fault
+pub returns-clause-checked : goal.returns-clause-checked
+returns-clause-checked c =
+    flawless_checked (pairs_flaws (written_pairs c.args.context.now)) c.close_object.result c.close_object.ensures.fault
+    c.in_ok-write_attribute_values.ensures.checked.flawless

@@ -1,11 +1,10 @@
-use Rattle.std.proofs.Common.{◌≡◌, Bool, List, None, OnOk, Some, ℕ, ap, codes, refl, subst, sym, ◌∙◌}
+use Rattle.std.proofs.Common.{Bool, List, None, OnOk, Some, ℕ, ap, refl, subst, sym, ◌∙◌}
 use Rattle.std.proofs.lemmas.Result.{err_from_is_err_and}
-use Rattle.json.specs.Json.{object}
 use Rattle.cedar_names.proofs.ExprLemmas.{raw_attribute-parts, raw_record-entries}
 use Rattle.cedar_names.proofs.VariantLemmas.{raw_variant-Boolean, raw_variant-Entity, raw_variant-Long, raw_variant-String, type-CommonTypeRef, variant-EntityOrCommon, variant-Extension}
 use Rattle.cedar_names.specs.declared.json_schema.type_of.TypeOfAttribute.{out-TypeOfAttribute}
-use Rattle.cedar_json_writer.specs.Words.{AddsField, AddsFields, Expr, IsChecked, IsFlawOf, RawName, SoundType, attribute_document, attribute_members, attributes_of, out-RecordType, raw_attribute, raw_expr, raw_record, raw_reference, raw_variant, record_expr, type_flaws, type_members}
-use Rattle.cedar_json_writer.proofs.WritingLemmas.{begun, checked, checked_as, member_flaw, members_added, members_free, object_added, object_by, on_ok, turn}
+use Rattle.cedar_json_writer.specs.Words.{AddsField, AddsFields, Expr, IsChecked, IsFlawOf, RawName, SoundType, attribute_document, out-RecordType, raw_attribute, raw_expr, raw_reference, raw_variant, type_flaws, type_members}
+use Rattle.cedar_json_writer.proofs.WritingLemmas.{begun, checked, checked_as, member_flaw, members_ended, members_free, object_added, object_by, on_ok, turn}
 use Rattle.cedar_json_writer.proofs.WrittenTypes.{FreeType, attribute_added, attributes_shape, either_fields, either_free, entity_fields, entity_free, extension_free, listed, long_fields, long_free, record_fields, record_flaw, record_free, set_fields, set_flaw, set_free, text_fields, text_free, truth_fields, truth_free}
 use Rattle.cedar_json_writer.proofs.types.+type_writing.Goals as goal
 
@@ -90,67 +89,53 @@ write_variant-returns-in-Extension-clause-checked t c =
 pub write_set-returns-clause-written : goal.write_set-returns-clause-written
 write_set-returns-clause-written t c =
     on_ok c.write_type.result c.write_type.ensures.written
-    (λ written. set_fields c.args.out.now c.write_text_field.new.out c.token.new.self c.write_type.new.out (raw_expr None c.args.element.now)
-    c.in_ok-write_text_field.ensures c.in_ok-token.ensures.ok written)
+    (set_fields c.args.out.now c.write_form.new.out c.write_type.new.out (raw_expr None c.args.element.now) c.in_ok-write_form.ensures)
 
 -- a record type is written as the word `Record`, the object of its attributes, and its flag if set
 pub write_record-returns-clause-written : goal.write_record-returns-clause-written
 write_record-returns-clause-written t c =
     let it = c.args.record_type.now in
     let entries = (out-RecordType RawName it).attributes.entries in
-    let same : raw_record None it ≡ record_expr (listed entries) (out-RecordType RawName it).additional_attributes = raw_record-entries None it in
-    let held = subst (λ (ty : Expr). AddsField c.write_text_field.new.out c.write_attributes.new.out (codes "attributes")
-    (Some (object (attribute_members (attributes_of ty))))) same
-    c.in_ok-write_attributes.ensures.written in
-    subst (λ (ty : Expr). AddsFields c.args.out.now c.write_flag.new.out (type_members ty)) (sym same)
-    (record_fields c.args.out.now c.write_text_field.new.out c.write_attributes.new.out c.write_flag.new.out
-    (listed entries) (out-RecordType RawName it).additional_attributes c.in_ok-write_text_field.ensures held
-    c.in_ok-write_flag.ensures)
+    subst (λ (ty : Expr). OnOk c.close_attributes.result (AddsFields c.args.out.now c.close_attributes.new.out (type_members ty)))
+    (sym (raw_record-entries None it))
+    (on_ok c.close_attributes.result c.close_attributes.ensures.written
+    (record_fields c.args.out.now c.write_form.new.out c.token.new.self _ c.close_attributes.new.out (listed entries)
+    (out-RecordType RawName it).additional_attributes c.in_ok-write_form.ensures c.in_ok-token.ensures.ok
+    (members_ended attributes_shape c.token.new.self c.loop-name.out _ entries c.loop-name.name-iterator c.loop-name.invariant
+    c.in-None.ensures.steps.0 refl)))
 
 -- at first all attributes are left, and none is written
-pub write_attributes-loop-name-init : goal.write_attributes-loop-name-init
-write_attributes-loop-name-init t c = begun attributes_shape _ _ _ _ refl c.into_iter-name-iterator.ensures.into_iter_gives.0
+pub write_record-loop-name-init : goal.write_record-loop-name-init
+write_record-loop-name-init t c = begun attributes_shape _ _ _ _ refl c.into_iter-name-iterator.ensures.into_iter_gives.0
 
 -- one more attribute is written behind its name, and has no flaws
-pub write_attributes-loop-name-preserved : goal.write_attributes-loop-name-preserved
-write_attributes-loop-name-preserved t c =
+pub write_record-loop-name-preserved : goal.write_record-loop-name-preserved
+write_record-loop-name-preserved t c =
     let it = raw_attribute None c.in-Some.attribute.now in
-    turn attributes_shape c.open_object.new.out c.loop-name.out c.write_attribute.new.out
+    turn attributes_shape c.token.new.self c.loop-name.out c.write_attribute.new.out
     (out-RecordType RawName c.args.record_type.now).attributes.entries c.loop-name.name-iterator c.next.new.self
     (c.in-Some.name.now, c.in-Some.attribute.now) c.loop-name.invariant c.in-Some.ensures.steps
     (subst (λ (text : List ℕ). AddsField c.loop-name.out c.write_attribute.new.out text (Some (attribute_document it.0 it.1))) c.as_str.ensures.value
     c.in_ok-write_attribute.ensures.written) c.in_ok-write_attribute.ensures.checked
 
--- where no attribute is left, the object has all of them
-pub write_attributes-returns-clause-written : goal.write_attributes-returns-clause-written
-write_attributes-returns-clause-written t c =
-    let entries = (out-RecordType RawName c.args.record_type.now).attributes.entries in
-    subst (λ (ty : Expr). OnOk c.close_object.result (AddsField c.args.out.now c.close_object.new.out (codes "attributes")
-    (Some (object (attribute_members (attributes_of ty)))))) (sym (raw_record-entries None c.args.record_type.now))
-    (on_ok c.close_object.result c.close_object.ensures.written
-    (λ ended. object_by c.args.out.now c.open_object.new.out c.close_object.new.out (codes "attributes") (object (attribute_members (listed entries)))
-    c.in_ok-open_object.ensures
-    (λ begun. members_added attributes_shape _ c.open_object.new.out c.loop-name.out c.close_object.new.out entries c.loop-name.name-iterator
-    c.loop-name.invariant c.in-None.ensures.steps.0 begun ended)))
-
 -- no attribute had a flaw, and their names are in order, so the record type has none
-pub write_attributes-returns-clause-checked : goal.write_attributes-returns-clause-checked
-write_attributes-returns-clause-checked t c =
+pub write_record-returns-clause-checked : goal.write_record-returns-clause-checked
+write_record-returns-clause-checked t c =
     let entries = (out-RecordType RawName c.args.record_type.now).attributes.entries in
-    checked c.close_object.result c.close_object.ensures.fault (subst FreeType (sym (raw_record-entries None c.args.record_type.now))
+    checked c.close_attributes.result c.close_attributes.ensures.fault (subst FreeType (sym (raw_record-entries None c.args.record_type.now))
     (record_free entries (out-RecordType RawName c.args.record_type.now).additional_attributes
     c.into_iter-name-iterator.ensures.into_iter_gives.5
-    (members_free attributes_shape c.open_object.new.out c.loop-name.out entries c.loop-name.name-iterator c.loop-name.invariant
+    (members_free attributes_shape c.token.new.self c.loop-name.out entries c.loop-name.name-iterator c.loop-name.invariant
     c.in-None.ensures.steps.0)))
 
 -- a flaw of one attribute is a flaw of the record type
-pub write_attributes-returns-in_err-write_attribute-clause-checked : goal.write_attributes-returns-in_err-write_attribute-clause-checked
-write_attributes-returns-in_err-write_attribute-clause-checked t c =
+pub write_record-returns-in_err-write_attribute-clause-checked : goal.write_record-returns-in_err-write_attribute-clause-checked
+write_record-returns-in_err-write_attribute-clause-checked t c =
     let it = c.args.record_type.now in
     let entries = (out-RecordType RawName it).attributes.entries in
     let f = c.in_err-write_attribute.field-0.0 in
     let p = err_from_is_err_and c.from_residual-in_err-write_attribute.result c.from_residual-in_err-write_attribute.ensures.1 in
-    let flawed = member_flaw attributes_shape c.open_object.new.out c.loop-name.out entries c.loop-name.name-iterator c.next.new.self
+    let flawed = member_flaw attributes_shape c.token.new.self c.loop-name.out entries c.loop-name.name-iterator c.next.new.self
     (c.in-Some.name.now, c.in-Some.attribute.now) f c.loop-name.invariant c.in-Some.ensures.steps c.in_err-write_attribute.ensures.checked in
     rw (p.1, p.2) (subst (λ (ty : Expr). IsFlawOf (type_flaws ty) f) (sym (raw_record-entries None it))
     (record_flaw (listed entries) (out-RecordType RawName it).additional_attributes f flawed))
@@ -172,21 +157,21 @@ write_set-returns-clause-checked t c =
 pub write_attribute-returns-clause-written : goal.write_attribute-returns-clause-written
 write_attribute-returns-clause-written t c =
     let it = out-TypeOfAttribute RawName c.args.attribute.now in
-    subst (λ (parts : Bool × Expr). OnOk c.close_object.result (AddsField c.args.out.now c.close_object.new.out c.args.name.now
+    subst (λ (parts : Bool × Expr). OnOk c.close_with_flag.result (AddsField c.args.out.now c.close_with_flag.new.out c.args.name.now
     (Some (attribute_document parts.0 parts.1))))
     (sym (raw_attribute-parts None c.args.attribute.now))
-    (on_ok c.close_object.result c.close_object.ensures.written
-    (λ ended. object_by c.args.out.now c.open_object.new.out c.close_object.new.out c.args.name.now
+    (on_ok c.close_with_flag.result c.close_with_flag.ensures.written
+    (λ ended. object_by c.args.out.now c.open_object.new.out c.close_with_flag.new.out c.args.name.now
     (attribute_document it.required (raw_expr None it.ty)) c.in_ok-open_object.ensures
-    (λ begun. attribute_added _ c.open_object.new.out c.write_fields.new.out c.write_flag.new.out c.close_object.new.out it.required
-    (raw_expr None it.ty) begun c.in_ok-write_fields.ensures.written c.in_ok-write_flag.ensures ended)))
+    (λ begun. attribute_added _ c.open_object.new.out c.write_fields.new.out c.close_with_flag.new.out it.required
+    (raw_expr None it.ty) begun c.in_ok-write_fields.ensures.written ended)))
 
 -- and has just the flaws of its type
 pub write_attribute-returns-clause-checked : goal.write_attribute-returns-clause-checked
 write_attribute-returns-clause-checked t c =
-    subst (λ (parts : Bool × Expr). IsChecked c.close_object.result (type_flaws parts.1) (SoundType parts.1))
+    subst (λ (parts : Bool × Expr). IsChecked c.close_with_flag.result (type_flaws parts.1) (SoundType parts.1))
     (sym (raw_attribute-parts None c.args.attribute.now))
-    (checked c.close_object.result c.close_object.ensures.fault c.in_ok-write_fields.ensures.checked)
+    (checked c.close_with_flag.result c.close_with_flag.ensures.fault c.in_ok-write_fields.ensures.checked)
 
 -- a type is written as the object of its fields
 pub write_type-returns-clause-written : goal.write_type-returns-clause-written

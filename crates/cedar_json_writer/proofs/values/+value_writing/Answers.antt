@@ -1,10 +1,9 @@
-use Rattle.std.proofs.Common.{◌≡◌, ◌+◌, ◌++◌, ◌∷◌, [], List, ℕ, OnOk, Some, codes, string_bytes, ap, drop, drop_of_length-le, arith, refl, subst, sym, ◌∙◌}
+use Rattle.std.proofs.Common.{◌≡◌, ◌+◌, ◌++◌, ◌∷◌, [], List, ℕ, OnOk, string_bytes, ap, drop, drop_of_length-le, arith, refl, subst, sym, ◌∙◌}
 use Rattle.std.proofs.lemmas.Result.{err_from_is_err_and}
-use Rattle.json.specs.Json.{string as text}
 use Rattle.json.specs.Token.{key, string}
 use Rattle.cedar_below.proofs.TreeLemmas.{drop-at, tree_of-call, tree_of-record, tree_of-uid}
 use Rattle.cedar_below.proofs.ValueCopies.{tree_of-text, tree_of-truth}
-use Rattle.cedar_json_writer.specs.Words.{AddsField, AddsValue, IsChecked, IsFlawOf, PlainName, RestrictedExpr, SoundValue, Tree, call_value, entries_of, name_text, plain_name, set_value, tree_of, trees_of, value_document, value_flaws}
+use Rattle.cedar_json_writer.specs.Words.{AddsValue, IsChecked, IsFlawOf, RestrictedExpr, SoundValue, Tree, call_value, entries_of, plain_name, set_value, tree_of, trees_of, value_document, value_flaws}
 use Rattle.cedar_json_writer.proofs.WritingLemmas.{begun, checked, member_flaw, members_added, members_free, on_ok, turn_by}
 use Rattle.cedar_json_writer.proofs.WrittenValues.{FreeValue, argument_flaw, arity_flaw, call_added, call_free, long_added, long_free, one_item, pairs_free, pairs_shape, record_document, record_free, record_key_flaw, record_value_flaw, text_added, text_free, tree_of-long, truth_added, truth_free, uid_free, values_added, values_flaw, values_free, values_turn}
 use Rattle.cedar_json_writer.proofs.values.+value_writing.Goals as goal
@@ -177,13 +176,10 @@ write_call-returns-clause-written t c =
     let argument = c.index.result.now in
     let items = c.args.args.now.items in
     let only : items ≡ argument ∷ [] = one_item items argument (omega (arith, c.args.args.now.ok.0)) c.index.ensures in
-    let named = subst (λ (n : PlainName). AddsField c.open_object.new.out c.write_name_field.new.out (codes "fn") (Some (text (name_text n))))
-    c.as_internal.ensures.name c.in_ok-write_name_field.ensures in
-    subst (λ (each : List RestrictedExpr). OnOk c.close_object.result (AddsValue c.args.out.now c.close_object.new.out
+    subst (λ (each : List RestrictedExpr). OnOk c.close_call.result (AddsValue c.args.out.now c.close_call.new.out
     (value_document (call_value (plain_name c.args.function.now) (trees_of each))))) (sym only)
-    (on_ok c.close_object.result c.close_object.ensures.written (λ ended. call_added c.args.out.now c.token.new.self c.open_object.new.out c.write_name_field.new.out
-    c.token-2.new.self c.write_value.new.out c.token-3.new.self c.close_object.new.out c.args.function.now argument c.in_ok-token.ensures.ok
-    c.in_ok-open_object.ensures named c.in_ok-token-2.ensures.ok c.in_ok-write_value.ensures.written c.in_ok-token-3.ensures.ok ended))
+    (on_ok c.close_call.result c.close_call.ensures.written (call_added c.args.out.now c.open_call.new.out c.write_value.new.out
+    c.close_call.new.out c.args.function.now argument c.in_ok-open_call.ensures c.in_ok-write_value.ensures.written))
 
 -- where the one argument has no flaws, the call has none
 pub write_call-returns-clause-checked : goal.write_call-returns-clause-checked
@@ -191,7 +187,7 @@ write_call-returns-clause-checked t c =
     let argument = c.index.result.now in
     let items = c.args.args.now.items in
     let only : items ≡ argument ∷ [] = one_item items argument (omega (arith, c.args.args.now.ok.0)) c.index.ensures in
-    checked c.close_object.result c.close_object.ensures.fault
+    checked c.close_call.result c.close_call.ensures.fault
     (subst (λ (each : List RestrictedExpr). FreeValue (call_value (plain_name c.args.function.now) (trees_of each))) (sym only)
     (call_free c.args.function.now argument c.in_ok-write_value.ensures.checked))
 

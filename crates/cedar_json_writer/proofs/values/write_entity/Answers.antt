@@ -6,5 +6,4 @@ use Rattle.cedar_json_writer.proofs.values.write_entity.Goals as goal
 pub returns-clause-written : goal.returns-clause-written
 returns-clause-written c =
     on_ok c.close_object.result c.close_object.ensures.written
-    (λ ended. uid_added c.args.out.now c.token.new.self c.token-2.new.self c.write_uid.new.out c.close_object.new.out (uid_of c.args.uid.now)
-    c.in_ok-token.ensures.ok c.in_ok-token-2.ensures.ok c.in_ok-write_uid.ensures ended)
+    (uid_added c.args.out.now c.open_with_uid.new.out c.close_object.new.out (uid_of c.args.uid.now) c.in_ok-open_with_uid.ensures)
