@@ -198,17 +198,11 @@ pub attributes_named : (namespace : Option PlainName) (entries : Actions) (ids :
 attributes_named namespace entries ids listed id =
     rw listed (ids_exact namespace entries id)
 
--- where no id is listed, the next action has no attributes
-pub next_has_none : (all left rest : Actions) (ids : List (String Global)) (done : Actions) (entry : String Global × ActionType RawName)
-    → map string_bytes ids ≡ with_attributes all → length ids ≡ 0 → all ≡ done ++ left → left ≡ entry ∷ rest
-    → entry.1.attributes ≡ None
-next_has_none all left rest ids done entry listed none split is =
-    none_listed done entry rest
-    (ap with_attributes (sym (split ∙ ap (λ others. done ++ others) is)) ∙ (sym listed ∙ nothing ids none))
-  where
-    nothing : (each : List (String Global)) → length each ≡ 0 → map string_bytes each ≡ []
-    nothing [] empty = refl
-    nothing (first ∷ rest) empty = absurd (omega (arith, empty))
+-- where none has attributes, the next action has none
+pub next_has_none : (all left rest : Actions) (done : Actions) (entry : String Global × ActionType RawName)
+    → with_attributes all ≡ [] → all ≡ done ++ left → left ≡ entry ∷ rest → entry.1.attributes ≡ None
+next_has_none all left rest done entry none split is =
+    none_listed done entry rest (ap with_attributes (sym (split ∙ ap (λ others. done ++ others) is)) ∙ none)
 
 -- a refusal that names no actions leaves none out
 pub none_named : (bag : Bag) (namespace : Option PlainName) (fault : Fault) → NamesNoAttributes fault → NamesAllWithAttributes bag namespace fault
@@ -255,8 +249,5 @@ no_actions_among namespace common entities it body among is =
     no_entity wrong = cc
 
 -- what the test of whether a list is empty says
-pub empty_by : (ids : Vec (String Global) Global) (test : Bool) → test ≡ (vec_len ids == 0) → test ≡ true → length ids.items ≡ 0
-empty_by ids test is passed = sym ids.ok.0 ∙ (unsigned_Decides (vec_len ids) 0).0 (sym is ∙ passed)
-
 pub nonempty_by : (ids : Vec (String Global) Global) (test : Bool) → test ≡ (vec_len ids == 0) → test ≡ false → length ids.items ≢ 0
 nonempty_by ids test is failed none = false≢true (sym failed ∙ (is ∙ eq-eqb (vec_len ids) 0 (ids.ok.0 ∙ none)))

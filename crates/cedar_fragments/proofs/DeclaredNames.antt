@@ -46,19 +46,19 @@ same_together f g same [] = refl
 same_together f g same (x ∷ xs) = (λ i. same x i ++ same_together f g same xs i)
 
 -- the keys of what is read are read
-keys_read : {P Q : Type 0} (read : Declaration → List (P × Q)) (bag : Bag)
+pub keys_read : {P Q : Type 0} (read : Declaration → List (P × Q)) (bag : Bag)
     → map (λ it. it.0) (flat_map read bag) ≡ flat_map (λ it. map (λ each. each.0) (read it)) bag
 keys_read read [] = refl
 keys_read read (it ∷ bag) = map-append (λ each. each.0) (read it) (flat_map read bag) ∙ ap (λ others. map (λ each. each.0) (read it) ++ others) (keys_read read bag)
 
 -- the names that a declaration gives
-abbrev common_name : Declaration → List PlainName
+abbrev pub common_name : Declaration → List PlainName
 common_name it = map (λ each. each.0) (common_in (declared_name it) it.body)
 
-abbrev entity_name : Declaration → List PlainName
+abbrev pub entity_name : Declaration → List PlainName
 entity_name it = map (λ each. each.0) (entity_in (declared_name it) it.body)
 
-abbrev action_uid : Declaration → List PlainUid
+abbrev pub action_uid : Declaration → List PlainUid
 action_uid it = map (λ each. each.0) (action_in (declared_uid it) it.body)
 
 module _ (N : Type 0) (refer : ReferenceType → N → Reference) (A : Type 0) (refer_action : ReferenceType → A → Reference) where

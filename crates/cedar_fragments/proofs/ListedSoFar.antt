@@ -13,7 +13,7 @@ pub record ListedSoFar {A B C : Type 0} (P : C → Type 0) (f : A → C) (g : B 
   pub each : AllByRecursion P (map f done)
 
 -- what holds of each item, and of one more
-AllByRecursion-push : {C : Type 0} (P : C → Type 0) (xs : List C) (x : C) → AllByRecursion P xs → P x → AllByRecursion P (xs ++ x ∷ [])
+pub AllByRecursion-push : {C : Type 0} (P : C → Type 0) (xs : List C) (x : C) → AllByRecursion P xs → P x → AllByRecursion P (xs ++ x ∷ [])
 AllByRecursion-push P [] x all one = (one, tt)
 AllByRecursion-push P (first ∷ rest) x all one = (all.0, AllByRecursion-push P rest x all.1 one)
 

@@ -12,6 +12,7 @@ use Rattle.std.specs.declared.cmp.Ordering.TheVariants.{Greater}
 use Rattle.cedar_below.proofs.Lists.{Contains-cons}
 use Rattle.cedar_below.proofs.Ordered.{above_front, insert_entry-end}
 use Rattle.cedar_below.specs.Lists.{HoldsPairwise}
+use Rattle.cedar_declarations.proofs.OccurrenceLemmas.{Contains-image}
 
 module _ {A B : Type 0} (R : A → B → Type 0) where
   -- two lists after two others
@@ -53,6 +54,10 @@ module _ {X Y A B : Type 0} (R : A → B → Type 0) (f : X → A) (g : Y → B)
   turn_next all left rest made x is so_far =
       rw (so_far.split, ap (λ others. so_far.done ++ others) is)
       (Contains-append_right so_far.done (x ∷ rest) x (Contains-cons x rest x (inl refl)))
+
+  -- and what it gives is among what all give
+  pub turn_among : (all left rest : List X) (made : List Y) (x : X) → left ≡ x ∷ rest → TurnSoFar R f g all made left → Contains (map f all) (f x)
+  turn_among all left rest made x is so_far = Contains-image f all x (turn_next all left rest made x is so_far)
 
 -- entries of one key whose values are related
 abbrev pub SameKey : {K V W : Type 0} → (V → W → Type 0) → K × V → K × W → Type 0

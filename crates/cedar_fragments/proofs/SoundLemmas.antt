@@ -21,14 +21,14 @@ AllByRecursion-append P [] ys all others = others
 AllByRecursion-append P (first ∷ rest) ys all others = (all.0, AllByRecursion-append P rest ys all.1 others)
 
 -- a declared entity type that is sound
-sound_entity : (bag : Bag) → AllByRecursion IsSound bag → (name : PlainName) (body : EntityBody)
+pub sound_entity : (bag : Bag) → AllByRecursion IsSound bag → (name : PlainName) (body : EntityBody)
     → Contains (declared_entities bag) (name, body) → (¬ IsActionType name) × ¬ Contains name.path reserved_word
 sound_entity bag sound name body among =
     let declared = entity_declaration bag name body among in
     rw (← declared.3) (rw declared.2 at (AllByRecursion-at IsSound bag declared.0 sound declared.1))
 
 -- a declared action that is sound
-sound_action : (bag : Bag) → AllByRecursion IsSound bag → (uid : PlainUid) (body : ActionBody)
+pub sound_action : (bag : Bag) → AllByRecursion IsSound bag → (uid : PlainUid) (body : ActionBody)
     → Contains (declared_actions bag) (uid, body) → ¬ Contains uid.ty.path reserved_word
 sound_action bag sound uid body among =
     let declared = action_declaration bag uid body among in

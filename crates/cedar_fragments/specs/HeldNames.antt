@@ -84,6 +84,15 @@ pub record AreTheDeclaredNames (names : Names) (bag : Bag) : Type 0 where
   pub entities : names.entities ≡ map (λ it. it.0) (declared_entities bag)
   pub actions : names.actions ≡ action_uids bag
 
+-- the names that the declarations of a bag give: of common types, of entity types, and the uids of
+-- actions
+abbrev pub names_given : Bag → Names
+names_given bag = record {
+  common = map (λ it. it.0) (declared_common bag);
+  entities = map (λ it. it.0) (declared_entities bag);
+  actions = action_uids bag;
+}
+
 -- something is there exactly where the fact holds, and it stands for the item
 abbrev pub StandsWhere : {R P : Type 0} → (R → P) → P → Type 0 → Option R → Type 0
 StandsWhere f item fact found = MatchOption found (¬ fact) (λ one. (f one ≡ item) × fact)

@@ -7,7 +7,7 @@ pub use Rattle.cedar_below.specs.declared.internal_name.InternalName.{InternalNa
 pub use Rattle.cedar_below.specs.declared.loc.Loc.{Loc}
 pub use Rattle.cedar_below.specs.declared.name.Name.{Name}
 pub use Rattle.cedar_below.specs.declared.unreserved_id.UnreservedId.{UnreservedId}
-pub use Rattle.cedar_names.specs.Words.{ActionBody, ActionReference, AlikeConditional, AlikeEntity, AlikeFull, Body, Declaration, EntityBody, Expr, LocatesAlike, Locs, Reference, RefersAlike, ShowsSame, action, action_body, action_declarations, applies_to, attribute_locs, attribute_locs_step, common_declarations, common_type, common_type_text, conditional_reference, entity_declarations, entity_type, external, flag_and_expr, member, members_from, name_within, named, names_of, namespace_name, own_reference, parent_action, parent_actions, path_within, positional_attribute, positional_expr, positional_record, positional_reference, positional_variant, possibilities_of, raw_declarations, raw_entity_body, raw_expr, raw_fragment, raw_reference, record_expr, record_locs, record_locs_step, requests_by, set_expr, standard, type_expr, type_locs, type_locs_step, variant_locs, variant_locs_step}
+pub use Rattle.cedar_names.specs.Words.{ActionBody, ActionReference, AlikeConditional, AlikeEntity, AlikeFull, Body, Declaration, EntityBody, Expr, LocatesAlike, Locs, Reference, RefersAlike, ShowsSame, action, action_body, action_declarations, applies_to, attribute_locs, attribute_locs_step, common_declarations, common_type, common_type_text, conditional_reference, entity_declarations, entity_type, external, flag_and_expr, member, members_from, name_within, named, names_of, namespace_name, own_reference, parent_action, parent_actions, path_within, positional_attribute, positional_expr, positional_record, positional_reference, positional_variant, possibilities_of, raw_bag, raw_declarations, raw_entity_body, raw_expr, raw_fragment, raw_reference, record_expr, record_locs, record_locs_step, requests_by, set_expr, standard, type_expr, type_locs, type_locs_step, variant_locs, variant_locs_step}
 pub use Rattle.cedar_names.specs.declared.json_schema.action_type.ActionType.{ActionType}
 pub use Rattle.cedar_names.specs.declared.json_schema.common_type_id.CommonTypeId.{CommonTypeId}
 pub use Rattle.cedar_names.specs.declared.json_schema.conditional_name.ConditionalName.{ConditionalName}
@@ -33,7 +33,7 @@ pub use Rattle.cedar_fragments.specs.FragmentFault.{NamesAllOfADefinition}
 pub use Rattle.cedar_fragments.specs.FragmentLocs.{action_def_locs, action_fragment_locs, actions_locs, common_type_locs, common_types_locs, definition_locs, entity_fragment_locs, entity_type_locs, entity_types_locs, fragment_locs, no_locs, parent_locs, requests_locs, tags_locs}
 pub use Rattle.cedar_fragments.specs.FragmentNamespaces.{fragment_namespaces}
 pub use Rattle.cedar_fragments.specs.GivenCommonTypes.{given_common_type, given_common_types}
-pub use Rattle.cedar_fragments.specs.HeldNames.{AreTheDeclaredNames, HasAlso, HoldsAlso, HoldsJust, StandsWhere, common_type_names, declared_names, definition_names, entity_type_names, fragment_names, held_names, names_of_definitions, uids_of_actions}
+pub use Rattle.cedar_fragments.specs.HeldNames.{AreTheDeclaredNames, HasAlso, HoldsAlso, HoldsJust, StandsWhere, common_type_names, declared_names, definition_names, entity_type_names, fragment_names, held_names, names_given, names_of_definitions, uids_of_actions}
 pub use Rattle.cedar_fragments.specs.Located.{DefinedNamespace, LocatedName, action_defs, common_type_defs, definition_common_names, definition_common_types, definition_loc, definition_name, definition_namespaces, entity_type_defs, entry_common_names, entry_namespaces, fragment_common_names, fragment_definitions, located_common_names, located_name, located_plain_name, named_namespace, named_namespaces, raw_common_names, raw_namespaces, written_common_names}
 pub use Rattle.cedar_fragments.specs.QualifyFault.{HasToResolveFor, HasToResolveIn, IsAnyParent, IsParentIn, IsRequested, IsRequestedIn, IsUnresolvable, IsUnresolvableBag, IsUnresolvableIn, NoneIsReserved}
 pub use Rattle.cedar_fragments.specs.Refused.{IsRefused, IsRefusedAmong}

@@ -8,3 +8,4 @@ mod all_defs;
 mod names;
 mod resolve;
 mod shadowing;
+mod written;

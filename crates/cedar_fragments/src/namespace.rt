@@ -4,13 +4,16 @@
 //! full name of what it names. The parameter `A` is the same of the type of an action's parent.
 
 pub use action_def::ActionDef;
+pub(crate) use actions::{action_uid, refuse_attributes};
 pub use actions::{ActionFragment, ActionParent, ActionRequests, ActionsDef};
 pub use common_types::{CommonTypeDef, CommonTypeDefs};
 pub use declared_names::{ActionNames, CommonTypeNames, EntityTypeNames};
 pub use definition::ValidatorNamespaceDef;
 pub use entity_type_def::EntityTypeDef;
+pub(crate) use entity_types::entity_type_name;
 pub use entity_types::{EntityTypeFragment, EntityTypesDef};
 pub use fragment::ValidatorSchemaFragment;
+pub(crate) use full_name::full_name;
 pub use namespaces::Namespaces;
 
 mod action_def;
@@ -33,3 +36,4 @@ mod qualify_actions;
 mod qualify_definitions;
 mod qualify_entities;
 mod qualify_types;
+mod resolved;

@@ -4,7 +4,7 @@ use Rattle.std.proofs.lemmas.List.{map-append}
 use Rattle.std.proofs.lemmas.List.Elements.{Contains-append_left, Contains-append_right, Contains-append_cases}
 use Rattle.std.specs.List.{filter}
 use Rattle.cedar_below.proofs.Lists.{Contains-preimage}
-use Rattle.cedar_resolution.specs.Words.{AreTheDeclaredNames, Bag, Expr, Extensions, Fault, HasAlso, HoldsJust, IsFault, IsShadowing, Names, NoActionShadows, NoTypeShadows, PlainName, PlainUid, SameItems, Text, action_shadowing, action_uids, alias_name, aliases, built_in_types, built_ins, declared_common, declared_entities, declared_types, defined_names, free_aliases, type_names, type_shadowing}
+use Rattle.cedar_resolution.specs.Words.{AreTheDeclaredNames, Bag, Expr, Extensions, Fault, HasAlso, HoldsJust, IsFault, IsShadowing, Names, NoActionShadows, NoTypeShadows, PlainName, PlainUid, SameItems, Text, action_shadowing, action_uids, alias_name, aliases, built_in_types, built_ins, declared_common, declared_entities, declared_types, defined_names, free_aliases, names_given, type_names, type_shadowing}
 use Rattle.cedar_declarations.proofs.OccurrenceLemmas.{Contains-image}
 use Rattle.cedar_resolution.proofs.TakenNames.{taken_same}
 
@@ -50,17 +50,9 @@ SameItems-image f xs ys same y = (
   image_included f ys xs (λ x. (same x).1) y,
 )
 
--- the names that the declarations of a bag give
-abbrev pub names_in : Bag → Names
-names_in bag = record {
-  common = map (λ it. it.0) (declared_common bag);
-  entities = map (λ it. it.0) (declared_entities bag);
-  actions = action_uids bag;
-}
-
 -- names that are just some others are just those of the bag, where those are
 pub just_declared : (held names : Names) (bag : Bag) → HoldsJust held names → AreTheDeclaredNames names bag
-    → HoldsJust held (names_in bag)
+    → HoldsJust held (names_given bag)
 just_declared held names bag just declared =
     record {
       common = rw declared.common at just.common;
@@ -69,11 +61,11 @@ just_declared held names bag just declared =
           = rw declared.actions at just.actions;
     }
 
-module _ (bag : Bag) (extensions : Extensions) (held : Names) (just : HoldsJust held (names_in bag)) where
+module _ (bag : Bag) (extensions : Extensions) (held : Names) (just : HoldsJust held (names_given bag)) where
   -- the names of types are those that are declared
   same_types : SameItems (type_names held) (declared_types bag)
-  same_types = SameItems-append held.common (names_in bag).common held.entities
-      (names_in bag).entities just.common just.entities
+  same_types = SameItems-append held.common (names_given bag).common held.entities
+      (names_given bag).entities just.common just.entities
 
   -- names that shadow each other are a fault of the bag
   pub shadowing_fault : (fault : Fault) → IsShadowing held fault → IsFault bag extensions fault
@@ -102,7 +94,7 @@ module _ (bag : Bag) (extensions : Extensions) (held : Names) (just : HoldsJust 
       let key = λ (it : PlainName × Expr). it.0 in
       let declared = declared_common bag in
       rw (ap (λ others. map key declared ++ map key others) are, ← map-append key declared (built_ins extensions ++ aliases bag extensions), ap (map key) (sym (append_assoc declared (built_ins extensions) (aliases bag extensions)))) at
-      (also_appended common held.common (map key types) (names_in bag).common (map key types) also just.common
+      (also_appended common held.common (map key types) (names_given bag).common (map key types) also just.common
       (λ name. (λ among. among, λ among. among)))
 
   -- the names of entity types that are held, with those of the types of actions, are those that are defined
@@ -110,7 +102,7 @@ module _ (bag : Bag) (extensions : Extensions) (held : Names) (just : HoldsJust 
       → SameItems entities (defined_names bag extensions).entities
   same_entities entities also =
       let types = λ (uid : PlainUid). uid.ty in
-      also_appended entities held.entities (map types held.actions) (names_in bag).entities (map types (action_uids bag)) also
+      also_appended entities held.entities (map types held.actions) (names_given bag).entities (map types (action_uids bag)) also
       just.entities (SameItems-image types held.actions (action_uids bag) just.actions)
 
   -- the aliases whose names aren't held are those of the bag

@@ -1,11 +1,15 @@
 -- What can't be resolved in the bag of some fragments is a fault of it.
-use Rattle.std.proofs.Common.{◌≡◌, ◌⊎◌, List, ◌++◌, map, Option, Some, None, ap, sym, refl, inl, inr, arith, Contains}
+use Rattle.std.proofs.Common.{◌≡◌, ◌≢◌, ◌⊎◌, List, ◌++◌, ◌∙◌, map, ap, refl, inl, inr, arith, Contains}
 use Rattle.std.proofs.lemmas.List.Elements.{Contains-append_cases}
 use Rattle.cedar_below.proofs.Lists.{Contains-preimage}
-use Rattle.cedar_resolution.specs.Words.{ActionReference, ActionRequests, Bag, Body, ConditionalName, Entity, Extensions, Fault, HoldsJust, IsActionParent, IsAnyParent, IsFault, IsParentIn, IsPrincipalOrResource, IsRequested, IsReserved, IsUnresolvableBag, Names, PlainName, PlainUid, Reference, ResolvesTo, ValidatorNamespaceDef, ValidatorSchemaFragment, action, action_fragment_declarations, action_in, action_not_defined, action_uids, common_type_declarations, conditional_bag, conditional_definition, conditional_fragment, declared_entities, declared_names, declared_uid, defined_names, definition_names, entity_type_declarations, fragment_names, fragment_requests, out_of_memory, positional_reference, reserved_name, type_name, type_not_defined, uid_of}
+use Rattle.cedar_resolution.specs.Words.{ActionBody, ActionReference, Bag, Body, ConditionalName, Declaration, EntityBody, Expr, Extensions, Fault, Fragment, HoldsJust, IsActionParent, IsAnyParent, IsEntityTypePosition, IsFault, IsParentIn, IsRequested, IsRequestedIn, IsReserved, IsSound, IsUnresolvableBag, Names, PlainName, PlainUid, PositionsFit, RawName, Reference, ResolvesTo, ValidatorSchemaFragment, action, action_declarations, action_in, action_not_defined, action_uids, action_word, common_declarations, common_type, conditional_bag, declared_actions, declared_entities, declared_names, declared_uid, defined_names, definition_names, entity_declarations, entity_type, entry_declarations, fragment_names, names_given, out_of_memory, plain_name, positional_reference, raw_bag, raw_fragment, raw_reference, reserved_name, reserved_word, type_name, type_not_defined, uid_of}
 use Rattle.cedar_declarations.proofs.OccurrenceLemmas.{Contains-flat_map, Contains-given}
 use Rattle.cedar_declarations.proofs.ResolutionLemmas.{first_defined, names_no_common}
+use Rattle.std.specs.List.{AllByRecursion}
+use Rattle.std.specs.Option.{option_map}
+use Rattle.cedar_declarations.proofs.DeclarationLemmas.{action_declaration, entity_declaration}
 use Rattle.cedar_fragments.proofs.DeclaredNames.{names_are_declared}
+use Rattle.cedar_fragments.proofs.SoundLemmas.{sound_action, sound_entity}
 use Rattle.cedar_resolution.proofs.SameNames.{unresolved_alike, no_action_alike, defined_there}
 
 -- a parent of some action is one of an action of a uid
@@ -25,116 +29,50 @@ parent_of bag parent found = by found.0.body refl found.2 where
       )
   by _ is none = absurd none
 
--- references that are placed as those to entity types are of that kind
-positional_kind : (names : List ConditionalName) (reference : Reference)
-    → Contains (map (positional_reference Entity) names) reference
-    → reference.kind ≡ Entity
-positional_kind names reference among =
-    let found = Contains-preimage (positional_reference Entity) names reference among in ap (λ
-    (each : Reference). each.kind) (sym found.2)
+-- what is requested stands at the place of an entity type
+placed : (body : Body) (reference : Reference) → IsRequestedIn body reference → IsEntityTypePosition body reference
+placed (action body) reference requested = requested
+placed _ reference requested = absurd requested
 
--- the principals and the resources of requests are references to entity types
-requests_kind : (it : Option (ActionRequests ConditionalName)) (reference : Reference)
-    → IsPrincipalOrResource (fragment_requests ConditionalName positional_reference it) reference → reference.kind ≡ Entity
-requests_kind None reference none = absurd none
-requests_kind (Some it) reference requested = elim requested [
-  | inl here ↦ positional_kind it.principals.items reference here
-  | inr there ↦ positional_kind it.resources.items reference there
-]
-
--- so they are in a definition
-definition_kind : (it : ValidatorNamespaceDef ConditionalName ConditionalName) (reference : Reference)
-    → IsRequested (conditional_definition it) reference → reference.kind ≡ Entity
-definition_kind it reference requested =
-    let common = common_type_declarations ConditionalName positional_reference it.common_types in
-    let entities = entity_type_declarations ConditionalName positional_reference it.entity_types in
-    let actions = action_fragment_declarations ConditionalName positional_reference ConditionalName positional_reference
-    it.actions in
-    let declaration = requested.0 in
-    elim (Contains-append_cases (common ++ entities) actions declaration requested.1) [
-      | inl types ↦ elim (Contains-append_cases common entities declaration types) [
-        | inl here ↦
-            let def = Contains-preimage _ it.common_types.defs.items declaration here in
-            let none : ⊥ = rw (← def.2) at requested.2 in absurd none
-        | inr here ↦
-            let def = Contains-preimage _ it.entity_types.defs.items declaration here in
-            let none : ⊥ = rw (← def.2) at requested.2 in absurd none
-      ]
-      | inr here ↦
-          let def = Contains-preimage _ it.actions.defs.items declaration here in
-          requests_kind def.0.fragment.requests reference (rw (← def.2) at requested.2)
-    ]
-
-module _ (fragments : List (ValidatorSchemaFragment ConditionalName ConditionalName)) where
-  -- and in fragments
-  requested_kind : (reference : Reference) → IsRequested (conditional_bag fragments) reference → reference.kind ≡ Entity
-  requested_kind reference requested =
-      let fragment = Contains-flat_map conditional_fragment fragments requested.0 requested.1 in
-      let definition = Contains-flat_map conditional_definition fragment.0.definitions.items requested.0 fragment.2 in
-      definition_kind definition.0 reference (requested.0, definition.2, requested.2)
-
-  -- no name of an entity type that fragments declare is reserved
-  type_unreserved : (name : PlainName) → Contains (declared_names ConditionalName ConditionalName fragments).entities
-      name → ¬ IsReserved name
-  type_unreserved name among =
-      let fragment = Contains-flat_map (λ each. (fragment_names ConditionalName ConditionalName each).entities)
-      fragments name among in
-      let definition = Contains-flat_map (λ each. (definition_names ConditionalName ConditionalName each).entities)
-      fragment.0.definitions.items name fragment.2 in
-      let def = Contains-preimage (λ each. type_name each.name) definition.0.entity_types.defs.items name definition.2
-      in
-      rw (← def.2) def.0.name.0.unreserved
-
-  -- no type of an action that fragments declare is reserved
-  action_unreserved : (uid : PlainUid) → Contains (declared_names ConditionalName ConditionalName fragments).actions
-      uid → ¬ IsReserved uid.ty
-  action_unreserved uid among =
-      let fragment = Contains-flat_map (λ each. (fragment_names ConditionalName ConditionalName each).actions)
-      fragments uid among in
-      let definition = Contains-flat_map (λ each. (definition_names ConditionalName ConditionalName each).actions)
-      fragment.0.definitions.items uid fragment.2 in
-      let def = Contains-preimage (λ each. uid_of each.uid) definition.0.actions.defs.items uid definition.2 in
-      rw (← def.2) def.0.uid.ty.0.unreserved
-
+-- over a bag whose references fit their positions, and in which no type of entities or actions has a reserved name
+module _ (bag : Bag) (fits : PositionsFit bag)
+    (types : (name : PlainName) → Contains (names_given bag).entities name → ¬ IsReserved name)
+    (actions : (uid : PlainUid) → Contains (names_given bag).actions uid → ¬ IsReserved uid.ty) where
   -- no name of an entity type that is defined is reserved
   entity_unreserved : (extensions : Extensions) (name : PlainName)
-      → Contains (defined_names (conditional_bag fragments) extensions).entities name → ¬ IsReserved name
+      → Contains (defined_names bag extensions).entities name → ¬ IsReserved name
   entity_unreserved extensions name among =
-      let bag = conditional_bag fragments in
-      let are = names_are_declared ConditionalName positional_reference ConditionalName positional_reference fragments in
       elim (Contains-append_cases (map (λ it. it.0) (declared_entities bag)) (map (λ uid. uid.ty)
       (action_uids bag)) name among) [
-        | inl declared ↦ type_unreserved name (rw are.entities declared)
+        | inl declared ↦ types name declared
         | inr of_action ↦
             let uid = Contains-preimage (λ (uid : PlainUid). uid.ty) (action_uids bag) name of_action in
-            rw uid.2 at (action_unreserved uid.0 (rw are.actions uid.1))
+            rw uid.2 at (actions uid.0 uid.1)
       ]
 
-  module _ (extensions : Extensions) (held : Names) (just : HoldsJust held (defined_names
-      (conditional_bag fragments) extensions)) where
+  module _ (extensions : Extensions) (held : Names) (just : HoldsJust held (defined_names bag extensions)) where
     -- no principal and no resource resolves to a reserved name
-    none_reserved : (reference : Reference) (name : PlainName) → IsRequested (conditional_bag fragments) reference
+    none_reserved : (reference : Reference) (name : PlainName) → IsRequested bag reference
         → ResolvesTo held reference name → ¬ IsReserved name
     none_reserved reference name requested resolves =
-        let names = defined_names (conditional_bag fragments) extensions in
+        let kind = fits reference (requested.0, requested.1, placed requested.0.body reference requested.2) in
         let found = (first_defined held reference.kind reference.possibilities name resolves).1 in
-        elim (defined_there held names just reference.kind name found) [
-          | inl common ↦ absurd (names_no_common reference.kind (requested_kind reference requested) common.0)
+        elim (defined_there held (defined_names bag extensions) just reference.kind name found) [
+          | inl common ↦ absurd (names_no_common reference.kind kind common.0)
           | inr entity ↦ entity_unreserved extensions name entity.1
         ]
 
     -- what can't be resolved is a fault of the bag, or memory ran out
-    pub resolution_fault : (fault : Fault) → IsUnresolvableBag held (conditional_bag fragments) fault
-        → (fault ≡ out_of_memory) ⊎ IsFault (conditional_bag fragments) extensions fault
+    pub resolution_fault : (fault : Fault) → IsUnresolvableBag held bag fault
+        → (fault ≡ out_of_memory) ⊎ IsFault bag extensions fault
     resolution_fault (type_not_defined references) unresolvable =
-        let names = defined_names (conditional_bag fragments) extensions in
         inr (
           unresolvable.0,
           λ reference among.
-              let each = unresolvable.1 reference among in (each.0, unresolved_alike held names just reference each.1),
+              let each = unresolvable.1 reference among in
+              (each.0, unresolved_alike held (defined_names bag extensions) just reference each.1),
         )
-    resolution_fault (action_not_defined actions) unresolvable =
-        let bag = conditional_bag fragments in
+    resolution_fault (action_not_defined listed) unresolvable =
         inr (
           unresolvable.0,
           λ carried among.
@@ -144,11 +82,88 @@ module _ (fragments : List (ValidatorSchemaFragment ConditionalName ConditionalN
                 each.0,
                 parent.1,
                 each.2,
-                no_action_alike held (defined_names bag extensions) just each.0
-                    each.3,
+                no_action_alike held (defined_names bag extensions) just each.0 each.3,
               ),
         )
     resolution_fault (reserved_name name) unresolvable =
         absurd (none_reserved unresolvable.0 name unresolvable.1 unresolvable.2 unresolvable.3)
     resolution_fault out_of_memory unresolvable = inl refl
     resolution_fault _ unresolvable = absurd unresolvable
+
+module _ (fragments : List (ValidatorSchemaFragment ConditionalName ConditionalName)) where
+  -- no name of an entity type that fragments over conditional names declare is reserved
+  pub conditional_types : (name : PlainName) → Contains (names_given (conditional_bag fragments)).entities name → ¬ IsReserved name
+  conditional_types name given =
+      let are = names_are_declared ConditionalName positional_reference ConditionalName positional_reference fragments in
+      let among : Contains (declared_names ConditionalName ConditionalName fragments).entities name = rw are.entities given in
+      let fragment = Contains-flat_map (λ each. (fragment_names ConditionalName ConditionalName each).entities)
+      fragments name among in
+      let definition = Contains-flat_map (λ each. (definition_names ConditionalName ConditionalName each).entities)
+      fragment.0.definitions.items name fragment.2 in
+      let def = Contains-preimage (λ each. type_name each.name) definition.0.entity_types.defs.items name definition.2
+      in
+      rw (← def.2) def.0.name.0.unreserved
+
+  -- and no type of their actions
+  pub conditional_actions : (uid : PlainUid) → Contains (names_given (conditional_bag fragments)).actions uid → ¬ IsReserved uid.ty
+  conditional_actions uid given =
+      let are = names_are_declared ConditionalName positional_reference ConditionalName positional_reference fragments in
+      let among : Contains (declared_names ConditionalName ConditionalName fragments).actions uid = rw are.actions given in
+      let fragment = Contains-flat_map (λ each. (fragment_names ConditionalName ConditionalName each).actions)
+      fragments uid among in
+      let definition = Contains-flat_map (λ each. (definition_names ConditionalName ConditionalName each).actions)
+      fragment.0.definitions.items uid fragment.2 in
+      let def = Contains-preimage (λ each. uid_of each.uid) definition.0.actions.defs.items uid definition.2 in
+      rw (← def.2) def.0.uid.ty.0.unreserved
+
+module _ (fragments : List (Fragment RawName)) (sound : AllByRecursion IsSound (raw_bag fragments)) where
+  -- the id of an entity type that is written isn't reserved
+  written_id : (it : Declaration) (body : EntityBody) → Contains (raw_bag fragments) it → it.body ≡ entity_type body → it.id ≢ reserved_word
+  written_id it body among is =
+      let fragment = Contains-flat_map raw_fragment fragments it among in
+      let entry = Contains-flat_map entry_declarations fragment.0.0.entries it fragment.2 in
+      let namespace = option_map plain_name entry.0.0 in
+      let written = entry.0.1 in
+      let common = common_declarations RawName (raw_reference namespace) namespace written.common_types.entries in
+      let entities = entity_declarations RawName (raw_reference namespace) namespace written.entity_types.entries in
+      let others = action_declarations RawName (raw_reference namespace) namespace written.actions.entries in
+      elim (Contains-append_cases (common ++ entities) others it entry.2) [
+        | inl types ↦ elim (Contains-append_cases common entities it types) [
+          | inl here ↦ let found = Contains-preimage _ written.common_types.entries it here in absurd (no_common (ap (λ (each : Declaration). each.body) found.2 ∙ is))
+          | inr here ↦
+              let found = Contains-preimage _ written.entity_types.entries it here in
+              rw (← found.2) found.0.0.unreserved
+        ]
+        | inr here ↦ let found = Contains-preimage _ written.actions.entries it here in absurd (no_action (ap (λ (each : Declaration). each.body) found.2 ∙ is))
+      ]
+    where
+      no_common : {definition : Expr} → ¬ (common_type definition ≡ entity_type body)
+      no_common wrong = cc
+
+      no_action : {declared : ActionBody} → ¬ (action declared ≡ entity_type body)
+      no_action wrong = cc
+
+  -- no name of an entity type that sound fragments as they are written declare is reserved
+  pub written_types : (name : PlainName) → Contains (names_given (raw_bag fragments)).entities name → ¬ IsReserved name
+  written_types name given =
+      let bag = raw_bag fragments in
+      let found = Contains-preimage (λ (it : PlainName × EntityBody). it.0) (declared_entities bag) name given in
+      let declared = entity_declaration bag found.0.0 found.0.1 found.1 in
+      rw (← found.2) (elim [
+        | inl base ↦ written_id declared.0 found.0.1 declared.1 declared.2 (rw (← declared.3) at base)
+        | inr path ↦ (sound_entity bag sound found.0.0 found.0.1 found.1).1 path
+      ])
+
+  -- and no type of their actions
+  pub written_actions : (uid : PlainUid) → Contains (names_given (raw_bag fragments)).actions uid → ¬ IsReserved uid.ty
+  written_actions uid given =
+      let bag = raw_bag fragments in
+      let found = Contains-preimage (λ (it : PlainUid × ActionBody). it.0) (declared_actions bag) uid given in
+      let declared = action_declaration bag found.0.0 found.0.1 found.1 in
+      rw (← found.2) (elim [
+        | inl base ↦ no_word (rw (← declared.3) at base)
+        | inr path ↦ sound_action bag sound found.0.0 found.0.1 found.1 path
+      ])
+    where
+      no_word : action_word ≢ reserved_word
+      no_word wrong = cc

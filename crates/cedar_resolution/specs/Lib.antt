@@ -1,3 +1,4 @@
 pub mod BuiltIn
 pub mod Collected
+pub mod DeclaredJust
 pub mod Words

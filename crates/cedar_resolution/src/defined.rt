@@ -1,14 +1,12 @@
 //! The names that fragments define.
 
 ghost use Rattle.std.specs.Prelude.{◌≡◌, ◌⊎◌, ◌++◌, IfOk, IfErr, OnOk, map};
-ghost use Rattle.cedar_resolution.specs.Words.{HasAlso, HoldsJust, IsFault, PlainName, PlainUid, action_shadowing, aliases, built_ins, collected_common, conditional_bag, defined_names, fault_of, held_names, name_of, out_of_memory, type_shadowing};
+ghost use Rattle.cedar_resolution.specs.Words.{Bag, DeclaresJust, HasAlso, HoldsJust, IsFault, PlainName, PlainUid, action_shadowing, aliases, built_ins, collected_common, defined_names, fault_of, held_names, name_of, out_of_memory, type_shadowing};
 
 use crate::built_in::{CommonType, built_in_common_types};
 use cedar_below::{Extensions, M};
 use cedar_declarations::SchemaError;
 use cedar_fragments::defs::AllDefs;
-use cedar_fragments::namespace::ValidatorSchemaFragment;
-use cedar_names::json_schema::ConditionalName;
 use std::alloc::Global;
 
 /// The same names, and among those of common types also those of some types.
@@ -38,8 +36,8 @@ pub(crate) struct DefinedNames {
     pub(crate) built_in: Vec<CommonType>,
 }
 
-/// All names that fragments define over some extensions, and the common types among them that no
-/// fragment declares.
+/// All names that are defined over some extensions where just these are declared, and the common
+/// types among them that no fragment declares.
 ///
 /// They are refused with one of these kinds:
 ///
@@ -47,24 +45,23 @@ pub(crate) struct DefinedNames {
 /// - `Memory`: memory ran out
 pub(crate) fn defined_names(
     alloc: Global,
-    fragments: &[ValidatorSchemaFragment<ConditionalName, ConditionalName>],
+    declared: AllDefs,
     extensions: &Extensions,
 ) -> Result<DefinedNames, SchemaError>
-    ensures names { IfOk result (λ defined.
-        HoldsJust (held_names defined.defs)
-        (defined_names (conditional_bag fragments.now) extensions.now)) }
-    ensures built_in { IfOk result (λ defined. collected_common defined.built_in.items
-        ≡ built_ins extensions.now ++ aliases (conditional_bag fragments.now) extensions.now) }
-    ensures no_type_shadows { OnOk result ((plain qualified : PlainName)
-        → ¬ IsFault (conditional_bag fragments.now) extensions.now
-        (type_shadowing plain qualified)) }
-    ensures no_action_shadows { OnOk result ((plain qualified : PlainUid)
-        → ¬ IsFault (conditional_bag fragments.now) extensions.now
-        (action_shadowing plain qualified)) }
-    ensures fault { IfErr result (λ error. (fault_of error ≡ out_of_memory)
-        ⊎ IsFault (conditional_bag fragments.now) extensions.now (fault_of error)) }
+    ensures names { IfOk result (λ defined. (bag : Bag) → DeclaresJust bag declared
+        → HoldsJust (held_names defined.defs) (defined_names bag extensions.now)) }
+    ensures built_in { IfOk result (λ defined. (bag : Bag) → DeclaresJust bag declared
+        → collected_common defined.built_in.items
+        ≡ built_ins extensions.now ++ aliases bag extensions.now) }
+    ensures no_type_shadows { OnOk result ((bag : Bag) → DeclaresJust bag declared
+        → (plain qualified : PlainName)
+        → ¬ IsFault bag extensions.now (type_shadowing plain qualified)) }
+    ensures no_action_shadows { OnOk result ((bag : Bag) → DeclaresJust bag declared
+        → (plain qualified : PlainUid)
+        → ¬ IsFault bag extensions.now (action_shadowing plain qualified)) }
+    ensures fault { IfErr result (λ error. (bag : Bag) → DeclaresJust bag declared
+        → (fault_of error ≡ out_of_memory) ⊎ IsFault bag extensions.now (fault_of error)) }
 {
-    let declared = AllDefs::new(alloc, fragments)?;
     declared.rfc_70_shadowing_checks()?;
     let built_in = built_in_common_types(alloc, &declared, extensions)?;
     let defined = with_common_types(declared, &built_in)?;

@@ -8,7 +8,7 @@
 
 pub use collecting::collect_declarations;
 pub use declarations::Declarations;
-pub use resolved::{Resolved, resolve_fragments};
+pub use resolved::{Resolved, resolve_fragments, resolve_written_fragments};
 
 mod built_in;
 mod collecting;

@@ -1,3 +1,4 @@
+mod BuiltOver
 mod ClosedTwice
 mod CollectedBags
 pub mod Comparisons

@@ -29,15 +29,19 @@ pub record Shows (names : List LocatedName) (defined : List DefinedNamespace)
   pub common_types : map shown_name (common_entries it) ≡ map with_base (filter is_shown names)
   pub namespaces : HoldsNamespaces (built_in_namespace ∷ defined) it.namespaces
 
--- what is shown of fragments over conditional names, and where the types of the common types were
--- written
-pub record ShowsFragments (fragments : List
-    (ValidatorSchemaFragment ConditionalName ConditionalName)) (it : Located) : Type 0 where
-  pub shown : Shows (flat_map (fragment_common_names ConditionalName ConditionalName) fragments)
-      (flat_map (named_namespaces ConditionalName ConditionalName) fragments) it
+-- what is shown of fragments over names of some form, and names of the types of actions of another,
+-- and where the types of the common types were written
+pub record AreShown (N A : Type 0) (fragments : List (ValidatorSchemaFragment N A))
+    (it : Located) : Type 0 where
+  pub shown : Shows (flat_map (fragment_common_names N A) fragments)
+      (flat_map (named_namespaces N A) fragments) it
   pub types : map shown_common_type (common_entries it)
-      ≡ common_types_to_show ConditionalName
-      (flat_map (fragment_common_types ConditionalName ConditionalName) fragments)
+      ≡ common_types_to_show N (flat_map (fragment_common_types N A) fragments)
+
+-- what is shown of fragments over conditional names
+abbrev pub ShowsFragments : List (ValidatorSchemaFragment ConditionalName ConditionalName)
+    → Located → Type 0
+ShowsFragments = AreShown ConditionalName ConditionalName
 
 -- what is shown of fragments as they are written
 abbrev pub ShowsWritten : List (Fragment RawName) → Located → Type 0

@@ -34,7 +34,7 @@ pub use Rattle.cedar_schema_writer.specs.Words.{AreProper, Refuses}
 pub use Rattle.cedar_elaboration.specs.Words.{AreElaborated, AreTypesOf, CommonTypesAreSound, Covers, elaborated_types, set_names}
 pub use Rattle.cedar_elaboration.specs.declared.type_scope.TypeScope.{TypeScope}
 pub use Rattle.cedar_builder.specs.Words.{ActionsAreSound, AreActionsOf, AreDeclaredActions, AreDeclaredEntityTypes, EntityTypesAreSound, IsReady}
-pub use Rattle.cedar_schema.specs.Located.{Shows, ShowsFragments, ShowsWritten, common_entries, namespace_entries}
+pub use Rattle.cedar_schema.specs.Located.{AreShown, Shows, ShowsFragments, ShowsWritten, common_entries, namespace_entries}
 pub use Rattle.cedar_schema.specs.LocatedType.{loc_at, type_at}
 pub use Rattle.cedar_schema.specs.ResolvedBag.{IsResolvedOver}
 pub use Rattle.cedar_schema.specs.SchemaKeys.{AreKeysLocated}

@@ -34,7 +34,7 @@ pub(crate) struct SchemaParts {
 
 /// What fragments over full names declare, where the names of entity types are these, and so are
 /// the built-in types and their aliases.
-fn build_resolved(
+pub(crate) fn build_resolved(
     alloc: Global,
     fragments: Vec<ValidatorSchemaFragment<InternalName, EntityType>>,
     defs: &AllDefs,

@@ -2,7 +2,7 @@
 
 ghost use Rattle.std.specs.Prelude.{◌≡◌, [], IfOk, map};
 ghost use Rattle.std.specs.Slice.Iter.{iter_rest};
-ghost use Rattle.cedar_schema.specs.Words.{ShowsFragments, common_entries, namespace_entries, shown_common_type, shown_entry};
+ghost use Rattle.cedar_schema.specs.Words.{AreShown, common_entries, namespace_entries, shown_common_type, shown_entry};
 
 use crate::common_types::located_common_types;
 use crate::iterators::Namespaces;
@@ -11,7 +11,6 @@ use crate::located_namespace::LocatedNamespace;
 use crate::namespaces::{NamespacesByName, located_namespaces};
 use cedar_below::{InternalName, M, copied_entries, copied_items};
 use cedar_fragments::namespace::ValidatorSchemaFragment;
-use cedar_names::json_schema::ConditionalName;
 use std::alloc::Global;
 use std::collections::BTreeMap;
 use std::slice;
@@ -76,11 +75,8 @@ impl Located {
 /// Its common types are those whose declaration has a location and whose base name is none of
 /// `Bool`, `Long` and `String`, in order. Its namespaces are those of the definitions, the empty
 /// one left out, and `__cedar`, where the built-in types are. Out of memory is the only refusal.
-pub fn located_in(
-    alloc: Global,
-    fragments: &[ValidatorSchemaFragment<ConditionalName, ConditionalName>],
-) -> M<Located>
-    ensures { IfOk result (ShowsFragments fragments.now) }
+pub fn located_in<N, A>(alloc: Global, fragments: &[ValidatorSchemaFragment<N, A>]) -> M<Located>
+    ensures { IfOk result (AreShown N A fragments.now) }
 {
     Ok(Located {
         common_types: located_common_types(alloc, fragments)?,

@@ -4,13 +4,11 @@ ghost use Rattle.std.specs.Prelude.{◌≡◌, ◌++◌, IfOk, map};
 ghost use Rattle.std.specs.List.{flat_map, list_any};
 ghost use Rattle.std.specs.Str.{bytes_eq};
 ghost use Rattle.cedar_schema.specs.Words.{common_types_to_show, definition_common_types, fragment_common_types, is_shown, located_name, primitive_words, shown_common_type};
-ghost use Rattle.cedar_names.specs.declared.json_schema.conditional_name.ConditionalName.{ConditionalName as Conditional};
 
 use crate::located_common_type::LocatedCommonType;
 use crate::type_locations::type_loc;
 use cedar_below::{InternalName, M};
 use cedar_fragments::namespace::{CommonTypeDef, ValidatorNamespaceDef, ValidatorSchemaFragment};
-use cedar_names::json_schema::ConditionalName;
 use std::alloc::Global;
 
 /// Whether a text is the name of a primitive type.
@@ -29,13 +27,13 @@ fn is_to_be_shown(name: &InternalName) -> bool
 }
 
 /// The common types, and then also those of a definition that are shown.
-fn with_common_types(
+fn with_common_types<N>(
     alloc: Global,
     shown: Vec<LocatedCommonType>,
-    defs: &[CommonTypeDef<ConditionalName>],
+    defs: &[CommonTypeDef<N>],
 ) -> M<Vec<LocatedCommonType>>
     ensures { IfOk result (λ it. map shown_common_type it.items
-        ≡ map shown_common_type shown.items ++ common_types_to_show Conditional defs.now) }
+        ≡ map shown_common_type shown.items ++ common_types_to_show N defs.now) }
 {
     let mut shown = shown;
     for def in defs {
@@ -47,14 +45,14 @@ fn with_common_types(
 }
 
 /// The common types, and then also those of some definitions that are shown.
-fn with_definitions(
+fn with_definitions<N, A>(
     alloc: Global,
     shown: Vec<LocatedCommonType>,
-    definitions: &[ValidatorNamespaceDef<ConditionalName, ConditionalName>],
+    definitions: &[ValidatorNamespaceDef<N, A>],
 ) -> M<Vec<LocatedCommonType>>
     ensures { IfOk result (λ it. map shown_common_type it.items ≡ map shown_common_type shown.items
-        ++ common_types_to_show Conditional
-        (flat_map (definition_common_types Conditional Conditional) definitions.now)) }
+        ++ common_types_to_show N
+        (flat_map (definition_common_types N A) definitions.now)) }
 {
     let mut shown = shown;
     for definition in definitions {
@@ -64,13 +62,13 @@ fn with_definitions(
 }
 
 /// The common types of fragments that are shown, in order.
-pub(crate) fn located_common_types(
+pub(crate) fn located_common_types<N, A>(
     alloc: Global,
-    fragments: &[ValidatorSchemaFragment<ConditionalName, ConditionalName>],
+    fragments: &[ValidatorSchemaFragment<N, A>],
 ) -> M<Vec<LocatedCommonType>>
     ensures { IfOk result (λ it. map shown_common_type it.items
-        ≡ common_types_to_show Conditional
-        (flat_map (fragment_common_types Conditional Conditional) fragments.now)) }
+        ≡ common_types_to_show N
+        (flat_map (fragment_common_types N A) fragments.now)) }
 {
     let mut shown = Vec::new(alloc);
     for fragment in fragments {

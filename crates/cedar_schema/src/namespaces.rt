@@ -3,12 +3,10 @@
 ghost use Rattle.std.specs.Prelude.{◌≡◌, ◌∷◌, ◌++◌, [], IfOk, List, None};
 ghost use Rattle.std.specs.List.{flat_map};
 ghost use Rattle.cedar_schema.specs.Words.{DefinedNamespace, HoldsNamespaces, built_in_namespace, definition_namespaces, name_loc, name_of, name_text, named_namespaces, reserved_word, shown_namespace};
-ghost use Rattle.cedar_names.specs.declared.json_schema.conditional_name.ConditionalName.{ConditionalName as Conditional};
 
 use crate::located_namespace::LocatedNamespace;
 use cedar_below::{Id, InternalName, Loc, M};
 use cedar_fragments::namespace::{ValidatorNamespaceDef, ValidatorSchemaFragment};
-use cedar_names::json_schema::ConditionalName;
 use std::alloc::Global;
 use std::collections::BTreeMap;
 
@@ -36,15 +34,15 @@ fn located_namespace(
 }
 
 /// The namespaces, and the one of a definition in the place of an earlier one of its name.
-fn with_namespace(
+fn with_namespace<N, A>(
     alloc: Global,
     namespaces: NamespacesByName,
-    definition: &ValidatorNamespaceDef<ConditionalName, ConditionalName>,
+    definition: &ValidatorNamespaceDef<N, A>,
 ) -> M<NamespacesByName>
     ensures { IfOk result (λ it. (defined : List DefinedNamespace)
         → HoldsNamespaces defined namespaces
         → HoldsNamespaces
-        (defined ++ definition_namespaces Conditional Conditional definition.now) it) }
+        (defined ++ definition_namespaces N A definition.now) it) }
 {
     let Some(name) = definition.namespace() else {
         return Ok(namespaces);
@@ -56,15 +54,15 @@ fn with_namespace(
 }
 
 /// The namespaces, and those of some definitions in the place of earlier ones of their names.
-fn with_definitions(
+fn with_definitions<N, A>(
     alloc: Global,
     namespaces: NamespacesByName,
-    definitions: &[ValidatorNamespaceDef<ConditionalName, ConditionalName>],
+    definitions: &[ValidatorNamespaceDef<N, A>],
 ) -> M<NamespacesByName>
     ensures { IfOk result (λ it. (defined : List DefinedNamespace)
         → HoldsNamespaces defined namespaces
         → HoldsNamespaces (defined ++ flat_map
-        (definition_namespaces Conditional Conditional) definitions.now) it) }
+        (definition_namespaces N A) definitions.now) it) }
 {
     let mut namespaces = namespaces;
     for definition in definitions {
@@ -96,12 +94,12 @@ fn built_in_namespaces(alloc: Global) -> M<NamespacesByName>
 }
 
 /// The namespaces of fragments that have a name, and that of the built-in types.
-pub(crate) fn located_namespaces(
+pub(crate) fn located_namespaces<N, A>(
     alloc: Global,
-    fragments: &[ValidatorSchemaFragment<ConditionalName, ConditionalName>],
+    fragments: &[ValidatorSchemaFragment<N, A>],
 ) -> M<NamespacesByName>
     ensures { IfOk result (HoldsNamespaces
-        (built_in_namespace ∷ flat_map (named_namespaces Conditional Conditional) fragments.now)) }
+        (built_in_namespace ∷ flat_map (named_namespaces N A) fragments.now)) }
 {
     let mut namespaces = built_in_namespaces(alloc)?;
     for fragment in fragments {

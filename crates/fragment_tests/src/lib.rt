@@ -32,3 +32,5 @@ mod shadowing;
 mod shown;
 #[cfg(test)]
 mod types;
+#[cfg(test)]
+mod written;

@@ -12,7 +12,10 @@ use std::alloc::Global;
 use std::test::Fail;
 
 /// What resolved fragments are shown as, or why they are refused.
-fn shown(alloc: Global, resolved: Result<Resolved, SchemaError>) -> Result<String, Fail> {
+pub(crate) fn shown_or_refused(
+    alloc: Global,
+    resolved: Result<Resolved, SchemaError>,
+) -> Result<String, Fail> {
     match resolved {
         Ok(resolved) => Ok(format!(in alloc; "{:?}", resolved.fragments)?),
         Err(error) => Ok(refusal_text(alloc, error)?),
@@ -20,10 +23,10 @@ fn shown(alloc: Global, resolved: Result<Resolved, SchemaError>) -> Result<Strin
 }
 
 /// What becomes of the fragments of some texts.
-fn outcome(alloc: Global, texts: &[&str]) -> Result<String, Fail> {
+pub(crate) fn outcome(alloc: Global, texts: &[&str]) -> Result<String, Fail> {
     let extensions = sample_extensions(alloc)?;
     let fragments = fragments_of(alloc, texts)?;
-    shown(alloc, resolve_fragments(alloc, fragments, &extensions))
+    shown_or_refused(alloc, resolve_fragments(alloc, fragments, &extensions))
 }
 
 /// What stands before and after the name of an entity type that an attribute is of.
@@ -55,7 +58,7 @@ const EXTERNAL: (&str, &str) = (
 );
 
 /// Fragments, each with a place of a name in what they become, and the name that is there.
-const SETTLED: &[(&[&str], (&str, &str), &str)] = &[
+pub(crate) const SETTLED: &[(&[&str], (&str, &str), &str)] = &[
     (&[": entity T", "N: entity U {a@3: e:T@2}"], ATTRIBUTE, "T"),
     (
         &["N: entity T", "N: entity U {a@3: e:T@2}"],
@@ -125,7 +128,7 @@ fn names_are_those_of_what_is_declared(rt: HostRuntime) -> Result<(), Fail> {
 }
 
 /// Fragments, each with the refusal of resolving them.
-const REFUSED: &[(&[&str], &str)] = &[
+pub(crate) const REFUSED: &[(&[&str], &str)] = &[
     (
         &["N: entity T", "N::M: entity U {a@3: e:T@2}"],
         "no entity type is declared as N::M::T or T",

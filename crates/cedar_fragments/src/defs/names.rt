@@ -13,7 +13,7 @@ use std::alloc::Global;
 use std::collections::BTreeSet;
 
 /// Adds a name to some, or leaves them as they are and runs out of memory.
-fn add_name(names: &mut BTreeSet<InternalName>, name: InternalName) -> M<()>
+pub(crate) fn add_name(names: &mut BTreeSet<InternalName>, name: InternalName) -> M<()>
     ensures added { OnOk result (HasAlso (map name_of names.new.keys) (map name_of names.old.keys)
         (name_of name ∷ [])) }
     ensures refused { OnErr result (names.new.keys ≡ names.old.keys) }
@@ -23,7 +23,7 @@ fn add_name(names: &mut BTreeSet<InternalName>, name: InternalName) -> M<()>
 }
 
 /// Adds a uid to some, or leaves them as they are and runs out of memory.
-fn add_uid(uids: &mut BTreeSet<EntityUID>, uid: EntityUID) -> M<()>
+pub(crate) fn add_uid(uids: &mut BTreeSet<EntityUID>, uid: EntityUID) -> M<()>
     ensures added { OnOk result (HasAlso (map uid_of uids.new.keys) (map uid_of uids.old.keys)
         (uid_of uid ∷ [])) }
     ensures refused { OnErr result (uids.new.keys ≡ uids.old.keys) }
@@ -166,7 +166,7 @@ impl AllDefs {
     }
 
     /// No names.
-    fn none(alloc: Global) -> Self
+    pub(crate) fn none(alloc: Global) -> Self
         ensures common { (held_names result).common ≡ [] }
         ensures entities { (held_names result).entities ≡ [] }
         ensures actions { (held_names result).actions ≡ [] }

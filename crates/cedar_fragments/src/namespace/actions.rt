@@ -1,7 +1,7 @@
 //! The actions of a namespace.
 
-ghost use Rattle.std.specs.Prelude.{◌≡◌, ◌⊎◌, IfOk, IfErr, OnOk, map, Contains, string_bytes, []};
-ghost use Rattle.cedar_fragments.specs.Words.{IsDefinitionFault, IsSound, NamesAllWithAttributes, Reference, ReferenceType, action_body, action_declarations, action_defs, action_fragment_body, action_fragment_declarations, action_word, applies_to, fault_of, fragment_parent, fragment_requests, id_text, name_within, namespace_name, out_of_memory, parent_action, parent_actions, path_within, positional_reference, raw_reference, reserved_name, reserved_word, text_cmp, uid_of, with_attributes};
+ghost use Rattle.std.specs.Prelude.{◌≡◌, ◌⊎◌, IfOk, IfErr, OnOk, map, Contains, string_bytes, [], Option};
+ghost use Rattle.cedar_fragments.specs.Words.{IsDefinitionFault, IsSound, NamesAllWithAttributes, PlainName, Reference, ReferenceType, action_body, action_declarations, action_defs, action_fragment_body, action_fragment_declarations, action_word, applies_to, fault_of, fragment_parent, fragment_requests, id_text, name_within, namespace_name, out_of_memory, parent_action, parent_actions, path_within, positional_reference, raw_reference, reserved_name, reserved_word, text_cmp, uid_of, with_attributes};
 ghost use Rattle.std.specs.List.{AllByRecursion};
 ghost use Rattle.std.specs.Slice.Iter.{iter_rest};
 ghost use Rattle.std.specs.List.Sorted.{IsStrictlySortedBy};
@@ -226,7 +226,7 @@ impl ActionFragment<ConditionalName, ConditionalName> {
 }
 
 /// The uid of an action that is declared in a namespace, which must not be reserved. It is shared.
-fn action_uid(
+pub(crate) fn action_uid(
     alloc: Global,
     namespace: Option<&InternalName>,
     id: String,
@@ -268,6 +268,28 @@ fn actions_with_attributes(
     Ok(ids)
 }
 
+/// Refuses actions that are written with attributes, with all of them.
+pub(crate) fn refuse_attributes(
+    alloc: Global,
+    written: &BTreeMap<String, ActionType<RawName>>,
+) -> Result<(), SchemaError>
+    ensures none { OnOk result (with_attributes written.now.entries ≡ []) }
+    ensures fault { IfErr result (λ error. (namespace : Option PlainName)
+        → (fault_of error ≡ out_of_memory)
+        ⊎ IsDefinitionFault (action_declarations Raw (raw_reference namespace) namespace
+        written.now.entries) (fault_of error)) }
+    ensures all_named { IfErr result (λ error. (namespace : Option PlainName)
+        → NamesAllWithAttributes (action_declarations Raw (raw_reference namespace) namespace
+        written.now.entries) namespace (fault_of error)) }
+{
+    let ids = actions_with_attributes(alloc, written)?;
+    if !ids.is_empty() {
+        let feature = UnsupportedFeature::ActionAttributes(ids);
+        return Err(SchemaError::UnsupportedFeature(feature));
+    }
+    Ok(())
+}
+
 impl ActionsDef<ConditionalName, ConditionalName> {
     /// The actions that are written in a namespace.
     pub(crate) fn from_raw_actions(
@@ -292,11 +314,7 @@ impl ActionsDef<ConditionalName, ConditionalName> {
             (namespace_name namespace.entry) written.entries)
             (namespace_name namespace.entry) (fault_of error)) }
     {
-        let ids = actions_with_attributes(alloc, &written)?;
-        if !ids.is_empty() {
-            let feature = UnsupportedFeature::ActionAttributes(ids);
-            return Err(SchemaError::UnsupportedFeature(feature));
-        }
+        refuse_attributes(alloc, &written)?;
         let mut defs = Vec::new(alloc);
         for (id, declared) in written {
             let uid = action_uid(alloc, namespace, id, declared.defn_loc)?;

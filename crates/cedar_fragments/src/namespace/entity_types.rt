@@ -174,7 +174,7 @@ impl EntityTypeFragment<ConditionalName> {
 
 /// The full name of an entity type that is declared in a namespace, which must be neither reserved
 /// nor that of actions' types.
-fn entity_type_name(
+pub(crate) fn entity_type_name(
     alloc: Global,
     namespace: Option<&InternalName>,
     id: UnreservedId,

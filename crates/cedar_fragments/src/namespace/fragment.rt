@@ -19,7 +19,7 @@ pub struct ValidatorSchemaFragment<N, A> {
 }
 
 /// The name of a namespace, which may be the empty one.
-fn internal_namespace(namespace: Option<Name>) -> Option<InternalName>
+pub(crate) fn internal_namespace(namespace: Option<Name>) -> Option<InternalName>
     ensures name { option_map name_of result ≡ option_map plain_name namespace }
     ensures located { option_map located_name result ≡ option_map located_plain_name namespace }
 {

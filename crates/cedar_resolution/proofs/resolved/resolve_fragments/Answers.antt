@@ -1,58 +1,63 @@
-use Rattle.std.proofs.Common.{◌≡◌, ◌⊎◌, ◌++◌, List, subst}
-use Rattle.cedar_resolution.specs.Words.{AllDefs, ConditionalName, Extensions, Fault, HoldsJust, IsFault, ValidatorSchemaFragment, aliases, built_ins, collected_common, conditional_bag, defined_names, fault_of, held_names, out_of_memory, resolved_fragment}
-use Rattle.cedar_resolution.proofs.SameNames.{bag_alike}
-use Rattle.cedar_resolution.proofs.ResolutionFaults.{resolution_fault}
-use Rattle.cedar_resolution.proofs.resolved.resolve_fragments.Goals as goal
-use Rattle.cedar_fragments.proofs.FragmentLemmas.{exit_holds}
+use Rattle.std.proofs.Common.{List, refl}
 use Rattle.std.specs.List.{flat_map}
+use Rattle.cedar_fragments.proofs.DeclaredNames.{names_are_declared}
+use Rattle.cedar_fragments.proofs.FragmentLemmas.{exit_holds}
+use Rattle.cedar_fragments.proofs.PlacedFragments.{fragments_fit}
+use Rattle.cedar_resolution.specs.Words.{AllDefs, ConditionalName, DeclaresJust, HoldsJust, ValidatorSchemaFragment, conditional_bag, declared_names, defined_names, held_names, positional_reference, resolved_fragment}
+use Rattle.cedar_resolution.proofs.DefinedNames.{just_declared}
+use Rattle.cedar_resolution.proofs.ResolutionFaults.{conditional_actions, conditional_types, resolution_fault}
+use Rattle.cedar_resolution.proofs.SameNames.{bag_alike}
+use Rattle.cedar_resolution.proofs.resolved.resolve_fragments.Goals as goal
 
--- fragments over conditional names
-abbrev Fragments : Type 0
-Fragments = List (ValidatorSchemaFragment ConditionalName ConditionalName)
-
--- the names are just those that the fragments define
-abbrev Defines : AllDefs → Extensions → Fragments → Type 0
-Defines defs extensions fragments = HoldsJust (held_names defs) (defined_names (conditional_bag fragments) extensions)
-
--- the refusal is that memory ran out, or names a fault of the fragments' bag
-abbrev Refuses : Extensions → Fault → Fragments → Type 0
-Refuses extensions fault fragments = (fault ≡ out_of_memory) ⊎ IsFault (conditional_bag fragments) extensions fault
+-- the names that fragments declare are those of their bag
+declared_just : (fragments : List (ValidatorSchemaFragment ConditionalName ConditionalName)) (defs : AllDefs)
+    → HoldsJust (held_names defs) (declared_names ConditionalName ConditionalName fragments)
+    → DeclaresJust (conditional_bag fragments) defs
+declared_just fragments defs just =
+    just_declared (held_names defs) (declared_names ConditionalName ConditionalName fragments)
+    (conditional_bag fragments) just
+    (names_are_declared ConditionalName positional_reference ConditionalName positional_reference fragments)
 
 pub returns-in_err-defs-clause-fault : goal.returns-in_err-defs-clause-fault
 returns-in_err-defs-clause-fault c =
-    exit_holds _ _ _ c.from_residual.ensures.1 (rw c.deref.ensures.value at c.in_err-defs.ensures.fault)
+    exit_holds _ _ _ c.from_residual-in_err-defs.ensures.1
+    (c.in_err-defs.ensures.fault (conditional_bag c.args.fragments.items)
+    (declared_just c.args.fragments.items c.in_ok-declared.declared (rw c.deref.ensures.value at c.in_ok-declared.ensures)))
 
 pub returns-in_err-fragments-clause-fault : goal.returns-in_err-fragments-clause-fault
 returns-in_err-fragments-clause-fault c =
-    let found = fault_of c.in_err-fragments.field-0.0 in
-    let DefinesAll : Fragments → Type 0 = Defines c.in_ok-defs.field-0.defs c.args.extensions.now in
+    let fragments = c.args.fragments.items in
+    let just = declared_just fragments c.in_ok-declared.declared (rw c.deref.ensures.value at c.in_ok-declared.ensures) in
     exit_holds _ _ _ c.from_residual-in_err-fragments.ensures.1
-    (resolution_fault c.args.fragments.items c.args.extensions.now (held_names c.in_ok-defs.field-0.defs)
-    (subst DefinesAll c.deref.ensures.value c.in_ok-defs.ensures.names) found c.in_err-fragments.ensures.fault)
+    (resolution_fault (conditional_bag fragments)
+    (fragments_fit ConditionalName positional_reference (λ name. refl) ConditionalName positional_reference fragments)
+    (conditional_types fragments) (conditional_actions fragments) c.args.extensions.now (held_names c.in_ok-defs.field-0.defs)
+    (c.in_ok-defs.ensures.names (conditional_bag fragments) just) _ c.in_err-fragments.ensures.fault)
 
 pub returns-clause-resolved : goal.returns-clause-resolved
 returns-clause-resolved c =
     let bag = conditional_bag c.args.fragments.items in
-    let DefinesAll : Fragments → Type 0 = Defines c.in_ok-defs.field-0.defs c.args.extensions.now in
+    let just = declared_just c.args.fragments.items c.in_ok-declared.declared (rw c.deref.ensures.value at c.in_ok-declared.ensures) in
     bag_alike (held_names c.in_ok-defs.field-0.defs) (defined_names bag c.args.extensions.now)
-    (subst DefinesAll c.deref.ensures.value c.in_ok-defs.ensures.names) bag
+    (c.in_ok-defs.ensures.names bag just) bag
     (flat_map resolved_fragment c.in_ok-fragments.fragments.items) c.in_ok-fragments.ensures.resolved
 
 pub returns-clause-names : goal.returns-clause-names
 returns-clause-names c =
-    let DefinesAll : Fragments → Type 0 = Defines c.in_ok-defs.field-0.defs c.args.extensions.now in
-    subst DefinesAll c.deref.ensures.value c.in_ok-defs.ensures.names
+    c.in_ok-defs.ensures.names (conditional_bag c.args.fragments.items)
+    (declared_just c.args.fragments.items c.in_ok-declared.declared (rw c.deref.ensures.value at c.in_ok-declared.ensures))
 
 pub returns-clause-built_in : goal.returns-clause-built_in
 returns-clause-built_in c =
-    let HoldsCommon : Fragments → Type 0 = λ fragments. collected_common c.in_ok-defs.field-0.built_in.items
-    ≡ built_ins c.args.extensions.now ++ aliases (conditional_bag fragments) c.args.extensions.now in
-    subst HoldsCommon c.deref.ensures.value c.in_ok-defs.ensures.built_in
+    c.in_ok-defs.ensures.built_in (conditional_bag c.args.fragments.items)
+    (declared_just c.args.fragments.items c.in_ok-declared.declared (rw c.deref.ensures.value at c.in_ok-declared.ensures))
 
 pub returns-clause-no_type_shadows : goal.returns-clause-no_type_shadows
 returns-clause-no_type_shadows c =
-    rw c.deref.ensures.value at c.in_ok-defs.ensures.no_type_shadows
+    c.in_ok-defs.ensures.no_type_shadows (conditional_bag c.args.fragments.items)
+    (declared_just c.args.fragments.items c.in_ok-declared.declared (rw c.deref.ensures.value at c.in_ok-declared.ensures))
 
 pub returns-clause-no_action_shadows : goal.returns-clause-no_action_shadows
 returns-clause-no_action_shadows c =
-    rw c.deref.ensures.value at c.in_ok-defs.ensures.no_action_shadows
+    c.in_ok-defs.ensures.no_action_shadows (conditional_bag c.args.fragments.items)
+    (declared_just c.args.fragments.items c.in_ok-declared.declared (rw c.deref.ensures.value at c.in_ok-declared.ensures))

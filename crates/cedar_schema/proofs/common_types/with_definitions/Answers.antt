@@ -1,25 +1,25 @@
 use Rattle.std.proofs.Common.{◌++◌, List, ap, map, sym, ◌∙◌}
-use Rattle.cedar_schema.specs.Words.{ConditionalName, ShownCommonType, ValidatorNamespaceDef, common_types_to_show, definition_common_types, shown_common_type}
+use Rattle.cedar_schema.specs.Words.{ShownCommonType, ValidatorNamespaceDef, common_types_to_show, definition_common_types, shown_common_type}
 use Rattle.cedar_schema.proofs.InOrder.{flat_map_next, flat_map_whole}
 use Rattle.cedar_schema.proofs.ShownLemmas.{to_show-flat}
 use Rattle.cedar_schema.proofs.common_types.with_definitions.Goals as goal
 
 pub loop-definition-preserved : goal.loop-definition-preserved
-loop-definition-preserved c =
-    let f : ValidatorNamespaceDef ConditionalName ConditionalName → List ShownCommonType = λ definition.
-    common_types_to_show ConditionalName (definition_common_types ConditionalName ConditionalName definition) in
+loop-definition-preserved g c =
+    let f : ValidatorNamespaceDef g.row.N.Denot g.row.A.Denot → List ShownCommonType = λ definition.
+    common_types_to_show g.row.N.Denot (definition_common_types g.row.N.Denot g.row.A.Denot definition) in
     let before = map shown_common_type c.args.shown.items in
     c.in_ok-shown.ensures
-    ∙ ((λ i. c.loop-definition.invariant i ++ common_types_to_show ConditionalName (c.common_types.ensures i))
+    ∙ ((λ i. c.loop-definition.invariant i ++ common_types_to_show g.row.N.Denot (c.common_types.ensures i))
     ∙ flat_map_next f before c.args.definitions.now c.loop-definition.definition-index c.definition-item.result
     c.loop-definition-test.true c.definition-item.is)
 
 pub returns : goal.returns
-returns c =
-    let f : ValidatorNamespaceDef ConditionalName ConditionalName → List ShownCommonType = λ definition.
-    common_types_to_show ConditionalName (definition_common_types ConditionalName ConditionalName definition) in
+returns g c =
+    let f : ValidatorNamespaceDef g.row.N.Denot g.row.A.Denot → List ShownCommonType = λ definition.
+    common_types_to_show g.row.N.Denot (definition_common_types g.row.N.Denot g.row.A.Denot definition) in
     let before = map shown_common_type c.args.shown.items in
     c.loop-definition.invariant
     ∙ (flat_map_whole f before c.args.definitions.now c.loop-definition.definition-index c.loop-definition-test.false
     ∙ ap (λ more. before ++ more)
-    (sym (to_show-flat ConditionalName (definition_common_types ConditionalName ConditionalName) c.args.definitions.now)))
+    (sym (to_show-flat g.row.N.Denot (definition_common_types g.row.N.Denot g.row.A.Denot) c.args.definitions.now)))

@@ -1,10 +1,10 @@
 use Rattle.std.proofs.Common.{◌++◌, List, take}
 use Rattle.std.specs.List.{flat_map}
-use Rattle.cedar_schema.specs.Words.{ConditionalName, DefinedNamespace, HoldsNamespaces, definition_namespaces}
+use Rattle.cedar_schema.specs.Words.{DefinedNamespace, HoldsNamespaces, definition_namespaces}
 use Rattle.cedar_schema.proofs.namespaces.with_definitions.Given as goal
 
 abbrev pub invariant-loop-definition : goal.invariant-loop-definition
-invariant-loop-definition l =
+invariant-loop-definition g l =
     (defined : List DefinedNamespace) → HoldsNamespaces defined l.fn.namespaces
-    → HoldsNamespaces (defined ++ flat_map (definition_namespaces ConditionalName ConditionalName) (take l.definition-index l.definitions))
+    → HoldsNamespaces (defined ++ flat_map (definition_namespaces g.row.N.Denot g.row.A.Denot) (take l.definition-index l.definitions))
     l.namespaces

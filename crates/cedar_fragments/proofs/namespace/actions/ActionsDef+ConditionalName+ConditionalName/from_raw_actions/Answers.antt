@@ -1,6 +1,6 @@
 use Rattle.std.proofs.Common.{sym, ap, string_bytes}
 use Rattle.std.specs.Option.{is_some}
-use Rattle.cedar_fragments.proofs.AttributeLemmas.{empty_by, nonempty_by, attributes_fault, attributes_named, next_has_none}
+use Rattle.cedar_fragments.proofs.AttributeLemmas.{next_has_none}
 use Rattle.cedar_fragments.proofs.DeclaredAsLemmas.{declared_action-within}
 use Rattle.cedar_fragments.proofs.ListedSoFar.{ListedSoFar-none, ListedSoFar-more, listed_next}
 use Rattle.cedar_fragments.proofs.SoundLemmas.{fault_of_action}
@@ -8,17 +8,17 @@ use Rattle.cedar_fragments.specs.Words.{RawName, action, action_body, action_dec
 use Rattle.cedar_fragments.proofs.FragmentLemmas.{exit_holds}
 use Rattle.cedar_fragments.proofs.namespace.actions.ActionsDef+ConditionalName+ConditionalName.from_raw_actions.Goals as goal
 
--- the listed actions have attributes, which is a fault
-pub returns-then-not-is_empty-clause-fault : goal.returns-then-not-is_empty-clause-fault
-returns-then-not-is_empty-clause-fault c =
-    let some = nonempty_by c.in_ok-ids.ids c.is_empty.result c.is_empty.ensures c.if-not-is_empty.true in
-    attributes_fault (namespace_name c.args.namespace) c.args.written.entries c.in_ok-ids.ids.items
-    c.in_ok-ids.ensures.listed c.in_ok-ids.ensures.in_order some
+-- actions with attributes are a fault
+pub returns-in_err-refuse_attributes-clause-fault : goal.returns-in_err-refuse_attributes-clause-fault
+returns-in_err-refuse_attributes-clause-fault c =
+    exit_holds _ _ _ c.from_residual.ensures.1
+    (c.in_err-refuse_attributes.ensures.fault (namespace_name c.args.namespace))
 
 -- all that have attributes are named
-pub returns-then-not-is_empty-clause-all_named : goal.returns-then-not-is_empty-clause-all_named
-returns-then-not-is_empty-clause-all_named c =
-    attributes_named (namespace_name c.args.namespace) c.args.written.entries c.in_ok-ids.ids.items c.in_ok-ids.ensures.listed
+pub returns-in_err-refuse_attributes-clause-all_named : goal.returns-in_err-refuse_attributes-clause-all_named
+returns-in_err-refuse_attributes-clause-all_named c =
+    exit_holds _ _ _ c.from_residual.ensures.1
+    (c.in_err-refuse_attributes.ensures.all_named (namespace_name c.args.namespace))
 
 -- at first no action is converted
 pub loop-id-init : goal.loop-id-init
@@ -39,17 +39,15 @@ returns-in_err-uid-clause-fault c =
 -- no action has attributes, as none was listed
 pub from_raw_action-requires : goal.from_raw_action-requires
 from_raw_action-requires c =
-    let none = empty_by c.in_ok-ids.ids c.is_empty.result c.is_empty.ensures c.if-not-is_empty.false in
-    next_has_none c.args.written.entries c.loop-id.id-iterator c.next.new.self c.in_ok-ids.ids.items c.loop-id.invariant.done
-    (c.in-Some.id, c.in-Some.declared) c.in_ok-ids.ensures.listed none c.loop-id.invariant.split c.in-Some.ensures.steps
+    next_has_none c.args.written.entries c.loop-id.id-iterator c.next.new.self c.loop-id.invariant.done
+    (c.in-Some.id, c.in-Some.declared) c.in_ok-refuse_attributes.ensures.none c.loop-id.invariant.split c.in-Some.ensures.steps
 
 -- one more action is converted, and it is sound
 pub loop-id-preserved : goal.loop-id-preserved
 loop-id-preserved c =
     let namespace = namespace_name c.args.namespace in
-    let none = empty_by c.in_ok-ids.ids c.is_empty.result c.is_empty.ensures c.if-not-is_empty.false in
-    let lacks = next_has_none c.args.written.entries c.loop-id.id-iterator c.next.new.self c.in_ok-ids.ids.items c.loop-id.invariant.done
-    (c.in-Some.id, c.in-Some.declared) c.in_ok-ids.ensures.listed none c.loop-id.invariant.split c.in-Some.ensures.steps in
+    let lacks = next_has_none c.args.written.entries c.loop-id.id-iterator c.next.new.self c.loop-id.invariant.done
+    (c.in-Some.id, c.in-Some.declared) c.in_ok-refuse_attributes.ensures.none c.loop-id.invariant.split c.in-Some.ensures.steps in
     ListedSoFar-more _ _ _ _ _ c.next.new.self _ _ (c.in-Some.id, c.in-Some.declared) _ c.in-Some.ensures.steps
     c.in_ok-push.ensures.items
     (declared_action-within namespace (string_bytes c.in-Some.id)

@@ -1,0 +1,7 @@
+use Rattle.cedar_declarations.specs.Words.{Bag}
+use Rattle.cedar_fragments.specs.Words.{HoldsJust, held_names, names_given}
+use Rattle.cedar_fragments.specs.declared.defs.all_defs.AllDefs.{AllDefs}
+
+-- the names are just those that the declarations of the bag give
+abbrev pub DeclaresJust : Bag → AllDefs → Type 0
+DeclaresJust bag declared = HoldsJust (held_names declared) (names_given bag)
