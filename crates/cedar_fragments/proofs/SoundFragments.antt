@@ -1,11 +1,19 @@
 -- What fragments declare gives no cause for the refusal of a definition.
-use Rattle.std.proofs.Common.{List, [], ◌∷◌, map, sym, subst, refl, inr, Contains}
+use Rattle.std.proofs.Common.{◌≡◌, ◌∙◌, List, [], ◌∷◌, map, sym, subst, refl, inr, Contains}
 use Rattle.std.specs.List.{AllByRecursion, flat_map}
 use Rattle.cedar_below.proofs.ValueLemmas.{IsName-type_name}
-use Rattle.cedar_fragments.specs.Words.{ActionDef, EntityTypeDef, HasNoDefinitionFault, IsActionType, IsSound, PlainName, PlainUid, Reference, ReferenceType, ValidatorNamespaceDef, ValidatorSchemaFragment, action, action_fragment_body, action_fragment_declaration, action_fragment_declarations, common_type_declaration, common_type_declarations, definition_declarations, entity_type, entity_type_declaration, entity_type_declarations, fragment_body, fragment_declarations, reserved_word, type_name, uid_of}
+use Rattle.cedar_fragments.specs.Words.{ActionDef, Bag, Body, Declaration, EntityTypeDef, GivesNoCause, HasNoDefinitionFault, IsActionType, IsSound, Names, PlainName, PlainUid, Reference, ReferenceType, ResolvesBag, ResolvesBody, ValidatorNamespaceDef, ValidatorSchemaFragment, action, action_fragment_body, action_fragment_declaration, action_fragment_declarations, action_word, common_type, common_type_declaration, common_type_declarations, declared_name, declared_uid, definition_declarations, entity_type, entity_type_declaration, entity_type_declarations, fragment_body, fragment_declarations, name_within, reserved_word, type_name, uid_of}
 use Rattle.cedar_fragments.proofs.DeclaredNames.{name_declared, uid_declared}
 use Rattle.cedar_fragments.proofs.FragmentLemmas.{flat_map-each}
 use Rattle.cedar_fragments.proofs.SoundLemmas.{AllByRecursion-append, sound_bag}
+
+-- the name is no type of actions, and isn't reserved
+abbrev IsSoundName : PlainName → Type 0
+IsSoundName name = (¬ IsActionType name) × ¬ Contains name.path reserved_word
+
+-- the name of the uid's type isn't reserved
+abbrev IsSoundUid : PlainUid → Type 0
+IsSoundUid uid = ¬ Contains uid.ty.path reserved_word
 
 -- what holds of all images holds of those of a list
 all_images : {X C : Type 0} (P : C → Type 0) (f : X → C) → ((x : X) → P (f x)) → (xs : List X) → AllByRecursion P (map f xs)
@@ -16,18 +24,16 @@ module _ (N : Type 0) (refer : ReferenceType → N → Reference) (A : Type 0) (
   -- an entity type of a definition is no type of actions, and its name isn't reserved
   entity_sound : (def : EntityTypeDef N) → IsSound (entity_type_declaration N refer def)
   entity_sound def =
-      let IsSoundName : PlainName → Type 0 = λ name. (¬ IsActionType name) × ¬ Contains name.path reserved_word in
       subst IsSoundName (sym (name_declared (type_name def.name) (entity_type (fragment_body N refer def.fragment))))
       (def.no_action, λ among. (IsName-type_name def.name).2 (inr among))
 
   -- an action of a definition has no attributes, and the name of its type isn't reserved
   action_sound : (def : ActionDef N A) → IsSound (action_fragment_declaration N refer A refer_action def)
-  action_sound def =
-      let IsSoundUid : PlainUid → Type 0 = λ uid. ¬ Contains uid.ty.path reserved_word in (
-        refl,
-        subst IsSoundUid (sym (uid_declared (uid_of def.uid) (action (action_fragment_body N refer A refer_action def.fragment)) def.is_action))
-            (λ among. (IsName-type_name def.uid.ty).2 (inr among)),
-      )
+  action_sound def = (
+    refl,
+    subst IsSoundUid (sym (uid_declared (uid_of def.uid) (action (action_fragment_body N refer A refer_action def.fragment)) def.is_action))
+        (λ among. (IsName-type_name def.uid.ty).2 (inr among)),
+  )
 
   -- a definition gives no cause
   definition_sound : (it : ValidatorNamespaceDef N A) → AllByRecursion IsSound (definition_declarations N refer A refer_action it)
@@ -39,7 +45,7 @@ module _ (N : Type 0) (refer : ReferenceType → N → Reference) (A : Type 0) (
       (all_images IsSound (action_fragment_declaration N refer A refer_action) action_sound it.actions.defs.items)
 
   -- a fragment gives no cause
-  fragment_sound : (it : ValidatorSchemaFragment N A) → AllByRecursion IsSound (fragment_declarations N refer A refer_action it)
+  pub fragment_sound : (it : ValidatorSchemaFragment N A) → AllByRecursion IsSound (fragment_declarations N refer A refer_action it)
   fragment_sound it =
       flat_map-each (definition_declarations N refer A refer_action) IsSound it.definitions.items
       (all_images (AllByRecursion IsSound) (definition_declarations N refer A refer_action) definition_sound it.definitions.items)
@@ -55,3 +61,27 @@ module _ (N : Type 0) (refer : ReferenceType → N → Reference) (A : Type 0) (
   pub fragments_have_no_fault : (fragments : List (ValidatorSchemaFragment N A))
       → HasNoDefinitionFault (flat_map (fragment_declarations N refer A refer_action) fragments)
   fragments_have_no_fault fragments = sound_bag _ (fragments_sound fragments)
+
+module _ (names : Names) where
+  -- a declaration gives no cause where what it is resolved to gives none
+  declaration_sound : (it other : Declaration) (body resolved : Body) → it.namespace ≡ other.namespace → it.id ≡ other.id
+      → ResolvesBody names body resolved → GivesNoCause other resolved → GivesNoCause it body
+  declaration_sound it other (common_type definition) (common_type resolved) namespace id resolves sound = tt
+  declaration_sound it other (entity_type body) (entity_type resolved) namespace id resolves sound =
+      let same : declared_name it ≡ declared_name other = (λ i. name_within (namespace i) (id i)) in
+      subst IsSoundName (sym same) sound
+  declaration_sound it other (action body) (action resolved) namespace id resolves sound =
+      let same : declared_uid it ≡ declared_uid other =
+      (λ i. record { ty = name_within (namespace i) action_word; eid = id i }) in
+      (resolves.0 ∙ sound.0, subst IsSoundUid (sym same) sound.1)
+  declaration_sound it other _ _ namespace id resolves sound = absurd resolves
+
+  -- so a bag gives none where the one that it is resolved to gives none
+  pub resolved_sound : (bag resolved : Bag) → ResolvesBag names bag resolved → AllByRecursion IsSound resolved
+      → AllByRecursion IsSound bag
+  resolved_sound [] [] turn sound = tt
+  resolved_sound (it ∷ bag) (other ∷ others) turn sound = (
+    declaration_sound it other it.body other.body turn.0.namespace turn.0.id turn.0.body sound.0,
+    resolved_sound bag others turn.1 sound.1,
+  )
+  resolved_sound _ _ turn sound = absurd turn

@@ -1,10 +1,11 @@
 //! What is written becomes what is declared over full names, one declaration after another.
 
 ghost use Rattle.std.specs.Prelude.{◌≡◌, ◌⊎◌, ◌∷◌, [], IfErr, IfOk, OnOk};
+ghost use Rattle.std.specs.List.{AllByRecursion};
 ghost use Rattle.std.specs.Option.{option_map};
 ghost use Rattle.cedar_below.specs.declared.entity_type.EntityType.{EntityType as ActionEntityType};
 ghost use Rattle.cedar_below.specs.declared.internal_name.InternalName.{InternalName as Full};
-ghost use Rattle.cedar_fragments.specs.Words.{HasToResolve, IsDefinitionFault, IsRefusedAmong, IsRequested, IsUnresolvableBag, NamesAllOfADefinition, NamesAllWithAttributes, NamesNoAttributes, NoneIsReserved, ResolvesBag, action_declarations, action_fragment_declarations, common_declarations, common_type_declarations, common_type_defs, definition_common_names, definition_loc, definition_name, entity_declarations, entity_type_declarations, fault_of, fragment_common_names, held_names, located_common_names, located_name, name_of, named_namespaces, namespace_name, raw_common_names, raw_declarations, raw_fragment, raw_namespaces, raw_reference, resolved_action_type, resolved_definition, resolved_fragment, resolved_reference, written_common_names};
+ghost use Rattle.cedar_fragments.specs.Words.{HasNoDefinitionFault, HasToResolve, IsDefinitionFault, IsRefusedAmong, IsRequested, IsSound, IsUnresolvableBag, NamesAllOfADefinition, NamesAllWithAttributes, NamesNoAttributes, NoneIsReserved, ResolvesBag, action_declarations, action_fragment_declarations, common_declarations, common_type_declarations, common_type_defs, definition_common_names, definition_loc, definition_name, entity_declarations, entity_type_declarations, fault_of, fragment_common_names, held_names, located_common_names, located_name, name_of, named_namespaces, namespace_name, raw_common_names, raw_declarations, raw_fragment, raw_namespaces, raw_reference, resolved_action_type, resolved_definition, resolved_fragment, resolved_reference, written_common_names};
 ghost use Rattle.cedar_names.specs.declared.json_schema.raw_name.RawName.{RawName as Raw};
 
 use crate::defs::AllDefs;
@@ -44,7 +45,7 @@ impl CommonTypeDefs<InternalName> {
             (HasToResolve (common_declarations Raw (raw_reference (namespace_name namespace.entry))
             (namespace_name namespace.entry) written.entries))) }
     {
-        let mut defs = Vec::new(all_defs.alloc);
+        let mut defs = Vec::with_capacity(all_defs.alloc, written.len())?;
         for (id, common) in written {
             let CommonType { ty, loc } = common;
             let name = full_name(all_defs.alloc, namespace, id.into_id().into_id(), loc)?;
@@ -78,7 +79,7 @@ impl EntityTypesDef<InternalName> {
         ensures no_actions { IfErr result (λ error. NamesNoAttributes (fault_of error)) }
     {
         let alloc = all_defs.alloc;
-        let mut defs = Vec::new(alloc);
+        let mut defs = Vec::with_capacity(alloc, written.len())?;
         for (id, declared) in written {
             let name = entity_type_name(alloc, namespace, id, declared.loc)?;
             let fragment = EntityTypeFragment::from_raw_entity_type(alloc, namespace, declared)?;
@@ -119,7 +120,7 @@ impl ActionsDef<InternalName, EntityType> {
     {
         let alloc = all_defs.alloc;
         refuse_attributes(alloc, &written)?;
-        let mut defs = Vec::new(alloc);
+        let mut defs = Vec::with_capacity(alloc, written.len())?;
         for (id, declared) in written {
             let uid = action_uid(alloc, namespace, id, declared.defn_loc)?;
             let fragment = ActionFragment::from_raw_action(alloc, namespace, declared)?;
@@ -202,6 +203,8 @@ impl ValidatorSchemaFragment<InternalName, EntityType> {
             fragment_common_names Full ActionEntityType it ≡ raw_common_names fragment) }
         ensures namespaces { IfOk result (λ it.
             named_namespaces Full ActionEntityType it ≡ raw_namespaces fragment) }
+        ensures sound { OnOk result (AllByRecursion IsSound (raw_fragment fragment)) }
+        ensures no_fault { OnOk result (HasNoDefinitionFault (raw_fragment fragment)) }
         ensures fault { IfErr result (λ error.
             IsUnresolvableBag (held_names all_defs.now) (raw_fragment fragment) (fault_of error)
             ⊎ IsDefinitionFault (raw_fragment fragment) (fault_of error)) }

@@ -12,7 +12,7 @@ returns-in_err-name-clause-fault c =
     let namespace = namespace_name c.args.namespace in
     let bag = entity_declarations RawName (raw_reference namespace) namespace c.args.written.entries in
     let among = turn_among _ _ _ _ _ c.next.new.self _ (c.in-Some.id, c.in-Some.declared) c.in-Some.ensures.steps c.loop-id.invariant in
-    exit_holds _ _ _ c.from_residual.ensures.1
+    exit_holds _ _ _ c.from_residual-in_err-name.ensures.1
     (memory_or_definition (held_names c.args.all_defs.now) bag _
     (fault_of_entity bag namespace (unreserved_id_text c.in-Some.id) (raw_entity_body namespace c.in-Some.declared) _ among
     c.in_err-name.ensures.fault))

@@ -1,13 +1,15 @@
 use Rattle.std.proofs.Common.{◌≡◌, ◌∙◌, [], ◌∷◌, Option, ap, inl, refl}
-use Rattle.std.specs.List.{flat_map}
+use Rattle.std.specs.List.{AllByRecursion, flat_map}
 use Rattle.cedar_below.proofs.Lists.{Contains-cons}
-use Rattle.cedar_fragments.specs.Words.{EntityType, InternalName, Name, NamespaceDefinition, RawName, definition_common_names, definition_namespaces, entry_common_names, entry_declarations, entry_namespaces, fault_of, held_names, named_namespace, raw_fragment, resolved_definition, written_common_names}
+use Rattle.cedar_fragments.specs.Words.{EntityType, InternalName, IsSound, Name, NamespaceDefinition, RawName, definition_common_names, definition_namespaces, entry_common_names, entry_declarations, entry_namespaces, fault_of, held_names, named_namespace, raw_fragment, resolved_action_type, resolved_definition, resolved_reference, written_common_names}
 use Rattle.cedar_fragments.proofs.FragmentLemmas.{exit_holds, flat_map-included}
 use Rattle.cedar_fragments.proofs.NamedOfDefinition.{named_of_definition}
 use Rattle.cedar_fragments.proofs.OneMore.{flat_one_more}
 use Rattle.cedar_fragments.proofs.Pairwise.{turn_all, turn_more, turn_next}
 use Rattle.cedar_fragments.proofs.ResolvedBags.{ResolvesUnreservedBag, resolved_together}
 use Rattle.cedar_fragments.proofs.ResolvedWithin.{written_included}
+use Rattle.cedar_fragments.proofs.SoundFragments.{fragment_sound, resolved_sound}
+use Rattle.cedar_fragments.proofs.SoundLemmas.{sound_bag}
 use Rattle.cedar_fragments.proofs.namespace.resolved.ValidatorSchemaFragment+InternalName+EntityType.from_written.Goals as goal
 
 -- the fault of a definition is one of the fragment
@@ -66,3 +68,17 @@ returns-clause-resolved c = (whole c).0
 -- and refers to nothing that is reserved
 pub returns-clause-unreserved : goal.returns-clause-unreserved
 returns-clause-unreserved c = (whole c).1
+
+-- what is declared gives no cause for the refusal of a definition, since what it is resolved to gives none
+gives_none : (c : goal.After-drop-name-iterator-2) → AllByRecursion IsSound (raw_fragment c.args.fragment)
+gives_none c =
+    resolved_sound (held_names c.args.all_defs.now) _ _ (whole c).0
+    (fragment_sound InternalName resolved_reference EntityType resolved_action_type (record { definitions = c.loop-name.definitions }))
+
+-- so it is sound
+pub returns-clause-sound : goal.returns-clause-sound
+returns-clause-sound c = gives_none c
+
+-- and has no fault of a definition
+pub returns-clause-no_fault : goal.returns-clause-no_fault
+returns-clause-no_fault c = sound_bag _ (gives_none c)
