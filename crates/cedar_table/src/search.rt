@@ -31,7 +31,9 @@ fn hinted_place<K: Ord + Hash, V>(entries: &[(K, V)], hints: &Hints, key: &K) ->
     }
 }
 
-/// The place of a key, by halving.
+/// The place of a key, by halving. It is kept out of look-ups that a hint settles.
+#[cold]
+#[inline(never)]
 fn halved_place<K: Ord, V>(entries: &[(K, V)], key: &K) -> Option<usize>
     requires { IsStrictlySortedBy K.cmp (keys_of entries.now) }
     ensures found { IfSome result (StandsAt K.cmp entries.now key.now) }
