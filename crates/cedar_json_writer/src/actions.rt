@@ -1,8 +1,8 @@
 //! Declarations of actions that are written.
 
-ghost use Rattle.std.specs.Prelude.{Some, OnOk, codes, map, option_map};
+ghost use Rattle.std.specs.Prelude.{OnOk, codes, map, option_map};
 ghost use Rattle.json.specs.Json.{string};
-ghost use Rattle.cedar_json_writer.specs.Words.{AddsField, AddsValue, IfThere, IsChecked, SoundAction, SoundPairs, SoundRequests, action_document, action_flaws, flaws_in, name_text, pairs_document, pairs_flaws, parent_array, parent_document, raw_name, requests_document, requests_flaws, written_action, written_pairs, written_parent, written_requests};
+ghost use Rattle.cedar_json_writer.specs.Words.{AddsField, AddsValue, IfThere, IsChecked, SoundAction, SoundPairs, SoundRequests, WrittenAction, action_document, action_flaws, flaws_in, name_text, pairs_document, pairs_flaws, parent_array, parent_document, raw_name, requests_document, requests_flaws, written_action, written_pairs, written_parent, written_requests};
 
 use crate::entity_types::write_shape_field;
 use crate::fault::WriteFault;
@@ -11,6 +11,7 @@ use crate::fields::{
     write_text_field,
 };
 use crate::values::write_attribute_values;
+use crate::written::Written;
 use cedar_below::{M, Value};
 use cedar_names::json_schema::{ActionEntityUID, ActionType, ApplySpec, RawName};
 use json::{Pretty, Token};
@@ -101,21 +102,23 @@ fn write_attributes_field(
     write_attribute_values(alloc, out, "attributes", values)
 }
 
-/// Writes the field of an action, under its id.
-pub(crate) fn write_action(
-    alloc: Global,
-    out: &mut Pretty,
-    id: &str,
-    it: &ActionType<RawName>,
-) -> Result<(), WriteFault>
-    ensures written { OnOk result (AddsField out.old out.new id.now
-        (Some (action_document (written_action it.now)))) }
-    ensures checked { IsChecked result (action_flaws (written_action it.now))
-        (SoundAction (written_action it.now)) }
-{
-    open_object(out, id)?;
-    write_applies_to_field(alloc, out, &it.applies_to)?;
-    write_member_of_field(alloc, out, &it.member_of)?;
-    write_attributes_field(alloc, out, &it.attributes)?;
-    close_with_flag(out, "external", false, it.external)
+impl Written for ActionType<RawName> {
+    ghost Plain = { WrittenAction };
+
+    ghost document = { action_document };
+
+    ghost flaws = { action_flaws };
+
+    ghost Sound = { SoundAction };
+
+    ghost shown = { written_action };
+
+    /// Writes the object of an action.
+    fn write(&self, alloc: Global, out: &mut Pretty) -> Result<(), WriteFault> {
+        out.token(Token::BeginObject)?;
+        write_applies_to_field(alloc, out, &self.applies_to)?;
+        write_member_of_field(alloc, out, &self.member_of)?;
+        write_attributes_field(alloc, out, &self.attributes)?;
+        close_with_flag(out, "external", false, self.external)
+    }
 }

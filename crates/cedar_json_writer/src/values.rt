@@ -4,10 +4,11 @@ ghost use Rattle.std.specs.Prelude.{◌≡◌, ◌++◌, ◌∷◌, [], Some, tr
 ghost use Rattle.std.specs.Fmt.{signed_decimal};
 ghost use Rattle.json.specs.Json.{number};
 ghost use Rattle.json.specs.Token.{begin_object, end_object};
-ghost use Rattle.cedar_json_writer.specs.Words.{AddsField, AddsValue, IsChecked, SoundPairs, SoundValue, call_opening, call_value, entries_of, flaw_of, is_among, is_long, key_flaws, map_value, name_text, pairs_document, pairs_flaws, plain_name, set_value, tree_of, trees_of, uid_document, uid_of, uid_value, value_document, value_flaws, value_keys, written_pairs};
+ghost use Rattle.cedar_json_writer.specs.Words.{AddsField, AddsValue, IsChecked, SoundPairs, SoundValue, Tree, call_opening, call_value, entries_of, flaw_of, is_among, is_long, key_flaws, map_value, name_text, pairs_document, pairs_flaws, plain_name, set_value, tree_of, trees_of, uid_document, uid_of, uid_value, value_document, value_expr, value_flaws, value_keys, written_pairs};
 
 use crate::fault::{Unwritable, WriteFault};
 use crate::fields::{close_object, open_object, write_name, write_name_field, write_text_field};
+use crate::written::{Written, write_field};
 use cedar_below::{EntityUID, M, Name, RestrictedExpr, Value};
 use json::{Pretty, Token};
 use std::alloc::Global;
@@ -194,6 +195,23 @@ fn write_call(
     close_call(out)
 }
 
+impl Written for Value {
+    ghost Plain = { Tree };
+
+    ghost document = { value_document };
+
+    ghost flaws = { value_flaws };
+
+    ghost Sound = { SoundValue };
+
+    ghost shown = { λ value. tree_of (value_expr value) };
+
+    /// Writes the value.
+    fn write(&self, alloc: Global, out: &mut Pretty) -> Result<(), WriteFault> {
+        write_value(alloc, out, self.expr())
+    }
+}
+
 /// Writes a field that holds values, each under its text.
 pub(crate) fn write_attribute_values(
     alloc: Global,
@@ -206,10 +224,5 @@ pub(crate) fn write_attribute_values(
     ensures checked { IsChecked result (pairs_flaws (written_pairs values.now))
         (SoundPairs (written_pairs values.now)) }
 {
-    open_object(out, field)?;
-    for (name, value) in values {
-        out.token(Token::Key(name.as_str()))?;
-        write_value(alloc, out, value.expr())?;
-    }
-    close_object(out)
+    write_field(alloc, out, field, values)
 }
