@@ -10,10 +10,10 @@ use crate::fault::WriteFault;
 use crate::fields::close_object;
 use crate::types::write_type;
 use crate::written::{Key, Written, write_field};
-use cedar_below::{M, Name, UnreservedId};
+use cedar_below::{Name, UnreservedId};
 use cedar_names::json_schema::{CommonType, CommonTypeId, NamespaceDefinition, RawName};
 use json::{Pretty, Token};
-use std::alloc::Global;
+use std::alloc::{AllocError, Global};
 use std::collections::BTreeMap;
 
 impl Key for CommonTypeId {
@@ -28,9 +28,8 @@ impl Key for CommonTypeId {
     ghost same_order = { λ a b. refl };
 
     /// Writes the id of a common type as a key.
-    fn write_key(&self, _alloc: Global, out: &mut Pretty) -> M<()> {
-        out.token(Token::Key(self.as_str()))?;
-        Ok(())
+    fn write_key(&self, _alloc: Global, out: &mut Pretty) -> Result<(), AllocError> {
+        out.token(Token::Key(self.as_str()))
     }
 }
 
@@ -46,9 +45,8 @@ impl Key for UnreservedId {
     ghost same_order = { λ a b. refl };
 
     /// Writes the id of an entity type as a key.
-    fn write_key(&self, _alloc: Global, out: &mut Pretty) -> M<()> {
-        out.token(Token::Key(self.as_str()))?;
-        Ok(())
+    fn write_key(&self, _alloc: Global, out: &mut Pretty) -> Result<(), AllocError> {
+        out.token(Token::Key(self.as_str()))
     }
 }
 
@@ -64,9 +62,8 @@ impl Key for String {
     ghost same_order = { λ a b. refl };
 
     /// Writes the id of an action or the name of an attribute as a key.
-    fn write_key(&self, _alloc: Global, out: &mut Pretty) -> M<()> {
-        out.token(Token::Key(self.as_str()))?;
-        Ok(())
+    fn write_key(&self, _alloc: Global, out: &mut Pretty) -> Result<(), AllocError> {
+        out.token(Token::Key(self.as_str()))
     }
 }
 
@@ -82,7 +79,7 @@ impl Key for Option<Name> {
     ghost same_order = { namespace_order };
 
     /// Writes a namespace as a key.
-    fn write_key(&self, alloc: Global, out: &mut Pretty) -> M<()> {
+    fn write_key(&self, alloc: Global, out: &mut Pretty) -> Result<(), AllocError> {
         match self {
             Some(name) => {
                 let text = name.to_string(alloc)?;

@@ -9,9 +9,8 @@ ghost use Rattle.cedar_json_writer.specs.Words.{AddsField, AddsValue, Flaw, IsCh
 
 use crate::fault::WriteFault;
 use crate::fields::close_object;
-use cedar_below::M;
 use json::{Pretty, Token};
-use std::alloc::Global;
+use std::alloc::{AllocError, Global};
 use std::collections::BTreeMap;
 
 /// What is written as a JSON value.
@@ -49,7 +48,7 @@ pub(crate) trait Key: Ord {
     ghost shown_key: { Self → PlainKey };
 
     /// Writes the key.
-    fn write_key(&self, alloc: Global, out: &mut Pretty) -> M<()>
+    fn write_key(&self, alloc: Global, out: &mut Pretty) -> Result<(), AllocError>
         ensures { OnOk result (out.new ≡ out.old ++ key (text (shown_key self.now)) ∷ []) };
 
     ghost same_order: { (a b : Self) → Self.cmp a b ≡ order (shown_key a) (shown_key b) };
