@@ -12,14 +12,18 @@ use crate::fields::{
 };
 use crate::values::write_attribute_values;
 use crate::written::Written;
-use cedar_below::{M, Value};
+use cedar_below::Value;
 use cedar_names::json_schema::{ActionEntityUID, ActionType, ApplySpec, RawName};
 use json::{Pretty, Token};
-use std::alloc::Global;
+use std::alloc::{AllocError, Global};
 use std::collections::BTreeMap;
 
 /// Writes the field for the type of a parent, where one is written.
-fn write_parent_type(alloc: Global, out: &mut Pretty, ty: &Option<RawName>) -> M<()>
+fn write_parent_type(
+    alloc: Global,
+    out: &mut Pretty,
+    ty: &Option<RawName>,
+) -> Result<(), AllocError>
     ensures { OnOk result (AddsField out.old out.new (codes "type")
         (option_map (λ name. string (name_text (raw_name name))) ty.now)) }
 {
@@ -30,14 +34,17 @@ fn write_parent_type(alloc: Global, out: &mut Pretty, ty: &Option<RawName>) -> M
 }
 
 /// Writes the object of a parent.
-fn write_parent(alloc: Global, out: &mut Pretty, it: &ActionEntityUID<RawName>) -> M<()>
+fn write_parent(
+    alloc: Global,
+    out: &mut Pretty,
+    it: &ActionEntityUID<RawName>,
+) -> Result<(), AllocError>
     ensures { OnOk result (AddsValue out.old out.new (parent_document (written_parent it.now))) }
 {
     out.token(Token::BeginObject)?;
     write_text_field(out, "id", it.id.as_str())?;
     write_parent_type(alloc, out, &it.ty)?;
-    out.token(Token::EndObject)?;
-    Ok(())
+    out.token(Token::EndObject)
 }
 
 /// Writes the field for parents, where some are written.
@@ -45,7 +52,7 @@ fn write_member_of_field(
     alloc: Global,
     out: &mut Pretty,
     member_of: &Option<Vec<ActionEntityUID<RawName>>>,
-) -> M<()>
+) -> Result<(), AllocError>
     ensures { OnOk result (AddsField out.old out.new (codes "memberOf")
         (option_map parent_array
         (option_map (λ parents. map written_parent parents.items) member_of.now))) }
@@ -58,8 +65,7 @@ fn write_member_of_field(
     for parent in parents {
         write_parent(alloc, out, parent)?;
     }
-    out.token(Token::EndArray)?;
-    Ok(())
+    out.token(Token::EndArray)
 }
 
 /// Writes the field for the requests that an action is for, where they are written.

@@ -8,12 +8,11 @@ use crate::fault::WriteFault;
 use crate::fields::{close_with_flag, write_ids, write_names_field};
 use crate::types::write_type;
 use crate::written::Written;
-use cedar_below::M;
 use cedar_names::json_schema::{
     EntityType, EntityTypeKind, RawName, StandardEntityType, Type, TypeVariant,
 };
 use json::{Pretty, Token};
-use std::alloc::Global;
+use std::alloc::{AllocError, Global};
 
 /// Whether a type variant is the closed record without attributes.
 fn is_empty_variant(ty: &TypeVariant<RawName>) -> bool
@@ -61,7 +60,11 @@ pub(crate) fn write_shape_field(
 }
 
 /// Writes the field for parents, where there are some.
-fn write_parents_field(alloc: Global, out: &mut Pretty, parents: &Vec<RawName>) -> M<()>
+fn write_parents_field(
+    alloc: Global,
+    out: &mut Pretty,
+    parents: &Vec<RawName>,
+) -> Result<(), AllocError>
     ensures { OnOk result (AddsField out.old out.new (codes "memberOfTypes")
         (parents_held (map (raw_reference None Entity) parents.now.items))) }
 {

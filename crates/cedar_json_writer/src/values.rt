@@ -9,9 +9,9 @@ ghost use Rattle.cedar_json_writer.specs.Words.{AddsField, AddsValue, IsChecked,
 use crate::fault::{Unwritable, WriteFault};
 use crate::fields::{close_object, open_object, write_name, write_name_field, write_text_field};
 use crate::written::{Written, write_field};
-use cedar_below::{EntityUID, M, Name, RestrictedExpr, Value};
+use cedar_below::{EntityUID, Name, RestrictedExpr, Value};
 use json::{Pretty, Token};
-use std::alloc::Global;
+use std::alloc::{AllocError, Global};
 use std::collections::BTreeMap;
 
 /// The key that a text is, of those that say that an object is an entity or a call.
@@ -56,18 +56,22 @@ fn write_number(alloc: Global, out: &mut Pretty, whole: &i64) -> Result<(), Writ
 }
 
 /// Writes the object of a uid.
-pub(crate) fn write_uid(alloc: Global, out: &mut Pretty, uid: &EntityUID) -> M<()>
+pub(crate) fn write_uid(alloc: Global, out: &mut Pretty, uid: &EntityUID) -> Result<(), AllocError>
     ensures { OnOk result (AddsValue out.old out.new (uid_document (uid_of uid.now))) }
 {
     out.token(Token::BeginObject)?;
     write_name_field(alloc, out, "type", uid.entity_type().name().as_internal())?;
     write_text_field(out, "id", uid.eid().as_str())?;
-    out.token(Token::EndObject)?;
-    Ok(())
+    out.token(Token::EndObject)
 }
 
 /// Writes the bracket that opens an object, and its first field, which holds a uid.
-pub(crate) fn open_with_uid(alloc: Global, out: &mut Pretty, name: &str, uid: &EntityUID) -> M<()>
+pub(crate) fn open_with_uid(
+    alloc: Global,
+    out: &mut Pretty,
+    name: &str,
+    uid: &EntityUID,
+) -> Result<(), AllocError>
     ensures { OnOk result (AddsField (out.old ++ begin_object ∷ []) out.new name.now
         (Some (uid_document (uid_of uid.now)))) }
 {
@@ -87,7 +91,7 @@ fn write_entity(alloc: Global, out: &mut Pretty, uid: &EntityUID) -> Result<(), 
 }
 
 /// Writes what stands before the argument of a call.
-fn open_call(alloc: Global, out: &mut Pretty, function: &Name) -> M<()>
+fn open_call(alloc: Global, out: &mut Pretty, function: &Name) -> Result<(), AllocError>
     ensures { OnOk result (out.new
         ≡ out.old ++ call_opening (name_text (plain_name function.now))) }
 {
@@ -95,8 +99,7 @@ fn open_call(alloc: Global, out: &mut Pretty, function: &Name) -> M<()>
     open_object(out, "__extn")?;
     out.token(Token::Key("fn"))?;
     write_name(alloc, out, function.as_internal())?;
-    out.token(Token::Key("arg"))?;
-    Ok(())
+    out.token(Token::Key("arg"))
 }
 
 /// Writes the brackets that close the objects of a call.

@@ -1,4 +1,4 @@
-use Rattle.std.proofs.Common.{OnOk, Some, ap, subst}
+use Rattle.std.proofs.Common.{OnOk, Some, subst}
 use Rattle.json.specs.Json.{Members, object}
 use Rattle.cedar_json_writer.specs.Words.{AddsField, written_pairs}
 use Rattle.cedar_json_writer.proofs.WritingLemmas.{checked_as}
