@@ -10,6 +10,7 @@ pub mod WrittenEntityData
 pub mod WrittenKeys
 pub mod WrittenNames
 pub mod WrittenOrder
+pub mod WrittenPairs
 pub mod WrittenText
 pub mod WrittenTwice
 pub mod WrittenTypes

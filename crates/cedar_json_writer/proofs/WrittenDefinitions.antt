@@ -1,5 +1,5 @@
 -- What is written of declarations under their names.
-use Rattle.std.proofs.Common.{◌≡◌, ◌≢◌, List, [], ◌∷◌, ◌++◌, codes, length, map, Option, Some, None, option_map, refl, ap, sym, subst, Global, String, string_bytes}
+use Rattle.std.proofs.Common.{◌≡◌, ◌≢◌, List, [], ◌∷◌, ◌++◌, codes, length, map, Option, Some, None, option_map, refl, ap, sym, subst}
 use Rattle.std.specs.BTreeMap.{BTreeMap}
 use Rattle.std.specs.List.Sorted.{IsStrictlySortedBy}
 use Rattle.std.specs.Map.{keys_of}
@@ -8,12 +8,9 @@ use Rattle.std.specs.declared.cmp.Ordering.{Ordering}
 use Rattle.json.specs.Json.{Json, object, no_members, member}
 use Rattle.json.specs.Token.{Token, begin_object, end_object}
 use Rattle.cedar_below.proofs.Ordered.{IsStrictlySortedBy-map}
-use Rattle.cedar_names.specs.declared.json_schema.action_type.ActionType.{ActionType}
-use Rattle.cedar_names.specs.declared.json_schema.entity_type.EntityType.{EntityType}
-use Rattle.cedar_json_writer.specs.Words.{AddsField, AddsValue, CommonType, CommonTypeId, Each, Expr, Flaw, IfThere, IsFlawOf, IsFree, IsPlain, Name, NamespaceDefinition, PlainName, RawName, SoundAction, SoundBody, SoundDeclarations, SoundDefinition, SoundFragment, SoundType, Text, UnreservedId, WriteFault, WrittenDefinition, WrittenEntity, action_document, action_flaws, body_flaws, common_key, common_type_text, common_types_held, declared_flaws, declared_members, definition_document, definition_flaws, entity_type_document, id_key, keyed_members, name_cmp, namespace_text, optional_member, plain_name, raw_expr, text_cmp, type_document, type_flaws, unreserved_id_text, written_action, written_common_types, written_definition, written_entity}
-use Rattle.cedar_below.specs.contracts.name.NameOrd.TheImpl as name_ord
+use Rattle.cedar_json_writer.specs.Keyed.{SoundKeyed}
+use Rattle.cedar_json_writer.specs.Words.{AddsField, AddsValue, CommonType, CommonTypeId, Each, Expr, Flaw, IfThere, IsFlawOf, IsFree, IsPlain, Name, NamespaceDefinition, RawName, SoundAction, SoundBody, SoundDeclarations, SoundDefinition, SoundFragment, SoundType, Text, WriteFault, WrittenDefinition, WrittenEntity, action_flaws, body_flaws, common_key, common_type_text, common_types_held, declared_flaws, declared_members, definition_flaws, id_key, keyed_members, name_cmp, optional_member, parts_flaws, plain_name, raw_expr, text_cmp, type_document, type_flaws, written_common_types, written_definition}
 use Rattle.cedar_json.proofs.ListLemmas.{no_length}
-use Rattle.cedar_json.proofs.NameLemmas.{namespace_order}
 use Rattle.cedar_json_writer.proofs.WritingLemmas.{MembersShape, fields_after, flaw_left, flaw_right, none_both, object_added}
 use Rattle.cedar_json_writer.proofs.WrittenValues.{name_plain}
 
@@ -45,73 +42,59 @@ module _ {K L V A : Type 0} (shown : K → L) (text : L → Text) (view : V → 
   plain-names [] = refl
   plain-names (entry ∷ rest) = ap (λ names. shown entry.0 ∷ names) (plain-names rest)
 
-  -- names stand in order as they are shown
-  pub plain-sorted : (R : K → K → Ordering) (S : L → L → Ordering) → ((a b : K) → R a b ≡ S (shown a) (shown b))
-      → (entries : List (K × V)) → IsStrictlySortedBy R (keys_of entries) → IsStrictlySortedBy S (map (λ entry. entry.0) (plain entries))
-  plain-sorted R S same entries sorted =
-      subst (IsStrictlySortedBy S) (sym (plain-names entries)) (IsStrictlySortedBy-map R S shown same (keys_of entries) sorted)
+  -- what is free under keys in order is so with its keys
+  pub keyed_free : (R : K → K → Ordering) (order : L → L → Ordering) → ((a b : K) → R a b ≡ order (shown a) (shown b))
+      → (entries : List (K × V)) → IsStrictlySortedBy R (keys_of entries)
+      → IsFree (declared_flaws flaws (plain entries)) (Each (λ entry. Sound entry.1) (plain entries))
+      → IsFree (declared_flaws flaws (plain entries)) (SoundKeyed order Sound (plain entries))
+  keyed_free R order same entries sorted free = record {
+    flawless = free.flawless;
+    sound = record {
+      in_order = subst (IsStrictlySortedBy order) (sym (plain-names entries))
+          (IsStrictlySortedBy-map R order shown same (keys_of entries) sorted);
+      each = free.sound;
+    };
+  }
 
+module _ {K V L A : Type 0} (shown : K → L) (view : V → A) where
   -- what holds of each name as it is shown holds of the entries
-  pub each_shown : (P : L → Type 0) → ((key : K) → P (shown key)) → (entries : List (K × V)) → Each (λ entry. P entry.0) (plain entries)
+  each_shown : (P : L → Type 0) → ((key : K) → P (shown key)) → (entries : List (K × V))
+      → Each {A = L × A} (λ entry. P entry.0) (map (λ entry. (shown entry.0, view entry.1)) entries)
   each_shown P holds [] = tt
   each_shown P holds (entry ∷ rest) = (holds entry.0, each_shown P holds rest)
 
--- declarations under ids are free
-pub declarations_free : {K V A : Type 0} (shown : K → Text) (view : V → A) (document : A → Json) (flaws : A → List Flaw) (Sound : A → Type 0)
-    (read : Text → Option Text) → ((id : K) → read (shown id) ≡ Some (shown id)) → (R : K → K → Ordering)
-    → ((a b : K) → R a b ≡ text_cmp (shown a) (shown b)) → (entries : List (K × V)) → IsStrictlySortedBy R (keys_of entries)
+-- declarations that are sound in their order stand under ids
+pub declarations_free : {K V A : Type 0} (shown : K → Text) (view : V → A) (read : Text → Option Text)
+    → ((id : K) → read (shown id) ≡ Some (shown id)) → (flaws : A → List Flaw) (Sound : A → Type 0) (entries : List (K × V))
     → IsFree (declared_flaws flaws (map (λ entry. (shown entry.0, view entry.1)) entries))
-    (Each {A = Text × A} (λ entry. Sound entry.1) (map (λ entry. (shown entry.0, view entry.1)) entries))
+    (SoundKeyed text_cmp Sound (map (λ entry. (shown entry.0, view entry.1)) entries))
     → IsFree (declared_flaws flaws (map (λ entry. (shown entry.0, view entry.1)) entries))
     (SoundDeclarations read Sound (map (λ entry. (shown entry.0, view entry.1)) entries))
-declarations_free shown view document flaws Sound read is_read R same entries sorted free = record {
+declarations_free shown view read is_read flaws Sound entries free = record {
   flawless = free.flawless;
   sound = record {
-    in_order = plain-sorted shown (λ (id : Text). id) view document flaws Sound R text_cmp same entries sorted;
-    under_ids = each_shown shown (λ (id : Text). id) view document flaws Sound (λ (id : Text). read id ≡ Some id) is_read entries;
-    each = free.sound;
+    in_order = free.sound.in_order;
+    under_ids = each_shown shown view (λ (id : Text). read id ≡ Some id) is_read entries;
+    each = free.sound.each;
   };
 }
-
-abbrev Entries : Type 0
-Entries = List (Option Name × NamespaceDefinition RawName)
-
--- the common types of a definition
-abbrev pub common_types_shape : MembersShape (CommonTypeId × CommonType RawName)
-common_types_shape =
-    declared_shape common_type_text (λ (id : Text). id) (λ (it : CommonType RawName). raw_expr None it.ty) type_document type_flaws SoundType
-
--- the entity types of a definition
-abbrev pub entity_types_shape : MembersShape (UnreservedId × EntityType RawName)
-entity_types_shape =
-    declared_shape unreserved_id_text (λ (id : Text). id) written_entity entity_type_document (λ (it : WrittenEntity). body_flaws it.body)
-    (λ (it : WrittenEntity). SoundBody it.body)
-
--- the actions of a definition
-abbrev pub actions_shape : MembersShape (String Global × ActionType RawName)
-actions_shape = declared_shape {K = String Global} string_bytes (λ (id : Text). id) written_action action_document action_flaws SoundAction
-
--- the namespaces of a fragment
-abbrev pub namespaces_shape : MembersShape (Option Name × NamespaceDefinition RawName)
-namespaces_shape = declared_shape (option_map plain_name) namespace_text written_definition definition_document definition_flaws SoundDefinition
 
 namespace_plain : (name : Option Name) → IfThere IsPlain (option_map plain_name name)
 namespace_plain None = tt
 namespace_plain (Some name) = name_plain name
 
-pub fragment_free : (entries : Entries) → IsStrictlySortedBy (option_cmp ((name_ord.ghosts).cmp)) (keys_of entries)
-    → IsFree (declared_flaws definition_flaws (map (λ entry. (option_map plain_name entry.0, written_definition entry.1)) entries))
-    (Each {A = Option PlainName × WrittenDefinition} (λ entry. SoundDefinition entry.1) (map (λ entry. (option_map plain_name entry.0, written_definition entry.1)) entries))
-    → IsFree (declared_flaws definition_flaws (map (λ entry. (option_map plain_name entry.0, written_definition entry.1)) entries))
+-- definitions that are sound in their order are a fragment
+pub fragment_free : (entries : List (Option Name × NamespaceDefinition RawName))
+    → IsFree (parts_flaws (map (λ entry. (option_map plain_name entry.0, written_definition entry.1)) entries))
+    (SoundKeyed (option_cmp name_cmp) SoundDefinition (map (λ entry. (option_map plain_name entry.0, written_definition entry.1)) entries))
+    → IsFree (parts_flaws (map (λ entry. (option_map plain_name entry.0, written_definition entry.1)) entries))
     (SoundFragment (map (λ entry. (option_map plain_name entry.0, written_definition entry.1)) entries))
-fragment_free entries sorted free = record {
+fragment_free entries free = record {
   flawless = free.flawless;
   sound = record {
-    in_order = plain-sorted (option_map plain_name) namespace_text written_definition definition_document definition_flaws SoundDefinition
-        (option_cmp ((name_ord.ghosts).cmp)) (option_cmp name_cmp) namespace_order entries sorted;
-    named = each_shown (option_map plain_name) namespace_text written_definition definition_document definition_flaws SoundDefinition
-        (IfThere IsPlain) namespace_plain entries;
-    each = free.sound;
+    in_order = free.sound.in_order;
+    named = each_shown (option_map plain_name) written_definition (IfThere IsPlain) namespace_plain entries;
+    each = free.sound.each;
   };
 }
 

@@ -1,6 +1,7 @@
 pub mod EntityDocument
 pub mod Flaws
 pub mod FragmentDocument
+pub mod Keyed
 pub mod Sound
 pub mod TypeDocument
 pub mod ValueDocument

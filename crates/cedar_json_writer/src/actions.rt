@@ -1,8 +1,8 @@
 //! Declarations of actions that are written.
 
-ghost use Rattle.std.specs.Prelude.{Some, OnOk, codes, map, option_map};
+ghost use Rattle.std.specs.Prelude.{OnOk, codes, map, option_map};
 ghost use Rattle.json.specs.Json.{string};
-ghost use Rattle.cedar_json_writer.specs.Words.{AddsField, AddsValue, IfThere, IsChecked, SoundAction, SoundPairs, SoundRequests, action_document, action_flaws, flaws_in, name_text, pairs_document, pairs_flaws, parent_array, parent_document, raw_name, requests_document, requests_flaws, written_action, written_pairs, written_parent, written_requests};
+ghost use Rattle.cedar_json_writer.specs.Words.{AddsField, AddsValue, IfThere, IsChecked, SoundAction, SoundPairs, SoundRequests, WrittenAction, action_document, action_flaws, flaws_in, name_text, pairs_document, pairs_flaws, parent_array, parent_document, raw_name, requests_document, requests_flaws, written_action, written_pairs, written_parent, written_requests};
 
 use crate::entity_types::write_shape_field;
 use crate::fault::WriteFault;
@@ -11,14 +11,19 @@ use crate::fields::{
     write_text_field,
 };
 use crate::values::write_attribute_values;
-use cedar_below::{M, Value};
+use crate::written::Written;
+use cedar_below::Value;
 use cedar_names::json_schema::{ActionEntityUID, ActionType, ApplySpec, RawName};
 use json::{Pretty, Token};
-use std::alloc::Global;
+use std::alloc::{AllocError, Global};
 use std::collections::BTreeMap;
 
 /// Writes the field for the type of a parent, where one is written.
-fn write_parent_type(alloc: Global, out: &mut Pretty, ty: &Option<RawName>) -> M<()>
+fn write_parent_type(
+    alloc: Global,
+    out: &mut Pretty,
+    ty: &Option<RawName>,
+) -> Result<(), AllocError>
     ensures { OnOk result (AddsField out.old out.new (codes "type")
         (option_map (λ name. string (name_text (raw_name name))) ty.now)) }
 {
@@ -29,14 +34,17 @@ fn write_parent_type(alloc: Global, out: &mut Pretty, ty: &Option<RawName>) -> M
 }
 
 /// Writes the object of a parent.
-fn write_parent(alloc: Global, out: &mut Pretty, it: &ActionEntityUID<RawName>) -> M<()>
+fn write_parent(
+    alloc: Global,
+    out: &mut Pretty,
+    it: &ActionEntityUID<RawName>,
+) -> Result<(), AllocError>
     ensures { OnOk result (AddsValue out.old out.new (parent_document (written_parent it.now))) }
 {
     out.token(Token::BeginObject)?;
     write_text_field(out, "id", it.id.as_str())?;
     write_parent_type(alloc, out, &it.ty)?;
-    out.token(Token::EndObject)?;
-    Ok(())
+    out.token(Token::EndObject)
 }
 
 /// Writes the field for parents, where some are written.
@@ -44,7 +52,7 @@ fn write_member_of_field(
     alloc: Global,
     out: &mut Pretty,
     member_of: &Option<Vec<ActionEntityUID<RawName>>>,
-) -> M<()>
+) -> Result<(), AllocError>
     ensures { OnOk result (AddsField out.old out.new (codes "memberOf")
         (option_map parent_array
         (option_map (λ parents. map written_parent parents.items) member_of.now))) }
@@ -57,8 +65,7 @@ fn write_member_of_field(
     for parent in parents {
         write_parent(alloc, out, parent)?;
     }
-    out.token(Token::EndArray)?;
-    Ok(())
+    out.token(Token::EndArray)
 }
 
 /// Writes the field for the requests that an action is for, where they are written.
@@ -101,21 +108,23 @@ fn write_attributes_field(
     write_attribute_values(alloc, out, "attributes", values)
 }
 
-/// Writes the field of an action, under its id.
-pub(crate) fn write_action(
-    alloc: Global,
-    out: &mut Pretty,
-    id: &str,
-    it: &ActionType<RawName>,
-) -> Result<(), WriteFault>
-    ensures written { OnOk result (AddsField out.old out.new id.now
-        (Some (action_document (written_action it.now)))) }
-    ensures checked { IsChecked result (action_flaws (written_action it.now))
-        (SoundAction (written_action it.now)) }
-{
-    open_object(out, id)?;
-    write_applies_to_field(alloc, out, &it.applies_to)?;
-    write_member_of_field(alloc, out, &it.member_of)?;
-    write_attributes_field(alloc, out, &it.attributes)?;
-    close_with_flag(out, "external", false, it.external)
+impl Written for ActionType<RawName> {
+    ghost Plain = { WrittenAction };
+
+    ghost document = { action_document };
+
+    ghost flaws = { action_flaws };
+
+    ghost Sound = { SoundAction };
+
+    ghost shown = { written_action };
+
+    /// Writes the object of an action.
+    fn write(&self, alloc: Global, out: &mut Pretty) -> Result<(), WriteFault> {
+        out.token(Token::BeginObject)?;
+        write_applies_to_field(alloc, out, &self.applies_to)?;
+        write_member_of_field(alloc, out, &self.member_of)?;
+        write_attributes_field(alloc, out, &self.attributes)?;
+        close_with_flag(out, "external", false, self.external)
+    }
 }

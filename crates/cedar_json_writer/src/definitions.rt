@@ -1,22 +1,112 @@
-//! Definitions of namespaces, and fragments, that are written.
+//! Definitions of namespaces that are written, with the keys in them.
 
-ghost use Rattle.std.specs.Prelude.{◌≡◌, ◌++◌, ◌∷◌, [], Some, OnOk, codes, option_map};
-ghost use Rattle.json.specs.Json.{object};
-ghost use Rattle.json.specs.Token.{key};
-ghost use Rattle.cedar_json_writer.specs.Words.{AddsField, AddsValue, IsChecked, SoundAction, SoundBody, SoundDeclarations, SoundDefinition, SoundFragment, SoundType, action_document, action_flaws, body_flaws, common_key, common_types_held, declared_flaws, declared_members, definition_document, definition_flaws, entity_type_document, fragment_document, id_key, namespace_text, parts_flaws, plain_name, type_flaws, written_actions, written_common_types, written_definition, written_entity_types, written_fragment};
+ghost use Rattle.std.proofs.Common.{refl};
+ghost use Rattle.std.specs.Prelude.{Option, None, OnOk, codes, option_map, string_bytes};
+ghost use Rattle.std.specs.Option.{option_cmp};
+ghost use Rattle.cedar_json.proofs.NameLemmas.{namespace_order};
+ghost use Rattle.cedar_json_writer.specs.Words.{AddsField, Expr, IsChecked, PlainName, SoundDeclarations, SoundDefinition, SoundType, Text, WrittenDefinition, common_key, common_type_text, common_types_held, declared_flaws, definition_document, definition_flaws, name_cmp, namespace_text, plain_name, raw_expr, text_cmp, type_document, type_flaws, unreserved_id_text, written_common_types, written_definition};
 
-use crate::actions::write_action;
-use crate::entity_types::write_entity_type;
 use crate::fault::WriteFault;
-use crate::fields::{close_object, open_object};
+use crate::fields::close_object;
 use crate::types::write_type;
-use cedar_below::{M, Name, UnreservedId};
-use cedar_names::json_schema::{
-    ActionType, CommonType, CommonTypeId, EntityType, Fragment, NamespaceDefinition, RawName,
-};
+use crate::written::{Key, Written, write_field};
+use cedar_below::{Name, UnreservedId};
+use cedar_names::json_schema::{CommonType, CommonTypeId, NamespaceDefinition, RawName};
 use json::{Pretty, Token};
-use std::alloc::Global;
+use std::alloc::{AllocError, Global};
 use std::collections::BTreeMap;
+
+impl Key for CommonTypeId {
+    ghost PlainKey = { Text };
+
+    ghost order = { text_cmp };
+
+    ghost text = { λ text. text };
+
+    ghost shown_key = { common_type_text };
+
+    ghost same_order = { λ a b. refl };
+
+    /// Writes the id of a common type as a key.
+    fn write_key(&self, _alloc: Global, out: &mut Pretty) -> Result<(), AllocError> {
+        out.token(Token::Key(self.as_str()))
+    }
+}
+
+impl Key for UnreservedId {
+    ghost PlainKey = { Text };
+
+    ghost order = { text_cmp };
+
+    ghost text = { λ text. text };
+
+    ghost shown_key = { unreserved_id_text };
+
+    ghost same_order = { λ a b. refl };
+
+    /// Writes the id of an entity type as a key.
+    fn write_key(&self, _alloc: Global, out: &mut Pretty) -> Result<(), AllocError> {
+        out.token(Token::Key(self.as_str()))
+    }
+}
+
+impl Key for String {
+    ghost PlainKey = { Text };
+
+    ghost order = { text_cmp };
+
+    ghost text = { λ text. text };
+
+    ghost shown_key = { string_bytes };
+
+    ghost same_order = { λ a b. refl };
+
+    /// Writes the id of an action or the name of an attribute as a key.
+    fn write_key(&self, _alloc: Global, out: &mut Pretty) -> Result<(), AllocError> {
+        out.token(Token::Key(self.as_str()))
+    }
+}
+
+impl Key for Option<Name> {
+    ghost PlainKey = { Option PlainName };
+
+    ghost order = { option_cmp name_cmp };
+
+    ghost text = { namespace_text };
+
+    ghost shown_key = { option_map plain_name };
+
+    ghost same_order = { namespace_order };
+
+    /// Writes a namespace as a key.
+    fn write_key(&self, alloc: Global, out: &mut Pretty) -> Result<(), AllocError> {
+        match self {
+            Some(name) => {
+                let text = name.to_string(alloc)?;
+                out.token(Token::Key(text.as_str()))?;
+            }
+            None => out.token(Token::Key(""))?,
+        }
+        Ok(())
+    }
+}
+
+impl Written for CommonType<RawName> {
+    ghost Plain = { Expr };
+
+    ghost document = { type_document };
+
+    ghost flaws = { type_flaws };
+
+    ghost Sound = { SoundType };
+
+    ghost shown = { λ it. raw_expr None it.ty };
+
+    /// Writes the type that a common type stands for.
+    fn write(&self, alloc: Global, out: &mut Pretty) -> Result<(), WriteFault> {
+        write_type(alloc, out, &self.ty)
+    }
+}
 
 /// Writes the field for common types, where there are some.
 fn write_common_types(
@@ -32,100 +122,26 @@ fn write_common_types(
     if all.is_empty() {
         return Ok(());
     }
-    open_object(out, "commonTypes")?;
-    for (id, it) in all {
-        out.token(Token::Key(id.as_str()))?;
-        write_type(alloc, out, &it.ty)?;
-    }
-    close_object(out)
+    write_field(alloc, out, "commonTypes", all)
 }
 
-/// Writes the field of entity types.
-fn write_entity_types(
-    alloc: Global,
-    out: &mut Pretty,
-    all: &BTreeMap<UnreservedId, EntityType<RawName>>,
-) -> Result<(), WriteFault>
-    ensures written { OnOk result (AddsField out.old out.new (codes "entityTypes")
-        (Some (object (declared_members entity_type_document (written_entity_types all.now))))) }
-    ensures checked { IsChecked result
-        (declared_flaws (λ entity. body_flaws entity.body) (written_entity_types all.now))
-        (SoundDeclarations id_key (λ entity. SoundBody entity.body)
-        (written_entity_types all.now)) }
-{
-    open_object(out, "entityTypes")?;
-    for (id, it) in all {
-        write_entity_type(alloc, out, id.as_str(), it)?;
-    }
-    close_object(out)
-}
+impl Written for NamespaceDefinition<RawName> {
+    ghost Plain = { WrittenDefinition };
 
-/// Writes the field of actions.
-fn write_actions(
-    alloc: Global,
-    out: &mut Pretty,
-    all: &BTreeMap<String, ActionType<RawName>>,
-) -> Result<(), WriteFault>
-    ensures written { OnOk result (AddsField out.old out.new (codes "actions")
-        (Some (object (declared_members action_document (written_actions all.now))))) }
-    ensures checked { IsChecked result (declared_flaws action_flaws (written_actions all.now))
-        (SoundDeclarations Some SoundAction (written_actions all.now)) }
-{
-    open_object(out, "actions")?;
-    for (id, it) in all {
-        write_action(alloc, out, id.as_str(), it)?;
-    }
-    close_object(out)
-}
+    ghost document = { definition_document };
 
-/// Writes the object of a definition.
-fn write_definition(
-    alloc: Global,
-    out: &mut Pretty,
-    it: &NamespaceDefinition<RawName>,
-) -> Result<(), WriteFault>
-    ensures written { OnOk result (AddsValue out.old out.new
-        (definition_document (written_definition it.now))) }
-    ensures checked { IsChecked result (definition_flaws (written_definition it.now))
-        (SoundDefinition (written_definition it.now)) }
-{
-    out.token(Token::BeginObject)?;
-    write_entity_types(alloc, out, &it.entity_types)?;
-    write_actions(alloc, out, &it.actions)?;
-    write_common_types(alloc, out, &it.common_types)?;
-    close_object(out)
-}
+    ghost flaws = { definition_flaws };
 
-/// Writes the key of a namespace.
-fn write_namespace_key(alloc: Global, out: &mut Pretty, name: &Option<Name>) -> M<()>
-    ensures { OnOk result (out.new
-        ≡ out.old ++ key (namespace_text (option_map plain_name name.now)) ∷ []) }
-{
-    match name {
-        Some(name) => {
-            let text = name.to_string(alloc)?;
-            out.token(Token::Key(text.as_str()))?;
-        }
-        None => out.token(Token::Key(""))?,
-    }
-    Ok(())
-}
+    ghost Sound = { SoundDefinition };
 
-/// Writes the object of a fragment.
-pub(crate) fn write_fragment(
-    alloc: Global,
-    out: &mut Pretty,
-    it: &Fragment<RawName>,
-) -> Result<(), WriteFault>
-    ensures written { OnOk result (AddsValue out.old out.new
-        (fragment_document (written_fragment it.now))) }
-    ensures checked { IsChecked result (parts_flaws (written_fragment it.now))
-        (SoundFragment (written_fragment it.now)) }
-{
-    out.token(Token::BeginObject)?;
-    for (name, definition) in &it.0 {
-        write_namespace_key(alloc, out, name)?;
-        write_definition(alloc, out, definition)?;
+    ghost shown = { written_definition };
+
+    /// Writes the object of a definition.
+    fn write(&self, alloc: Global, out: &mut Pretty) -> Result<(), WriteFault> {
+        out.token(Token::BeginObject)?;
+        write_field(alloc, out, "entityTypes", &self.entity_types)?;
+        write_field(alloc, out, "actions", &self.actions)?;
+        write_common_types(alloc, out, &self.common_types)?;
+        close_object(out)
     }
-    close_object(out)
 }

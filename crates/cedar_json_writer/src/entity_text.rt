@@ -7,21 +7,20 @@ use crate::fault::WriteFault;
 use crate::fields::close_object;
 use crate::text::text_of;
 use crate::values::{open_with_uid, write_attribute_values, write_uid};
-use cedar_below::{Entity, M, Value};
+use cedar_below::{Entity, Value};
 use json::{Pretty, Token};
-use std::alloc::Global;
+use std::alloc::{AllocError, Global};
 use std::collections::BTreeMap;
 
 /// Writes the array of the ancestors of an entity.
-fn write_ancestors(alloc: Global, out: &mut Pretty, entity: &Entity) -> M<()>
+fn write_ancestors(alloc: Global, out: &mut Pretty, entity: &Entity) -> Result<(), AllocError>
     ensures { OnOk result (AddsValue out.old out.new (uid_array (entity_ancestors entity.now))) }
 {
     out.token(Token::BeginArray)?;
     for uid in entity.ancestors() {
         write_uid(alloc, out, uid)?;
     }
-    out.token(Token::EndArray)?;
-    Ok(())
+    out.token(Token::EndArray)
 }
 
 /// Writes the field for tags, where there are some.

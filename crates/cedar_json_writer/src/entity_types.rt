@@ -1,18 +1,18 @@
 //! Declarations of entity types that are written.
 
-ghost use Rattle.std.specs.Prelude.{◌≡◌, Some, None, OnOk, codes, map, option_map};
-ghost use Rattle.cedar_json_writer.specs.Words.{AddsField, AddsFields, Entity, IfThere, IsChecked, SoundBody, SoundType, body_flaws, body_members, entity_type_document, flaws_in, is_empty_record, parents_held, raw_expr, raw_reference, raw_variant, shape_held, type_document, type_flaws, written_entity, written_kind};
+ghost use Rattle.std.specs.Prelude.{◌≡◌, None, OnOk, codes, map, option_map};
+ghost use Rattle.cedar_json_writer.specs.Words.{AddsField, AddsFields, Entity, IfThere, IsChecked, SoundBody, SoundType, WrittenEntity, body_flaws, body_members, entity_type_document, flaws_in, is_empty_record, parents_held, raw_expr, raw_reference, raw_variant, shape_held, type_document, type_flaws, written_entity, written_kind};
 ghost use Rattle.cedar_names.specs.declared.json_schema.entity_type.EntityTypeKind.TheVariants as kind;
 
 use crate::fault::WriteFault;
-use crate::fields::{close_with_flag, open_object, write_ids, write_names_field};
+use crate::fields::{close_with_flag, write_ids, write_names_field};
 use crate::types::write_type;
-use cedar_below::M;
+use crate::written::Written;
 use cedar_names::json_schema::{
     EntityType, EntityTypeKind, RawName, StandardEntityType, Type, TypeVariant,
 };
 use json::{Pretty, Token};
-use std::alloc::Global;
+use std::alloc::{AllocError, Global};
 
 /// Whether a type variant is the closed record without attributes.
 fn is_empty_variant(ty: &TypeVariant<RawName>) -> bool
@@ -60,7 +60,11 @@ pub(crate) fn write_shape_field(
 }
 
 /// Writes the field for parents, where there are some.
-fn write_parents_field(alloc: Global, out: &mut Pretty, parents: &Vec<RawName>) -> M<()>
+fn write_parents_field(
+    alloc: Global,
+    out: &mut Pretty,
+    parents: &Vec<RawName>,
+) -> Result<(), AllocError>
     ensures { OnOk result (AddsField out.old out.new (codes "memberOfTypes")
         (parents_held (map (raw_reference None Entity) parents.now.items))) }
 {
@@ -125,19 +129,21 @@ fn write_kind(
     }
 }
 
-/// Writes the field of an entity type, under its id.
-pub(crate) fn write_entity_type(
-    alloc: Global,
-    out: &mut Pretty,
-    id: &str,
-    it: &EntityType<RawName>,
-) -> Result<(), WriteFault>
-    ensures written { OnOk result (AddsField out.old out.new id.now
-        (Some (entity_type_document (written_entity it.now)))) }
-    ensures checked { IsChecked result (body_flaws (written_entity it.now).body)
-        (SoundBody (written_entity it.now).body) }
-{
-    open_object(out, id)?;
-    write_kind(alloc, out, &it.kind)?;
-    close_with_flag(out, "external", false, it.external)
+impl Written for EntityType<RawName> {
+    ghost Plain = { WrittenEntity };
+
+    ghost document = { entity_type_document };
+
+    ghost flaws = { λ it. body_flaws it.body };
+
+    ghost Sound = { λ it. SoundBody it.body };
+
+    ghost shown = { written_entity };
+
+    /// Writes the object of an entity type.
+    fn write(&self, alloc: Global, out: &mut Pretty) -> Result<(), WriteFault> {
+        out.token(Token::BeginObject)?;
+        write_kind(alloc, out, &self.kind)?;
+        close_with_flag(out, "external", false, self.external)
+    }
 }

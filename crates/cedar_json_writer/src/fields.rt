@@ -8,18 +8,17 @@ ghost use Rattle.json.specs.Value.{items_of as spec_items};
 ghost use Rattle.cedar_json_writer.specs.Words.{AddsField, AddsMembers, AddsValue, Entity, eid_text, flag_held, items_of, name_of, name_text, optional_member, raw_reference, reference_array, text_array};
 
 use crate::fault::WriteFault;
-use cedar_below::{Eid, InternalName, M, NonEmpty};
+use cedar_below::{Eid, InternalName, NonEmpty};
 use cedar_names::json_schema::RawName;
 use json::{Pretty, Token};
-use std::alloc::Global;
+use std::alloc::{AllocError, Global};
 
 /// Writes a key, and the bracket that opens its object.
-pub(crate) fn open_object(out: &mut Pretty, name: &str) -> M<()>
+pub(crate) fn open_object(out: &mut Pretty, name: &str) -> Result<(), AllocError>
     ensures { OnOk result (out.new ≡ out.old ++ key name.now ∷ begin_object ∷ []) }
 {
     out.token(Token::Key(name))?;
-    out.token(Token::BeginObject)?;
-    Ok(())
+    out.token(Token::BeginObject)
 }
 
 /// Writes the bracket that closes an object.
@@ -32,16 +31,20 @@ pub(crate) fn close_object(out: &mut Pretty) -> Result<(), WriteFault>
 }
 
 /// Writes a field that holds a text.
-pub(crate) fn write_text_field(out: &mut Pretty, name: &str, text: &str) -> M<()>
+pub(crate) fn write_text_field(out: &mut Pretty, name: &str, text: &str) -> Result<(), AllocError>
     ensures { OnOk result (AddsField out.old out.new name.now (Some (string text.now))) }
 {
     out.token(Token::Key(name))?;
-    out.token(Token::String(text))?;
-    Ok(())
+    out.token(Token::String(text))
 }
 
 /// Writes a field that holds a truth value, where it says what its absence doesn't.
-pub(crate) fn write_flag(out: &mut Pretty, name: &str, absent: bool, flag: bool) -> M<()>
+pub(crate) fn write_flag(
+    out: &mut Pretty,
+    name: &str,
+    absent: bool,
+    flag: bool,
+) -> Result<(), AllocError>
     ensures { OnOk result (AddsField out.old out.new name.now (flag_held absent flag)) }
 {
     if flag != absent {
@@ -68,12 +71,15 @@ pub(crate) fn close_with_flag(
 }
 
 /// Writes a name as a text.
-pub(crate) fn write_name(alloc: Global, out: &mut Pretty, name: &InternalName) -> M<()>
+pub(crate) fn write_name(
+    alloc: Global,
+    out: &mut Pretty,
+    name: &InternalName,
+) -> Result<(), AllocError>
     ensures { OnOk result (AddsValue out.old out.new (string (name_text (name_of name.now)))) }
 {
     let text = name.to_string(alloc)?;
-    out.token(Token::String(text.as_str()))?;
-    Ok(())
+    out.token(Token::String(text.as_str()))
 }
 
 /// Writes a field that holds a name.
@@ -82,7 +88,7 @@ pub(crate) fn write_name_field(
     out: &mut Pretty,
     field: &str,
     name: &InternalName,
-) -> M<()>
+) -> Result<(), AllocError>
     ensures { OnOk result
         (AddsField out.old out.new field.now (Some (string (name_text (name_of name.now))))) }
 {
@@ -96,7 +102,7 @@ pub(crate) fn write_names_field(
     out: &mut Pretty,
     field: &str,
     names: &Vec<RawName>,
-) -> M<()>
+) -> Result<(), AllocError>
     ensures { OnOk result (AddsField out.old out.new field.now
         (Some (reference_array (map (raw_reference None Entity) names.now.items)))) }
 {
@@ -105,24 +111,22 @@ pub(crate) fn write_names_field(
     for name in names {
         write_name(alloc, out, name.as_internal())?;
     }
-    out.token(Token::EndArray)?;
-    Ok(())
+    out.token(Token::EndArray)
 }
 
 /// Writes some ids, and the bracket that closes their array.
-fn write_more_ids(out: &mut Pretty, ids: &Vec<Eid>) -> M<()>
+fn write_more_ids(out: &mut Pretty, ids: &Vec<Eid>) -> Result<(), AllocError>
     ensures { OnOk result (out.new
         ≡ out.old ++ items_tokens (spec_items (map string (map eid_text ids.now.items)))) }
 {
     for id in ids {
         out.token(Token::String(id.as_str()))?;
     }
-    out.token(Token::EndArray)?;
-    Ok(())
+    out.token(Token::EndArray)
 }
 
 /// Writes an array of ids.
-pub(crate) fn write_ids(out: &mut Pretty, ids: &NonEmpty<Eid>) -> M<()>
+pub(crate) fn write_ids(out: &mut Pretty, ids: &NonEmpty<Eid>) -> Result<(), AllocError>
     ensures { OnOk result (AddsValue out.old out.new
         (text_array (map eid_text (items_of ids.now)))) }
 {

@@ -18,6 +18,7 @@ pub mod theorems;
 mod types;
 mod value_text;
 mod values;
+mod written;
 
 pub use entity_text::entity_to_json;
 pub use fault::{Unwritable, WriteFault};

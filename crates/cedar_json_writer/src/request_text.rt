@@ -8,13 +8,18 @@ use crate::fault::WriteFault;
 use crate::fields::{close_object, write_text_field};
 use crate::text::text_of;
 use crate::values::write_attribute_values;
-use cedar_below::{EntityUID, M, Value};
+use cedar_below::{EntityUID, Value};
 use json::{Pretty, Token};
-use std::alloc::Global;
+use std::alloc::{AllocError, Global};
 use std::collections::BTreeMap;
 
 /// Writes a field that holds a uid as it is printed.
-fn write_uid_field(alloc: Global, out: &mut Pretty, name: &str, uid: &EntityUID) -> M<()>
+fn write_uid_field(
+    alloc: Global,
+    out: &mut Pretty,
+    name: &str,
+    uid: &EntityUID,
+) -> Result<(), AllocError>
     ensures { OnOk result
         (AddsField out.old out.new name.now (Some (string (uid_text (uid_of uid.now))))) }
 {

@@ -5,8 +5,8 @@ ghost use Rattle.std.specs.Str.{IsUtf8};
 ghost use Rattle.json.specs.Lex.{tokens};
 ghost use Rattle.cedar_json_writer.specs.Words.{Describes, IsFlawOf, IsWritable, fragment_document, fragment_flaws, json_tokens, pretty, too_long, written_fragment};
 
-use crate::definitions::write_fragment;
 use crate::fault::{Unwritable, WriteFault};
+use crate::written::Written;
 use cedar_names::json_schema::{Fragment, RawName};
 use json::{Pretty, Scratch, is_valid};
 use std::alloc::Global;
@@ -37,7 +37,7 @@ pub fn fragment_to_json(alloc: Global, fragment: &Fragment<RawName>) -> Result<S
     ensures fault { IfErr result (IsFlawOf (fragment_flaws (written_fragment fragment.now))) }
 {
     let mut out = Pretty::new(alloc);
-    write_fragment(alloc, &mut out, fragment)?;
+    fragment.0.write(alloc, &mut out)?;
     let text = text_of(out);
     let mut scratch = Scratch::new(alloc);
     if is_valid(text.as_str(), &mut scratch)? {

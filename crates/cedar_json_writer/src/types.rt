@@ -9,10 +9,10 @@ use crate::fault::{Unwritable, WriteFault};
 use crate::fields::{
     close_object, close_with_flag, open_object, write_flag, write_name_field, write_text_field,
 };
-use cedar_below::{M, UnreservedId};
+use cedar_below::UnreservedId;
 use cedar_names::json_schema::{RawName, RecordType, Type, TypeOfAttribute, TypeVariant};
 use json::{Pretty, Token};
-use std::alloc::Global;
+use std::alloc::{AllocError, Global};
 
 /// The word that a text is, of those that say of which form a type is.
 fn type_word(text: &str) -> Option<&'static str>
@@ -99,13 +99,12 @@ fn write_extension(out: &mut Pretty, name: &UnreservedId) -> Result<(), WriteFau
 }
 
 /// Writes the word of a form, and the key of the field of what types are within.
-fn write_form(out: &mut Pretty, word: &str, within: &str) -> M<()>
+fn write_form(out: &mut Pretty, word: &str, within: &str) -> Result<(), AllocError>
     ensures { OnOk result (out.new ≡ out.old ++ form_opening word.now within.now) }
 {
     out.token(Token::Key("type"))?;
     out.token(Token::String(word))?;
-    out.token(Token::Key(within))?;
-    Ok(())
+    out.token(Token::Key(within))
 }
 
 /// Writes the bracket that closes attributes, and the field for whether there may be others.

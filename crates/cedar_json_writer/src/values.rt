@@ -4,13 +4,14 @@ ghost use Rattle.std.specs.Prelude.{◌≡◌, ◌++◌, ◌∷◌, [], Some, tr
 ghost use Rattle.std.specs.Fmt.{signed_decimal};
 ghost use Rattle.json.specs.Json.{number};
 ghost use Rattle.json.specs.Token.{begin_object, end_object};
-ghost use Rattle.cedar_json_writer.specs.Words.{AddsField, AddsValue, IsChecked, SoundPairs, SoundValue, call_opening, call_value, entries_of, flaw_of, is_among, is_long, key_flaws, map_value, name_text, pairs_document, pairs_flaws, plain_name, set_value, tree_of, trees_of, uid_document, uid_of, uid_value, value_document, value_flaws, value_keys, written_pairs};
+ghost use Rattle.cedar_json_writer.specs.Words.{AddsField, AddsValue, IsChecked, SoundPairs, SoundValue, Tree, call_opening, call_value, entries_of, flaw_of, is_among, is_long, key_flaws, map_value, name_text, pairs_document, pairs_flaws, plain_name, set_value, tree_of, trees_of, uid_document, uid_of, uid_value, value_document, value_expr, value_flaws, value_keys, written_pairs};
 
 use crate::fault::{Unwritable, WriteFault};
 use crate::fields::{close_object, open_object, write_name, write_name_field, write_text_field};
-use cedar_below::{EntityUID, M, Name, RestrictedExpr, Value};
+use crate::written::{Written, write_field};
+use cedar_below::{EntityUID, Name, RestrictedExpr, Value};
 use json::{Pretty, Token};
-use std::alloc::Global;
+use std::alloc::{AllocError, Global};
 use std::collections::BTreeMap;
 
 /// The key that a text is, of those that say that an object is an entity or a call.
@@ -55,18 +56,22 @@ fn write_number(alloc: Global, out: &mut Pretty, whole: &i64) -> Result<(), Writ
 }
 
 /// Writes the object of a uid.
-pub(crate) fn write_uid(alloc: Global, out: &mut Pretty, uid: &EntityUID) -> M<()>
+pub(crate) fn write_uid(alloc: Global, out: &mut Pretty, uid: &EntityUID) -> Result<(), AllocError>
     ensures { OnOk result (AddsValue out.old out.new (uid_document (uid_of uid.now))) }
 {
     out.token(Token::BeginObject)?;
     write_name_field(alloc, out, "type", uid.entity_type().name().as_internal())?;
     write_text_field(out, "id", uid.eid().as_str())?;
-    out.token(Token::EndObject)?;
-    Ok(())
+    out.token(Token::EndObject)
 }
 
 /// Writes the bracket that opens an object, and its first field, which holds a uid.
-pub(crate) fn open_with_uid(alloc: Global, out: &mut Pretty, name: &str, uid: &EntityUID) -> M<()>
+pub(crate) fn open_with_uid(
+    alloc: Global,
+    out: &mut Pretty,
+    name: &str,
+    uid: &EntityUID,
+) -> Result<(), AllocError>
     ensures { OnOk result (AddsField (out.old ++ begin_object ∷ []) out.new name.now
         (Some (uid_document (uid_of uid.now)))) }
 {
@@ -86,7 +91,7 @@ fn write_entity(alloc: Global, out: &mut Pretty, uid: &EntityUID) -> Result<(), 
 }
 
 /// Writes what stands before the argument of a call.
-fn open_call(alloc: Global, out: &mut Pretty, function: &Name) -> M<()>
+fn open_call(alloc: Global, out: &mut Pretty, function: &Name) -> Result<(), AllocError>
     ensures { OnOk result (out.new
         ≡ out.old ++ call_opening (name_text (plain_name function.now))) }
 {
@@ -94,8 +99,7 @@ fn open_call(alloc: Global, out: &mut Pretty, function: &Name) -> M<()>
     open_object(out, "__extn")?;
     out.token(Token::Key("fn"))?;
     write_name(alloc, out, function.as_internal())?;
-    out.token(Token::Key("arg"))?;
-    Ok(())
+    out.token(Token::Key("arg"))
 }
 
 /// Writes the brackets that close the objects of a call.
@@ -194,6 +198,23 @@ fn write_call(
     close_call(out)
 }
 
+impl Written for Value {
+    ghost Plain = { Tree };
+
+    ghost document = { value_document };
+
+    ghost flaws = { value_flaws };
+
+    ghost Sound = { SoundValue };
+
+    ghost shown = { λ value. tree_of (value_expr value) };
+
+    /// Writes the value.
+    fn write(&self, alloc: Global, out: &mut Pretty) -> Result<(), WriteFault> {
+        write_value(alloc, out, self.expr())
+    }
+}
+
 /// Writes a field that holds values, each under its text.
 pub(crate) fn write_attribute_values(
     alloc: Global,
@@ -206,10 +227,5 @@ pub(crate) fn write_attribute_values(
     ensures checked { IsChecked result (pairs_flaws (written_pairs values.now))
         (SoundPairs (written_pairs values.now)) }
 {
-    open_object(out, field)?;
-    for (name, value) in values {
-        out.token(Token::Key(name.as_str()))?;
-        write_value(alloc, out, value.expr())?;
-    }
-    close_object(out)
+    write_field(alloc, out, field, values)
 }

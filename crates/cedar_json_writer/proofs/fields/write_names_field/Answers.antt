@@ -2,7 +2,7 @@ use Rattle.std.proofs.Common.{◌≡◌, ◌+◌, ◌∷◌, None, drop, drop_of
 use Rattle.json.specs.Json.{string}
 use Rattle.cedar_below.proofs.TreeLemmas.{drop-at}
 use Rattle.cedar_json_writer.specs.Words.{AddsValue, Entity, PlainName, name_text, raw_reference, reference_array}
-use Rattle.cedar_json_writer.proofs.WritingLemmas.{array_added, field_added, item_turn}
+use Rattle.cedar_json_writer.proofs.WritingLemmas.{array_added, field_added, item_turn, on_ok}
 use Rattle.cedar_json_writer.proofs.WrittenNames.{name_item, names_added}
 use Rattle.cedar_json_writer.proofs.fields.write_names_field.Goals as goal
 
@@ -19,8 +19,8 @@ pub returns : goal.returns
 returns c =
     let l = c.loop-name in
     let xs = c.deref-name-items.result.now in
-    field_added c.args.out.now c.token.new.self c.token-3.new.self c.args.field.now
+    on_ok c.token-3.result c.token-3.ensures.ok (λ ended. field_added c.args.out.now c.token.new.self c.token-3.new.self c.args.field.now
     (reference_array (map (raw_reference None Entity) c.args.names.now.items)) c.in_ok-token.ensures.ok
     (names_added c.token.new.self c.token-3.new.self xs c.args.names.now.items c.deref-name-items.ensures.value
     (array_added name_item c.token.new.self c.token-2.new.self l.out c.token-3.new.self xs (drop l.name-index xs) l.invariant
-    (drop_of_length-le xs c.loop-name-test.false) c.in_ok-token-2.ensures.ok c.in_ok-token-3.ensures.ok))
+    (drop_of_length-le xs c.loop-name-test.false) c.in_ok-token-2.ensures.ok ended)))

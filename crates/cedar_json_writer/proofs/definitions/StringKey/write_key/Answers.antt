@@ -1,0 +1,7 @@
+use Rattle.std.proofs.Common.{◌≡◌, ◌++◌, ◌∷◌, [], List, OnOk, ℕ, subst}
+use Rattle.json.specs.Token.{key}
+use Rattle.cedar_json_writer.proofs.definitions.StringKey.write_key.Goals as goal
+
+pub returns : goal.returns
+returns c =
+    subst (λ (text : List ℕ). OnOk c.token.result (c.token.new.self ≡ c.args.out.now ++ key text ∷ [])) c.as_str.ensures.value c.token.ensures.ok
