@@ -5,7 +5,6 @@ ghost use Rattle.cedar_table.specs.Words.{Equal, FnReturnsAt, HoldsPairwise, Mem
 
 use crate::table::Table;
 use cedar_below::M;
-use std::collections::BTreeMap;
 use std::hash::Hash;
 
 /// A table of the copies of the entries of a table, in their order. The copy of a key has to tie
@@ -25,9 +24,9 @@ pub fn copied_table<
         × FnReturnsAt G.Fn copy_value entry.1 (Ok other.1)) table.now.entries copies.entries) }
 {
     let alloc = *table.allocator();
-    let mut copies = BTreeMap::new(alloc);
+    let mut copies = Vec::with_capacity(alloc, table.len())?;
     for (key, value) in table {
-        copies.insert(copy_key(key)?, copy_value(value)?)?;
+        copies.push((copy_key(key)?, copy_value(value)?))?;
     }
-    Ok(Table::from_map(alloc, copies)?)
+    Table::of_entries(alloc, copies)
 }

@@ -104,6 +104,15 @@ impl<K: Ord + Hash + Drop, V: Drop> Table<K, V> {
         for entry in map {
             entries.push(entry)?;
         }
+        Table::of_entries(alloc, entries)
+    }
+
+    /// The entries of a list, which are in the order of their keys. Out of memory is the only
+    /// refusal.
+    pub(crate) fn of_entries(alloc: Global, entries: Vec<(K, V)>) -> M<Self>
+        requires { IsStrictlySortedBy K.cmp (keys_of entries.items) }
+        ensures { IfOk result (λ table. table.entries ≡ entries.items) }
+    {
         let hints = Hints::of(alloc, &entries)?;
         Ok(Table { entries, hints })
     }
