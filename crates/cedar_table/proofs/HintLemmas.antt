@@ -1,5 +1,5 @@
 -- The place to which a hint leads: there is one at most, and none where no row of those looked at has a hint to it.
-use Rattle.std.proofs.Common.{Bool, IfSome, IsTrue, true, refl, ◌≡◌, ◌≢◌, ◌<◌, ◌≤◌, ℕ, IsSomeAnd, List, None, Option, Some, ap, option_map, arith, length, slice_get, subst, sym, ◌∙◌, inl, inr}
+use Rattle.std.proofs.Common.{Bool, IfSome, IsTrue, true, refl, ◌≡◌, ◌<◌, ◌≤◌, ℕ, IsSomeAnd, List, None, Option, Some, ap, option_map, arith, length, slice_get, subst, sym, ◌∙◌, inl, inr}
 use Rattle.std.proofs.lemmas.Bool.{cases_eq, cases_lt}
 use Rattle.std.proofs.lemmas.Map.Entries.{place_from_lookup}
 use Rattle.std.proofs.lemmas.Option.{MatchOption-from_none, get_or_from_slice_get, slice_get-map, slice_get_past, slice_get_within}
@@ -9,44 +9,50 @@ use Rattle.std.specs.Hash.{HashWrites}
 use Rattle.std.specs.Map.{keys_of, lookup}
 use Rattle.std.specs.Ordering.{is_eq}
 use Rattle.std.specs.declared.cmp.Ordering.{Ordering}
-use Rattle.cedar_table.specs.Words.{AreHinted, Hint, Hints, LeadsTo, RowHas, StandsAt, hash_by, row_of, tag_of}
+use Rattle.cedar_table.specs.Words.{AreHinted, Hint, Hints, IsPassed, LeadsTo, RowIs, StandsAt, hash_by, row_of, tag_of}
 
 -- what is never some value is none
 none_from_no_some : {X : Type 0} (option : Option X) → ((x : X) → ¬ (option ≡ Some x)) → option ≡ None
 none_from_no_some None never = refl
 none_from_no_some (Some x) never = absurd (never x refl)
 
--- a hint that passes in two ways
-both : (row : Option (Option Hint)) (First Second : Hint → Type 0) → IsSomeAnd row (λ each. IsSomeAnd each First)
-    → IsSomeAnd row (λ each. IsSomeAnd each Second) → (hint : Hint) × First hint × Second hint
-both (Some (Some hint)) First Second first second = (hint, first, second)
-both _ First Second first second = absurd first
+-- a row that passes in two ways
+both : (row : Option Hint) (First Second : Hint → Type 0) → IsSomeAnd row First → IsSomeAnd row Second
+    → (hint : Hint) × First hint × Second hint
+both (Some hint) First Second first second = (hint, first, second)
+both None First Second first second = absurd first
 
--- a hint that passes also passes where less is asked
-pub weaker : (row : Option (Option Hint)) (First Second : Hint → Type 0) → ((hint : Hint) → First hint → Second hint)
-    → IsSomeAnd row (λ each. IsSomeAnd each First) → IsSomeAnd row (λ each. IsSomeAnd each Second)
-weaker (Some (Some hint)) First Second onwards first = onwards hint first
-weaker _ First Second onwards first = absurd first
+-- a row that passes also passes where less is asked
+weaker : (row : Option Hint) (First Second : Hint → Type 0) → ((hint : Hint) → First hint → Second hint)
+    → IsSomeAnd row First → IsSomeAnd row Second
+weaker (Some hint) First Second onwards first = onwards hint first
+weaker None First Second onwards first = absurd first
 
-module _ (rows : List (Option Hint)) (hash : ℕ) where
+module _ (rows : List Hint) (hash : ℕ) where
   -- the row that is looked at in a step
-  abbrev row : ℕ → Option (Option Hint)
+  abbrev row : ℕ → Option Hint
   row step = slice_get rows (row_of (length rows) hash step)
 
-  -- no hint to a place stands where hints of other tags do
-  apart : (place step : ℕ) → RowHas rows hash step (λ hint. hint.tag ≢ tag_of hash)
-      → ¬ RowHas rows hash step (λ hint. (hint.tag ≡ tag_of hash) × (hint.place ≡ place))
-  apart place step other here =
-      let it = both (row step) (λ hint. hint.tag ≢ tag_of hash) (λ hint. (hint.tag ≡ tag_of hash) × (hint.place ≡ place)) other here in
-      it.1 it.2.0
+  -- the row has the tag of the hash
+  abbrev HasTag : Hint → Type 0
+  HasTag hint = hint.tag ≡ tag_of hash
+
+  -- the row has the tag of the hash, and the place
+  abbrev IsTo : ℕ → Hint → Type 0
+  IsTo place hint = HasTag hint × (hint.place ≡ place)
+
+  -- no row that is passed has a hint to a place
+  apart : (place step : ℕ) → RowIs rows hash step (IsPassed hash) → ¬ RowIs rows hash step (IsTo place)
+  apart place step passed here =
+      let it = both (row step) (IsPassed hash) (IsTo place) passed here in
+      it.1.0 it.2.0
 
   -- two places to which hints lead are the same
   pub leads_once : (first second : ℕ) → LeadsTo rows hash first → LeadsTo rows hash second → first ≡ second
   leads_once first second one two = elim (cases_eq one.step two.step) [
     | inl same ↦
-        let it = both (row two.step) (λ hint. (hint.tag ≡ tag_of hash) × (hint.place ≡ first))
-        (λ hint. (hint.tag ≡ tag_of hash) × (hint.place ≡ second))
-        (subst (λ step. RowHas rows hash step (λ hint. (hint.tag ≡ tag_of hash) × (hint.place ≡ first))) same one.here) two.here in
+        let it = both (row two.step) (IsTo first) (IsTo second)
+        (subst (λ step. RowIs rows hash step (IsTo first)) same one.here) two.here in
         sym it.1.1 ∙ it.2.1
     | inr other ↦ elim (cases_lt one.step two.step) [
       | inl less ↦ absurd (apart first one.step (two.before one.step less) one.here)
@@ -54,21 +60,22 @@ module _ (rows : List (Option Hint)) (hash : ℕ) where
     ]
   ]
 
-  -- no hint leads on where a row is free after rows of other tags
-  pub ends_free : (step : ℕ) → (¬ RowHas rows hash step (λ hint. Unit {0}))
-      → ((earlier : ℕ) → earlier < step → RowHas rows hash earlier (λ hint. hint.tag ≢ tag_of hash))
+  -- no hint leads on where a row neither has the tag nor is passed, after rows that are passed
+  pub ends_here : (step : ℕ) → (¬ RowIs rows hash step HasTag) → (¬ RowIs rows hash step (IsPassed hash))
+      → ((earlier : ℕ) → earlier < step → RowIs rows hash earlier (IsPassed hash))
       → (place : ℕ) → ¬ LeadsTo rows hash place
-  ends_free step free before place leads = elim (cases_eq leads.step step) [
-    | inl same ↦ free (subst (λ each. RowHas rows hash each (λ hint. Unit {0})) same
-        (weaker (row leads.step) (λ hint. (hint.tag ≡ tag_of hash) × (hint.place ≡ place)) (λ hint. Unit {0}) (λ hint it. tt) leads.here))
+  ends_here step untagged unpassed before place leads = elim (cases_eq leads.step step) [
+    | inl same ↦
+        untagged (subst (λ each. RowIs rows hash each HasTag) same
+        (weaker (row leads.step) (IsTo place) HasTag (λ hint it. it.0) leads.here))
     | inr other ↦ elim (cases_lt leads.step step) [
       | inl less ↦ apart place leads.step (before leads.step less) leads.here
-      | inr most ↦ free (weaker (row step) (λ hint. hint.tag ≢ tag_of hash) (λ hint. Unit {0}) (λ hint it. tt) (leads.before step (omega (arith, other, most))))
+      | inr most ↦ unpassed (leads.before step (omega (arith, other, most)))
     ]
   ]
 
-  -- nor where all rows that are looked at have other tags
-  pub ends_full : ((earlier : ℕ) → earlier < 64 → RowHas rows hash earlier (λ hint. hint.tag ≢ tag_of hash))
+  -- nor where all rows that are looked at are passed
+  pub ends_full : ((earlier : ℕ) → earlier < 64 → RowIs rows hash earlier (IsPassed hash))
       → (place : ℕ) → ¬ LeadsTo rows hash place
   ends_full before place leads = apart place leads.step (before leads.step leads.near) leads.here
 

@@ -1,5 +1,5 @@
 -- Rows of hints: where in a list of entries a key may stand, by the hash of the key.
-use Rattle.std.specs.Prelude.{◌≡◌, ◌≢◌, ◌+◌, ◌-◌, ◌/◌, ◌%◌, ◌^◌, ◌<◌, ℕ, IfSome, IsSomeAnd, IsTrue, List, Option, bit_and, length, slice_get}
+use Rattle.std.specs.Prelude.{◌≡◌, ◌≢◌, ◌+◌, ◌-◌, ◌/◌, ◌%◌, ◌^◌, ◌<◌, ℕ, IfSome, IsSomeAnd, IsTrue, List, bit_and, length, slice_get}
 use Rattle.std.specs.Hash.{HashWrites}
 use Rattle.std.specs.Hash.FoldHasher as folding
 use Rattle.std.specs.List.{fold}
@@ -19,21 +19,23 @@ tag_of hash = hash / 2 ^ 32
 abbrev pub row_of : ℕ → ℕ → ℕ → ℕ
 row_of rows hash step = bit_and ((hash + step) % 2 ^ 64) (rows - 1)
 
--- in the row of a step stands a hint that passes
-abbrev pub RowHas : List (Option Hint) → ℕ → ℕ → (Hint → Type 0) → Type 0
-RowHas rows hash step Passes =
-    IsSomeAnd (slice_get rows (row_of (length rows) hash step)) (λ row. IsSomeAnd row Passes)
+-- the row of a step is there, and passes
+abbrev pub RowIs : List Hint → ℕ → ℕ → (Hint → Type 0) → Type 0
+RowIs rows hash step Passes = IsSomeAnd (slice_get rows (row_of (length rows) hash step)) Passes
 
--- the first of the rows of a hash in which no hint of another tag stands has a hint to the place
-pub record LeadsTo (rows : List (Option Hint)) (hash place : ℕ) : Type 0 where
+-- the row has a hint of another tag: the search goes on after it, as it doesn't after a free row
+abbrev pub IsPassed : ℕ → Hint → Type 0
+IsPassed hash hint = (hint.tag ≢ tag_of hash) × (hint.place ≢ 2 ^ 32 - 1)
+
+-- the first of the rows of a hash that isn't passed has its tag, and the place
+pub record LeadsTo (rows : List Hint) (hash place : ℕ) : Type 0 where
   pub step : ℕ
   pub near : step < 64
-  pub here : RowHas rows hash step (λ hint. (hint.tag ≡ tag_of hash) × (hint.place ≡ place))
-  pub before : (earlier : ℕ) → earlier < step
-      → RowHas rows hash earlier (λ hint. hint.tag ≢ tag_of hash)
+  pub here : RowIs rows hash step (λ hint. (hint.tag ≡ tag_of hash) × (hint.place ≡ place))
+  pub before : (earlier : ℕ) → earlier < step → RowIs rows hash earlier (IsPassed hash)
 
 -- a hint leads to the key at each place
-abbrev pub LeadToAll : {K : Type 0} → (K → HashWrites) → FoldHasher → List (Option Hint) → List K
+abbrev pub LeadToAll : {K : Type 0} → (K → HashWrites) → FoldHasher → List Hint → List K
     → Type 0
 LeadToAll writes begun rows keys = (place : ℕ)
     → IfSome (slice_get keys place) (λ key. LeadsTo rows (hash_by begun (writes key)) place)

@@ -19,14 +19,20 @@ const SEEDS: [u64; 4] = [
     0xe468_0bc7_5f12_d39d,
 ];
 
-/// That an entry may stand at a place.
+/// A row: that an entry may stand at a place, or that the row is free.
+///
+/// That it is free is said by its place, since an option of a hint takes twelve bytes in place of
+/// eight. A free row that is taken for a hint does no harm, since a hint counts by the name alone.
 #[derive(Clone, Copy)]
 pub(crate) struct Hint {
     /// The upper half of the hash of the entry's key.
     tag: u32,
-    /// The place of the entry.
+    /// The place of the entry, or `FREE`.
     place: u32,
 }
+
+/// The place of a row that is free.
+const FREE: u32 = u32::MAX;
 
 /// Rows of hints, as many as a power of two. Each hint is in the first row that was free of those
 /// that are looked at for its hash; where all of these were taken there is none.
@@ -35,7 +41,7 @@ pub(crate) struct Hints {
     /// What hashes begin with, as a hasher that was given it.
     begun: FoldHasher,
     /// The rows.
-    rows: Vec<Option<Hint>>,
+    rows: Vec<Hint>,
     /// Whether a hint leads to each entry, so that a key to which none leads isn't there.
     pub(crate) complete: bool,
 }
@@ -64,30 +70,32 @@ fn hash_tag(hash: u64) -> u32
 }
 
 /// The row that is looked at for a hash in a step.
-fn row_at(rows: &[Option<Hint>], hash: u64, step: usize) -> usize
+fn row_at(rows: &[Hint], hash: u64, step: usize) -> usize
     ensures { result ≡ row_of (length rows.now) hash step }
 {
     (hash as usize).wrapping_add(step) & rows.len().saturating_sub(1)
 }
 
 /// The place to which a hint leads, if one does.
-fn place_hinted(rows: &[Option<Hint>], hash: u64) -> Option<usize>
+fn place_hinted(rows: &[Hint], hash: u64) -> Option<usize>
     ensures found { IfSome result (LeadsTo rows.now hash) }
     ensures lacking { IfNone result ((place : ℕ) → ¬ LeadsTo rows.now hash place) }
 {
     let tag = hash_tag(hash);
     for step in 0..PROBES {
-        match rows.get(row_at(rows, hash, step)) {
-            Some(Some(hint)) if hint.tag != tag => {}
-            Some(Some(hint)) => return Some(hint.place as usize),
-            _ => return None,
+        let hint = rows.get(row_at(rows, hash, step))?;
+        if hint.tag == tag {
+            return Some(hint.place as usize);
+        }
+        if hint.place == FREE {
+            return None;
         }
     }
     None
 }
 
 /// Puts a hint into the first free row for its hash, where no earlier one has its tag.
-fn put_hint(rows: &mut [Option<Hint>], hash: u64, place: usize) {
+fn put_hint(rows: &mut [Hint], hash: u64, place: usize) {
     let tag = hash_tag(hash);
     let Ok(place) = u32::try_from(place) else {
         return;
@@ -95,11 +103,11 @@ fn put_hint(rows: &mut [Option<Hint>], hash: u64, place: usize) {
     for step in 0..PROBES {
         let row = row_at(rows, hash, step);
         match rows.get_mut(row) {
-            Some(Some(hint)) if hint.tag != tag => {}
-            Some(free @ None) => {
-                *free = Some(Hint { tag, place });
+            Some(free) if free.place == FREE => {
+                *free = Hint { tag, place };
                 return;
             }
+            Some(hint) if hint.tag != tag => {}
             _ => return,
         }
     }
@@ -112,12 +120,11 @@ fn rows_for(entries: usize) -> usize {
 }
 
 /// Rows with hints to entries. Out of memory is the only refusal.
-fn hint_rows<K: Hash, V>(
-    alloc: Global,
-    begun: &FoldHasher,
-    entries: &[(K, V)],
-) -> M<Vec<Option<Hint>>> {
-    let mut rows = vec![in alloc; None; rows_for(entries.len())]?;
+fn hint_rows<K: Hash, V>(alloc: Global, begun: &FoldHasher, entries: &[(K, V)]) -> M<Vec<Hint>> {
+    let mut rows = vec![in alloc; Hint {
+        tag: 0,
+        place: FREE
+    }; rows_for(entries.len())]?;
     for (place, entry) in entries.iter().enumerate() {
         put_hint(&mut rows, hash_of(begun, &entry.0), place);
     }
@@ -125,7 +132,7 @@ fn hint_rows<K: Hash, V>(
 }
 
 /// Whether a hint leads to each entry.
-fn lead_to_all<K: Hash, V>(rows: &[Option<Hint>], begun: &FoldHasher, entries: &[(K, V)]) -> bool
+fn lead_to_all<K: Hash, V>(rows: &[Hint], begun: &FoldHasher, entries: &[(K, V)]) -> bool
     ensures { IsTrue result → LeadToAll K.hash_input begun.now rows.now (keys_of entries.now) }
 {
     for (place, entry) in entries.iter().enumerate() {
