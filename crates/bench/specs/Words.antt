@@ -1,37 +1,32 @@
-use Rattle.std.specs.Prelude.{◌≡◌, ◌⊎◌, List, [], ◌∷◌, codes, Contains}
+use Rattle.std.specs.Prelude.{◌≡◌, ◌⊎◌, ℕ, List, [], ◌∷◌, codes, IsTrue}
+use Rattle.std.specs.Borrow.{Bor}
 use Rattle.cedar_below.specs.Text.{Text}
+pub use Rattle.cedar_json.specs.Words.{is_among}
+use Rattle.bench.specs.declared.piece.Piece.{Piece}
 
--- the names of the pieces of work on types
-abbrev pub type_piece_names : List Text
-type_piece_names =
-    codes "subtype-closed-strict" ∷ codes "subtype-closed-permissive" ∷ codes "subtype-open-strict"
-    ∷ codes "subtype-open-permissive" ∷ codes "look-up" ∷ codes "membership" ∷ codes "print"
-    ∷ codes "equality" ∷ codes "copy" ∷ codes "union-inclusion" ∷ codes "union-disjointness"
-    ∷ codes "union-joins" ∷ codes "join-strict" ∷ codes "join-permissive" ∷ codes "separation" ∷ []
-
--- the names of the pieces of work on schemas
-abbrev pub schema_piece_names : List Text
-schema_piece_names =
-    codes "build-whole" ∷ codes "build-split" ∷ codes "build-common-chain" ∷ codes "close-chain"
-    ∷ codes "close-ring" ∷ codes "close-star" ∷ codes "close-trees" ∷ codes "schema-look-up"
-    ∷ codes "look-up-lacking" ∷ codes "look-up-flood" ∷ codes "look-up-apart"
+-- the names of the pieces of work, in the order in which they are measured
+abbrev pub piece_names : List Text
+piece_names =
+    codes "subtype-closed-strict" ∷ codes "subtype-closed-permissive"
+    ∷ codes "subtype-open-strict" ∷ codes "subtype-open-permissive" ∷ codes "look-up"
+    ∷ codes "membership" ∷ codes "print" ∷ codes "equality" ∷ codes "copy"
+    ∷ codes "union-inclusion" ∷ codes "union-disjointness" ∷ codes "union-joins"
+    ∷ codes "join-strict" ∷ codes "join-permissive" ∷ codes "separation" ∷ codes "build-whole"
+    ∷ codes "build-split" ∷ codes "build-common-chain" ∷ codes "close-chain" ∷ codes "close-ring"
+    ∷ codes "close-star" ∷ codes "close-trees" ∷ codes "schema-look-up" ∷ codes "look-up-lacking"
+    ∷ codes "look-up-hashed" ∷ codes "look-up-flood" ∷ codes "look-up-apart"
     ∷ codes "environments" ∷ codes "known-attributes" ∷ codes "validate" ∷ codes "write-back"
     ∷ codes "build-environments" ∷ codes "build-flood" ∷ codes "build-table-flood"
-    ∷ codes "build-apart" ∷ codes "copy-schema"
-    ∷ codes "scale" ∷ []
+    ∷ codes "build-apart" ∷ codes "copy-schema" ∷ codes "compare-same" ∷ codes "compare-changed"
+    ∷ codes "scale" ∷ codes "parse-json" ∷ codes "read-json" ∷ codes "write-json" ∷ []
 
--- the names of the other pieces of work: on hash maps of std, on two versions of a schema, and on
--- JSON
-abbrev pub other_piece_names : List Text
-other_piece_names =
-    codes "look-up-hashed" ∷ codes "compare-same" ∷ codes "compare-changed" ∷ codes "parse-json"
-    ∷ codes "read-json" ∷ codes "write-json" ∷ []
+-- the name of a row of the table of pieces
+abbrev pub piece_name : Bor (List ℕ) × Piece × Bor (List (ℕ × ℕ)) → Text
+piece_name row = row.0.now
 
 -- the text is the name of a piece of work
 abbrev pub IsPieceName : Text → Type 0
-IsPieceName text =
-    Contains type_piece_names text
-    ⊎ (Contains schema_piece_names text ⊎ Contains other_piece_names text)
+IsPieceName text = IsTrue (is_among text piece_names)
 
 -- the words ask for a piece of work to be timed
 pub record IsTimeOfPiece (words : List Text) : Type 0 where

@@ -1,103 +1,9 @@
 //! What the words of the program ask for.
 
-ghost use Rattle.std.specs.Prelude.{◌≡◌, ◌↔◌, ◌⊎◌, codes, Contains, IsSome, map, string_bytes};
-ghost use Rattle.bench.specs.Words.{IsCommand, IsPieceName, other_piece_names, schema_piece_names, type_piece_names};
+ghost use Rattle.std.specs.Prelude.{◌≡◌, ◌↔◌, codes, IsSome, map, string_bytes};
+ghost use Rattle.bench.specs.Words.{IsCommand, IsPieceName};
 
-use crate::piece::Piece;
-
-/// The piece of work on types of a name, if it is one of them.
-#[tactic(auto, using(crate::proofs::PieceNames::type_piece_from_names))]
-fn type_piece_named(name: &str) -> Option<Piece>
-    ensures { IsSome result ↔ Contains type_piece_names name.now }
-{
-    match name {
-        "subtype-closed-strict" => Some(Piece::SubtypeClosedStrict),
-        "subtype-closed-permissive" => Some(Piece::SubtypeClosedPermissive),
-        "subtype-open-strict" => Some(Piece::SubtypeOpenStrict),
-        "subtype-open-permissive" => Some(Piece::SubtypeOpenPermissive),
-        "look-up" => Some(Piece::LookUp),
-        "membership" => Some(Piece::Membership),
-        "print" => Some(Piece::Print),
-        "equality" => Some(Piece::Equality),
-        "copy" => Some(Piece::Copy),
-        "union-inclusion" => Some(Piece::UnionInclusion),
-        "union-disjointness" => Some(Piece::UnionDisjointness),
-        "union-joins" => Some(Piece::UnionJoins),
-        "join-strict" => Some(Piece::JoinStrict),
-        "join-permissive" => Some(Piece::JoinPermissive),
-        "separation" => Some(Piece::Separation),
-        _ => None,
-    }
-}
-
-/// The piece of work on schemas of a name, if it is one of them.
-#[tactic(auto, using(crate::proofs::PieceNames::schema_piece_from_names))]
-fn schema_piece_named(name: &str) -> Option<Piece>
-    ensures { IsSome result ↔ Contains schema_piece_names name.now }
-{
-    match name {
-        "build-whole" => Some(Piece::BuildWhole),
-        "build-split" => Some(Piece::BuildSplit),
-        "build-common-chain" => Some(Piece::BuildCommonChain),
-        "close-chain" => Some(Piece::CloseChain),
-        "close-ring" => Some(Piece::CloseRing),
-        "close-star" => Some(Piece::CloseStar),
-        "close-trees" => Some(Piece::CloseTrees),
-        "schema-look-up" => Some(Piece::SchemaLookUp),
-        "look-up-lacking" => Some(Piece::LookUpLacking),
-        "look-up-flood" => Some(Piece::LookUpFlood),
-        "look-up-apart" => Some(Piece::LookUpApart),
-        "environments" => Some(Piece::Environments),
-        "known-attributes" => Some(Piece::KnownAttributes),
-        "validate" => Some(Piece::Validate),
-        "write-back" => Some(Piece::ConvertBack),
-        "build-environments" => Some(Piece::BuildEnvironments),
-        "build-flood" => Some(Piece::BuildFlood),
-        "build-table-flood" => Some(Piece::BuildTableFlood),
-        "build-apart" => Some(Piece::BuildApart),
-        "copy-schema" => Some(Piece::CopySchema),
-        "scale" => Some(Piece::Scale),
-        _ => None,
-    }
-}
-
-/// The piece of work on hash maps, on two versions of a schema or on JSON of a name, if it is one
-/// of them.
-#[tactic(auto, using(crate::proofs::PieceNames::other_piece_from_names))]
-fn other_piece_named(name: &str) -> Option<Piece>
-    ensures { IsSome result ↔ Contains other_piece_names name.now }
-{
-    match name {
-        "look-up-hashed" => Some(Piece::LookUpHashed),
-        "compare-same" => Some(Piece::CompareSame),
-        "compare-changed" => Some(Piece::CompareChanged),
-        "parse-json" => Some(Piece::ParseJson),
-        "read-json" => Some(Piece::ReadJson),
-        "write-json" => Some(Piece::WriteJson),
-        _ => None,
-    }
-}
-
-/// The piece of work of a name that isn't on types, if it is one of them.
-fn further_piece_named(name: &str) -> Option<Piece>
-    ensures { IsSome result ↔ (Contains schema_piece_names name.now
-        ⊎ Contains other_piece_names name.now) }
-{
-    match schema_piece_named(name) {
-        Some(piece) => Some(piece),
-        None => other_piece_named(name),
-    }
-}
-
-/// The piece of work of a name, if it is one of them.
-fn piece_named(name: &str) -> Option<Piece>
-    ensures { IsSome result ↔ IsPieceName name.now }
-{
-    match type_piece_named(name) {
-        Some(piece) => Some(piece),
-        None => further_piece_named(name),
-    }
-}
+use crate::piece::{Row, row_named};
 
 /// What the program is asked to do.
 #[derive(Clone, Copy)]
@@ -107,11 +13,11 @@ pub(crate) enum Command<'a> {
     /// To time all pieces.
     TimeAll,
     /// To time one piece.
-    Time(Piece),
+    Time(&'static Row),
     /// To time all pieces beside the figures of a file of this name.
     CompareAll(&'a str),
     /// To time one piece beside the figures of a file of this name.
-    Compare(&'a str, Piece),
+    Compare(&'a str, &'static Row),
 }
 
 /// The command of one word.
@@ -129,7 +35,7 @@ fn time_command<'a>(word: &str, piece: &str) -> Option<Command<'a>>
     ensures { IsSome result ↔ ((word.now ≡ codes "time") × IsPieceName piece.now) }
 {
     match word {
-        "time" => Some(Command::Time(piece_named(piece)?)),
+        "time" => Some(Command::Time(row_named(piece)?)),
         _ => None,
     }
 }
@@ -160,7 +66,7 @@ fn compare_command<'a>(word: &str, piece: &str, beside: &str, file: &'a str) -> 
         × (beside.now ≡ codes "beside")) }
 {
     match word {
-        "time" => Some(Command::Compare(earlier(beside, file)?, piece_named(piece)?)),
+        "time" => Some(Command::Compare(earlier(beside, file)?, row_named(piece)?)),
         _ => None,
     }
 }

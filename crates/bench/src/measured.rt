@@ -1,14 +1,13 @@
 //! The table of what was measured.
 
-use crate::piece::Piece;
 use crate::stop::Stop;
 use std::alloc::Global;
 
 /// The least that an operation took.
 #[derive(Clone, Copy)]
 pub(crate) struct Least {
-    /// Of which piece.
-    pub(crate) piece: Piece,
+    /// The name of the piece.
+    pub(crate) name: &'static str,
     /// At which size.
     pub(crate) size: usize,
     /// In tenths of a nanosecond.
@@ -50,7 +49,7 @@ fn tenths_in(text: &str) -> Option<u128> {
 /// What a line of a table says, if it is of the piece at the size.
 fn said_in(line: &str, row: &Least) -> Option<Earlier> {
     let mut fields = line.split('|');
-    let is_of_piece = fields.next()? == row.piece.name();
+    let is_of_piece = fields.next()? == row.name;
     let size: usize = fields.next()?.parse().ok()?;
     let tenths = tenths_in(fields.next()?)?;
     let _growth = fields.next();
@@ -99,7 +98,7 @@ fn ratios(alloc: Global, earlier: Option<&str>, row: &Least) -> Result<String, S
 /// size of a piece.
 fn growth(alloc: Global, before: Option<&Least>, row: &Least) -> Result<String, Stop> {
     match before {
-        Some(before) if before.piece == row.piece => {
+        Some(before) if before.name == row.name => {
             let tenths = row.tenths.saturating_mul(10) / before.tenths.max(1);
             let (ones, rest) = (tenths / 10, tenths % 10);
             Ok(format!(in alloc; "{ones}.{rest}")?)
@@ -126,7 +125,7 @@ fn line(
     let growth = growth(alloc, before, row)?;
     let memory = memory_text(alloc, row.kib)?;
     let ratios = ratios(alloc, earlier, row)?;
-    let (name, size) = (row.piece.name(), row.size);
+    let (name, size) = (row.name, row.size);
     let (ones, rest) = (row.tenths / 10, row.tenths % 10);
     Ok(format!(in alloc; "{name}|{size}|{ones}.{rest}|{growth}|{memory}{ratios}\n")?)
 }

@@ -1,7 +1,10 @@
 //! The pieces of work that are measured.
 
+ghost use Rattle.std.specs.Prelude.{◌≡◌, is_some, map};
+ghost use Rattle.bench.specs.Words.{is_among, piece_name, piece_names};
+
 /// A piece of work.
-#[derive(Clone, Copy, PartialEq, Eq)]
+#[derive(Clone, Copy)]
 pub(crate) enum Piece {
     /// Strict subtyping of two closed records of as many attributes.
     SubtypeClosedStrict,
@@ -90,154 +93,148 @@ pub(crate) enum Piece {
     WriteJson,
 }
 
-/// All pieces, in the order in which they are measured.
-pub(crate) const PIECES: [Piece; 42] = [
-    Piece::SubtypeClosedStrict,
-    Piece::SubtypeClosedPermissive,
-    Piece::SubtypeOpenStrict,
-    Piece::SubtypeOpenPermissive,
-    Piece::LookUp,
-    Piece::Membership,
-    Piece::Print,
-    Piece::Equality,
-    Piece::Copy,
-    Piece::UnionInclusion,
-    Piece::UnionDisjointness,
-    Piece::UnionJoins,
-    Piece::JoinStrict,
-    Piece::JoinPermissive,
-    Piece::Separation,
-    Piece::BuildWhole,
-    Piece::BuildSplit,
-    Piece::BuildCommonChain,
-    Piece::CloseChain,
-    Piece::CloseRing,
-    Piece::CloseStar,
-    Piece::CloseTrees,
-    Piece::SchemaLookUp,
-    Piece::LookUpLacking,
-    Piece::LookUpHashed,
-    Piece::LookUpFlood,
-    Piece::LookUpApart,
-    Piece::Environments,
-    Piece::KnownAttributes,
-    Piece::Validate,
-    Piece::ConvertBack,
-    Piece::BuildEnvironments,
-    Piece::BuildFlood,
-    Piece::BuildTableFlood,
-    Piece::BuildApart,
-    Piece::CopySchema,
-    Piece::CompareSame,
-    Piece::CompareChanged,
-    Piece::Scale,
-    Piece::ParseJson,
-    Piece::ReadJson,
-    Piece::WriteJson,
+/// Sizes at which a piece is timed, each with how often a run does it.
+type Sizes = &'static [(usize, u32)];
+
+/// The sizes of what takes a nanosecond or so an attribute.
+const QUICK: Sizes = &[(10, 100_000), (100, 10_000), (1000, 1000)];
+
+/// The sizes of what takes as long at any size, or nearly.
+const CONSTANT: Sizes = &[(10, 1_000_000), (100, 1_000_000), (1000, 1_000_000)];
+
+/// The sizes of what goes over attributes and makes something of each.
+const LINEAR: Sizes = &[(10, 10_000), (100, 1000), (1000, 100)];
+
+/// The sizes of what goes over whole schemas.
+const OF_SCHEMAS: Sizes = &[(100, 50), (1000, 5), (5000, 1)];
+
+/// The sizes of what closes wide hierarchies.
+const CLOSED: Sizes = &[(50, 1000), (500, 100), (5000, 5)];
+
+/// The sizes of look-ups in schemas.
+const LOOKED_UP: Sizes = &[(100, 100_000), (1000, 100_000), (5000, 100_000)];
+
+/// The sizes of look-ups among names of eight digits.
+const FLOOD: Sizes = &[(1000, 100_000), (20_000, 100_000)];
+
+/// The sizes of building of names of eight digits.
+const BUILT_FLOOD: Sizes = &[(1000, 1), (20_000, 1)];
+
+/// The sizes of texts of JSON.
+const JSON: Sizes = &[(20, 100), (200, 10), (2000, 3), (20_000, 1)];
+
+/// The name that asks for a piece, the piece, and the sizes at which it is timed; the smallest,
+/// which is the first, is also done once.
+pub(crate) type Row = (&'static str, Piece, Sizes);
+
+/// The pieces, in the order in which they are measured.
+const ROWS: &[Row] = &[
+    ("subtype-closed-strict", Piece::SubtypeClosedStrict, QUICK),
+    (
+        "subtype-closed-permissive",
+        Piece::SubtypeClosedPermissive,
+        QUICK,
+    ),
+    ("subtype-open-strict", Piece::SubtypeOpenStrict, QUICK),
+    (
+        "subtype-open-permissive",
+        Piece::SubtypeOpenPermissive,
+        QUICK,
+    ),
+    ("look-up", Piece::LookUp, CONSTANT),
+    ("membership", Piece::Membership, LINEAR),
+    ("print", Piece::Print, LINEAR),
+    ("equality", Piece::Equality, QUICK),
+    ("copy", Piece::Copy, CONSTANT),
+    ("union-inclusion", Piece::UnionInclusion, QUICK),
+    ("union-disjointness", Piece::UnionDisjointness, QUICK),
+    (
+        "union-joins",
+        Piece::UnionJoins,
+        &[(30, 1000), (100, 100), (300, 10)],
+    ),
+    ("join-strict", Piece::JoinStrict, LINEAR),
+    ("join-permissive", Piece::JoinPermissive, LINEAR),
+    ("separation", Piece::Separation, LINEAR),
+    ("build-whole", Piece::BuildWhole, OF_SCHEMAS),
+    ("build-split", Piece::BuildSplit, OF_SCHEMAS),
+    (
+        "build-common-chain",
+        Piece::BuildCommonChain,
+        &[(10, 1000), (1000, 10), (100_000, 1)],
+    ),
+    (
+        "close-chain",
+        Piece::CloseChain,
+        &[(50, 200), (150, 20), (500, 2)],
+    ),
+    (
+        "close-ring",
+        Piece::CloseRing,
+        &[(30, 500), (100, 50), (300, 5)],
+    ),
+    ("close-star", Piece::CloseStar, CLOSED),
+    ("close-trees", Piece::CloseTrees, CLOSED),
+    ("schema-look-up", Piece::SchemaLookUp, LOOKED_UP),
+    ("look-up-lacking", Piece::LookUpLacking, LOOKED_UP),
+    ("look-up-hashed", Piece::LookUpHashed, LOOKED_UP),
+    ("look-up-flood", Piece::LookUpFlood, FLOOD),
+    ("look-up-apart", Piece::LookUpApart, FLOOD),
+    (
+        "environments",
+        Piece::Environments,
+        &[(10, 10_000), (30, 1000), (100, 100)],
+    ),
+    (
+        "known-attributes",
+        Piece::KnownAttributes,
+        &[(10, 10_000), (30, 1000), (100, 1000)],
+    ),
+    ("validate", Piece::Validate, OF_SCHEMAS),
+    ("write-back", Piece::ConvertBack, OF_SCHEMAS),
+    (
+        "build-environments",
+        Piece::BuildEnvironments,
+        &[(30, 100), (100, 10), (300, 1), (1000, 1)],
+    ),
+    ("build-flood", Piece::BuildFlood, BUILT_FLOOD),
+    ("build-table-flood", Piece::BuildTableFlood, BUILT_FLOOD),
+    ("build-apart", Piece::BuildApart, BUILT_FLOOD),
+    ("copy-schema", Piece::CopySchema, &[(1000, 10), (10_000, 1)]),
+    ("compare-same", Piece::CompareSame, OF_SCHEMAS),
+    ("compare-changed", Piece::CompareChanged, OF_SCHEMAS),
+    (
+        "scale",
+        Piece::Scale,
+        &[(10_000, 1), (30_000, 1), (100_000, 1), (200_000, 1)],
+    ),
+    ("parse-json", Piece::ParseJson, JSON),
+    ("read-json", Piece::ReadJson, JSON),
+    ("write-json", Piece::WriteJson, JSON),
 ];
 
-/// How large a piece of work is, and how often a run does it.
-#[derive(Clone, Copy)]
-pub(crate) struct Sized {
-    /// Of how many attributes, entity types or declarations.
-    pub(crate) size: usize,
-    /// How often a run does it.
-    pub(crate) operations: u32,
+/// The pieces, in the order in which they are measured.
+pub(crate) fn rows() -> &'static [Row]
+    ensures { map piece_name result.now ≡ piece_names }
+{
+    ROWS
 }
 
-impl Piece {
-    /// The name that asks for the piece.
-    pub(crate) fn name(self) -> &'static str {
-        match self {
-            Piece::SubtypeClosedStrict => "subtype-closed-strict",
-            Piece::SubtypeClosedPermissive => "subtype-closed-permissive",
-            Piece::SubtypeOpenStrict => "subtype-open-strict",
-            Piece::SubtypeOpenPermissive => "subtype-open-permissive",
-            Piece::LookUp => "look-up",
-            Piece::Membership => "membership",
-            Piece::Print => "print",
-            Piece::Equality => "equality",
-            Piece::Copy => "copy",
-            Piece::UnionInclusion => "union-inclusion",
-            Piece::UnionDisjointness => "union-disjointness",
-            Piece::UnionJoins => "union-joins",
-            Piece::JoinStrict => "join-strict",
-            Piece::JoinPermissive => "join-permissive",
-            Piece::Separation => "separation",
-            Piece::BuildWhole => "build-whole",
-            Piece::BuildSplit => "build-split",
-            Piece::BuildCommonChain => "build-common-chain",
-            Piece::CloseChain => "close-chain",
-            Piece::CloseRing => "close-ring",
-            Piece::CloseStar => "close-star",
-            Piece::CloseTrees => "close-trees",
-            Piece::SchemaLookUp => "schema-look-up",
-            Piece::LookUpLacking => "look-up-lacking",
-            Piece::LookUpHashed => "look-up-hashed",
-            Piece::LookUpFlood => "look-up-flood",
-            Piece::LookUpApart => "look-up-apart",
-            Piece::Environments => "environments",
-            Piece::KnownAttributes => "known-attributes",
-            Piece::Validate => "validate",
-            Piece::ConvertBack => "write-back",
-            Piece::BuildEnvironments => "build-environments",
-            Piece::BuildFlood => "build-flood",
-            Piece::BuildTableFlood => "build-table-flood",
-            Piece::BuildApart => "build-apart",
-            Piece::CopySchema => "copy-schema",
-            Piece::CompareSame => "compare-same",
-            Piece::CompareChanged => "compare-changed",
-            Piece::Scale => "scale",
-            Piece::ParseJson => "parse-json",
-            Piece::ReadJson => "read-json",
-            Piece::WriteJson => "write-json",
+/// The first of some rows of a name, if there is one.
+fn row_among(rows: &'static [Row], name: &str) -> Option<&'static Row>
+    ensures { is_some result ≡ is_among name.now (map piece_name rows.now) }
+{
+    for row in rows {
+        if name == row.0 {
+            return Some(row);
         }
     }
+    None
+}
 
-    /// The sizes at which the piece is timed, each with how often a run does it; the smallest,
-    /// which is the first, is also done once.
-    pub(crate) fn sizes(self) -> &'static [(usize, u32)] {
-        match self {
-            Piece::SubtypeClosedStrict
-            | Piece::SubtypeClosedPermissive
-            | Piece::SubtypeOpenStrict
-            | Piece::SubtypeOpenPermissive
-            | Piece::Equality => &[(10, 100_000), (100, 10_000), (1000, 1000)],
-            Piece::LookUp | Piece::Copy => &[(10, 1_000_000), (100, 1_000_000), (1000, 1_000_000)],
-            Piece::Membership
-            | Piece::Print
-            | Piece::JoinStrict
-            | Piece::JoinPermissive
-            | Piece::Separation => &[(10, 10_000), (100, 1000), (1000, 100)],
-            Piece::UnionInclusion | Piece::UnionDisjointness => {
-                &[(10, 100_000), (100, 10_000), (1000, 1000)]
-            }
-            Piece::UnionJoins => &[(30, 1000), (100, 100), (300, 10)],
-            Piece::BuildWhole
-            | Piece::BuildSplit
-            | Piece::Validate
-            | Piece::ConvertBack
-            | Piece::CompareSame
-            | Piece::CompareChanged => &[(100, 50), (1000, 5), (5000, 1)],
-            Piece::BuildCommonChain => &[(10, 1000), (1000, 10), (100_000, 1)],
-            Piece::CloseChain => &[(50, 200), (150, 20), (500, 2)],
-            Piece::CloseRing => &[(30, 500), (100, 50), (300, 5)],
-            Piece::CloseStar | Piece::CloseTrees => &[(50, 1000), (500, 100), (5000, 5)],
-            Piece::SchemaLookUp | Piece::LookUpLacking | Piece::LookUpHashed => {
-                &[(100, 100_000), (1000, 100_000), (5000, 100_000)]
-            }
-            Piece::LookUpFlood | Piece::LookUpApart => &[(1000, 100_000), (20_000, 100_000)],
-            Piece::Environments => &[(10, 10_000), (30, 1000), (100, 100)],
-            Piece::KnownAttributes => &[(10, 10_000), (30, 1000), (100, 1000)],
-            Piece::BuildEnvironments => &[(30, 100), (100, 10), (300, 1), (1000, 1)],
-            Piece::BuildFlood | Piece::BuildTableFlood | Piece::BuildApart => {
-                &[(1000, 1), (20_000, 1)]
-            }
-            Piece::CopySchema => &[(1000, 10), (10_000, 1)],
-            Piece::Scale => &[(10_000, 1), (30_000, 1), (100_000, 1), (200_000, 1)],
-            Piece::ParseJson | Piece::ReadJson | Piece::WriteJson => {
-                &[(20, 100), (200, 10), (2000, 3), (20_000, 1)]
-            }
-        }
-    }
+/// The row of the piece of a name, if there is one.
+pub(crate) fn row_named(name: &str) -> Option<&'static Row>
+    ensures { is_some result ≡ is_among name.now piece_names }
+{
+    row_among(rows(), name)
 }

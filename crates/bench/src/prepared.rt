@@ -226,13 +226,17 @@ fn schema_look_up(alloc: Global, count: usize, number: usize) -> Result<Prepared
     on_borrowed(Borrowed::Declared(schema, ty, action))
 }
 
-/// The entity type and the action of a number, to be looked up in hash maps of as many of each.
+/// The entity type and the action of a number, to be looked up in hash maps of as many of each,
+/// under the names that a schema has, which are shared with it.
 fn hashed_look_up(alloc: Global, count: usize, number: usize) -> Result<Prepared, Stop> {
+    let schema = built(alloc, whole(alloc, count)?)?;
     let mut types = HashMap::new(alloc);
+    for ty in schema.entity_types() {
+        types.insert(ty.name().clone()?, count)?;
+    }
     let mut actions = HashMap::new(alloc);
-    for each in 0..count {
-        types.insert(entity_type(alloc, each)?, each)?;
-        actions.insert(uid(alloc, each)?, each)?;
+    for action in schema.action_ids() {
+        actions.insert(action.name().clone()?, count)?;
     }
     let (ty, action) = (entity_type(alloc, number)?, uid(alloc, number)?);
     on_borrowed(Borrowed::Hashed(types, actions, ty, action))

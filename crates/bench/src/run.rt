@@ -6,7 +6,7 @@ ghost use Rattle.bench.specs.Words.{IsCommand};
 use crate::command::{Command, command_of};
 use crate::measured::{Least, lesser, table, tenths_of};
 use crate::memory::{forget_peak, peak};
-use crate::piece::{PIECES, Piece};
+use crate::piece::{Piece, Row, rows};
 use crate::prepared::{Borrowed, Given, Prepared, prepare};
 use crate::stop::Stop;
 use std::alloc::{AllocGlobal, Global};
@@ -35,21 +35,20 @@ struct Sized {
 }
 
 /// Does a piece once at a size, and answers the line of what it computed.
-fn computed(alloc: Global, piece: Piece, size: usize) -> Result<String, Stop> {
+fn computed(alloc: Global, name: &str, piece: Piece, size: usize) -> Result<String, Stop> {
     let computed = match prepare(alloc, piece, size)? {
         Prepared::Borrowed(borrowed) => borrowed.work(alloc)?,
         Prepared::Given(given) => given.work(alloc)?,
     };
-    let name = piece.name();
     Ok(format!(in alloc; "{name}|{size}|{computed}\n")?)
 }
 
 /// Does each piece once, and writes what they computed.
 fn once<O: Write>(alloc: Global, out: &mut O) -> Result<(), Stop> {
     let mut text = String::new(alloc);
-    for piece in PIECES {
-        if let Some(&(size, _)) = piece.sizes().first() {
-            text.push_str(&computed(alloc, piece, size)?)?;
+    for (name, piece, sizes) in rows() {
+        if let Some(&(size, _)) = sizes.first() {
+            text.push_str(&computed(alloc, name, *piece, size)?)?;
         }
     }
     out.write_all(text.as_bytes())?;
@@ -105,13 +104,13 @@ fn time_of_run<C: Clock>(
 /// Writes the line of a run, and tells of one that took over a second.
 fn tell<O: Write, E: Write>(
     alloc: Global,
-    piece: Piece,
+    name: &str,
     sized: Sized,
     nanoseconds: u128,
     out: &mut O,
     err: &mut E,
 ) -> Result<(), Stop> {
-    let (name, Sized { size, operations }) = (piece.name(), sized);
+    let Sized { size, operations } = sized;
     let line = format!(in alloc; "{name}-{size}|{operations}|{nanoseconds}\n")?;
     out.write_all(line.as_bytes())?;
     if nanoseconds > SECOND {
@@ -126,21 +125,22 @@ fn tell<O: Write, E: Write>(
 fn least<R: Clock + Files + AllocGlobal, O: Write, E: Write>(
     rt: &R,
     alloc: Global,
-    piece: Piece,
+    row: &Row,
     sized: Sized,
     out: &mut O,
     err: &mut E,
 ) -> Result<Least, Stop> {
+    let (name, piece) = (row.0, row.1);
     let (mut tenths, mut kib) = (u128::MAX, None);
     for _ in 0..RUNS {
         forget_peak(rt);
         let nanoseconds = time_of_run(rt, alloc, piece, sized)?;
         kib = lesser(kib, peak(rt));
-        tell(alloc, piece, sized, nanoseconds, out, err)?;
+        tell(alloc, name, sized, nanoseconds, out, err)?;
         tenths = tenths.min(tenths_of(nanoseconds, sized.operations));
     }
     Ok(Least {
-        piece,
+        name,
         size: sized.size,
         tenths,
         kib,
@@ -151,14 +151,14 @@ fn least<R: Clock + Files + AllocGlobal, O: Write, E: Write>(
 fn time_piece<R: Clock + Files + AllocGlobal, O: Write, E: Write>(
     rt: &R,
     alloc: Global,
-    piece: Piece,
-    rows: &mut Vec<Least>,
+    row: &Row,
+    measured: &mut Vec<Least>,
     out: &mut O,
     err: &mut E,
 ) -> Result<(), Stop> {
-    for &(size, operations) in piece.sizes() {
+    for &(size, operations) in row.2 {
         let sized = Sized { size, operations };
-        rows.push(least(rt, alloc, piece, sized, out, err)?)?;
+        measured.push(least(rt, alloc, row, sized, out, err)?)?;
     }
     Ok(())
 }
@@ -167,16 +167,16 @@ fn time_piece<R: Clock + Files + AllocGlobal, O: Write, E: Write>(
 fn time<R: Clock + Files + AllocGlobal, O: Write, E: Write>(
     rt: &R,
     alloc: Global,
-    pieces: &[Piece],
+    rows: &[Row],
     earlier: Option<&str>,
     out: &mut O,
     err: &mut E,
 ) -> Result<(), Stop> {
-    let mut rows = Vec::new(alloc);
-    for piece in pieces {
-        time_piece(rt, alloc, *piece, &mut rows, out, err)?;
+    let mut measured = Vec::new(alloc);
+    for row in rows {
+        time_piece(rt, alloc, row, &mut measured, out, err)?;
     }
-    out.write_all(table(alloc, &rows, earlier)?.as_bytes())?;
+    out.write_all(table(alloc, &measured, earlier)?.as_bytes())?;
     Ok(())
 }
 
@@ -198,15 +198,15 @@ fn carry_out<R: Clock + Files + AllocGlobal, O: Write, E: Write>(
 ) -> Result<(), Stop> {
     match command {
         Command::Once => once(alloc, out),
-        Command::TimeAll => time(rt, alloc, &PIECES, None, out, err),
-        Command::Time(piece) => time(rt, alloc, &[piece], None, out, err),
+        Command::TimeAll => time(rt, alloc, rows(), None, out, err),
+        Command::Time(row) => time(rt, alloc, &[*row], None, out, err),
         Command::CompareAll(file) => {
             let earlier = figures(rt, file)?;
-            time(rt, alloc, &PIECES, Some(&earlier), out, err)
+            time(rt, alloc, rows(), Some(&earlier), out, err)
         }
-        Command::Compare(file, piece) => {
+        Command::Compare(file, row) => {
             let earlier = figures(rt, file)?;
-            time(rt, alloc, &[piece], Some(&earlier), out, err)
+            time(rt, alloc, &[*row], Some(&earlier), out, err)
         }
     }
 }

@@ -1,5 +1,16 @@
-use Rattle.std.specs.Prelude.{◌≡◌, ◌⊎◌, List, [], ◌∷◌, codes, Contains}
+use Rattle.std.specs.Prelude.{◌≡◌, ◌⊎◌, Bool, List, [], ◌∷◌, codes, IsTrue}
+use Rattle.std.specs.Borrow.{Bor}
+use Rattle.std.specs.List.{list_any}
+use Rattle.std.specs.Str.{bytes_eq}
 use Rattle.cedar_below.specs.Text.{Text}
+
+-- a text is one of some names
+abbrev pub is_among : Text → List Text → Bool
+is_among text names = list_any (bytes_eq text) names
+
+-- the name of a row of a table of what has a name
+abbrev pub row_name : {T : Type 0} → Bor Text × T → Text
+row_name row = row.0.now
 
 -- the names of the built-in cases
 abbrev pub case_names : List Text
@@ -30,23 +41,23 @@ pub record IsJoin (words : List Text) : Type 0 where
   pub mode : Text
   pub first : Text
   pub second : Text
-  pub is_mode : Contains mode_names mode
-  pub is_first : Contains type_names first
-  pub is_second : Contains type_names second
+  pub is_mode : IsTrue (is_among mode mode_names)
+  pub is_first : IsTrue (is_among first type_names)
+  pub is_second : IsTrue (is_among second type_names)
   pub asked : words ≡ codes "join" ∷ mode ∷ first ∷ second ∷ []
 
 -- the words ask for a case to be shown
 pub record IsShow (words : List Text) : Type 0 where
   pub case : Text
-  pub is_case : Contains case_names case
+  pub is_case : IsTrue (is_among case case_names)
   pub asked : words ≡ codes "show" ∷ case ∷ []
 
 -- the words ask whether a value separates two types
 pub record IsSeparate (words : List Text) : Type 0 where
   pub first : Text
   pub second : Text
-  pub is_first : Contains stated_names first
-  pub is_second : Contains stated_names second
+  pub is_first : IsTrue (is_among first stated_names)
+  pub is_second : IsTrue (is_among second stated_names)
   pub asked : words ≡ codes "separate" ∷ first ∷ second ∷ []
 
 -- the words give a command: `list`, `show` with the name of a case, `join` with a mode and two

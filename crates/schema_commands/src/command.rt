@@ -1,7 +1,7 @@
 //! What the words of the program ask for.
 
-ghost use Rattle.std.specs.Prelude.{◌≡◌, ◌↔◌, codes, Contains, IsSome, map, string_bytes};
-ghost use Rattle.schema_commands.specs.Words.{IsCommand, case_names, mode_names, stated_names, type_names};
+ghost use Rattle.std.specs.Prelude.{◌≡◌, ◌↔◌, IsSome, IsTrue, codes, is_some, map, string_bytes};
+ghost use Rattle.schema_commands.specs.Words.{IsCommand, case_names, is_among, mode_names, row_name, stated_names, type_names};
 
 use cedar_schema::below::ValidationMode;
 
@@ -32,25 +32,38 @@ pub enum Case {
     Tint,
 }
 
-/// The case of a name, if it is one of a built-in case.
-#[tactic(auto, using(crate::proofs::Names::case_from_names))]
-fn case_named(name: &str) -> Option<Case>
-    ensures { IsSome result ↔ Contains case_names name.now }
+/// The built-in cases by name.
+const CASES: &[(&str, Case)] = &[
+    ("alias", Case::Alias),
+    ("both", Case::Both),
+    ("cycle", Case::Cycle),
+    ("empty", Case::Empty),
+    ("linked", Case::Linked),
+    ("photos", Case::Photos),
+    ("ring", Case::Ring),
+    ("shadow", Case::Shadow),
+    ("shapes", Case::Shapes),
+    ("split", Case::Split),
+    ("tint", Case::Tint),
+];
+
+/// What stands first under a name, if anything does.
+fn named<T: Copy>(rows: &[(&str, T)], name: &str) -> Option<T>
+    ensures { is_some result ≡ is_among name.now (map row_name rows.now) }
 {
-    match name {
-        "alias" => Some(Case::Alias),
-        "both" => Some(Case::Both),
-        "cycle" => Some(Case::Cycle),
-        "empty" => Some(Case::Empty),
-        "linked" => Some(Case::Linked),
-        "photos" => Some(Case::Photos),
-        "ring" => Some(Case::Ring),
-        "shadow" => Some(Case::Shadow),
-        "shapes" => Some(Case::Shapes),
-        "split" => Some(Case::Split),
-        "tint" => Some(Case::Tint),
-        _ => None,
+    for row in rows {
+        if name == row.0 {
+            return Some(row.1);
+        }
     }
+    None
+}
+
+/// The case of a name, if it is one of a built-in case.
+fn case_named(name: &str) -> Option<Case>
+    ensures { is_some result ≡ is_among name.now case_names }
+{
+    named(CASES, name)
 }
 
 /// A type that the program separates from others: no `Never` stands in it, and each attribute in it
@@ -102,35 +115,36 @@ pub enum SampleType {
     Stated(StatedType),
 }
 
+/// The types that are separated by name.
+const STATED: &[(&str, StatedType)] = &[
+    ("true", StatedType::True),
+    ("false", StatedType::False),
+    ("bool", StatedType::Bool),
+    ("long", StatedType::Long),
+    ("string", StatedType::String),
+    ("any-set", StatedType::AnySet),
+    ("set-bool", StatedType::SetOfBool),
+    ("set-long", StatedType::SetOfLong),
+    ("any-entity", StatedType::AnyEntity),
+    ("foo", StatedType::Foo),
+    ("bar", StatedType::Bar),
+    ("any-record", StatedType::AnyRecord),
+    ("unit", StatedType::Unit),
+    ("r1", StatedType::BarAndFalse),
+    ("r2", StatedType::BarAndString),
+    ("r3", StatedType::BarAlone),
+];
+
 /// The type of a name, if it is one of those that are separated.
-#[tactic(auto, using(crate::proofs::Names::stated_from_names))]
 fn stated_named(name: &str) -> Option<StatedType>
-    ensures { IsSome result ↔ Contains stated_names name.now }
+    ensures { is_some result ≡ is_among name.now stated_names }
 {
-    match name {
-        "true" => Some(StatedType::True),
-        "false" => Some(StatedType::False),
-        "bool" => Some(StatedType::Bool),
-        "long" => Some(StatedType::Long),
-        "string" => Some(StatedType::String),
-        "any-set" => Some(StatedType::AnySet),
-        "set-bool" => Some(StatedType::SetOfBool),
-        "set-long" => Some(StatedType::SetOfLong),
-        "any-entity" => Some(StatedType::AnyEntity),
-        "foo" => Some(StatedType::Foo),
-        "bar" => Some(StatedType::Bar),
-        "any-record" => Some(StatedType::AnyRecord),
-        "unit" => Some(StatedType::Unit),
-        "r1" => Some(StatedType::BarAndFalse),
-        "r2" => Some(StatedType::BarAndString),
-        "r3" => Some(StatedType::BarAlone),
-        _ => None,
-    }
+    named(STATED, name)
 }
 
 /// The type of a name, if it is one of those that are joined.
 fn type_named(name: &str) -> Option<SampleType>
-    ensures { IsSome result ↔ Contains type_names name.now }
+    ensures { is_some result ≡ is_among name.now type_names }
 {
     match name {
         "never" => Some(SampleType::Never),
@@ -139,16 +153,17 @@ fn type_named(name: &str) -> Option<SampleType>
     }
 }
 
+/// The modes by name.
+const MODES: &[(&str, ValidationMode)] = &[
+    ("strict", ValidationMode::Strict),
+    ("permissive", ValidationMode::Permissive),
+];
+
 /// The mode of a name, if it is one of a mode.
-#[tactic(auto, using(crate::proofs::Names::mode_from_names))]
 fn mode_named(name: &str) -> Option<ValidationMode>
-    ensures { IsSome result ↔ Contains mode_names name.now }
+    ensures { is_some result ≡ is_among name.now mode_names }
 {
-    match name {
-        "strict" => Some(ValidationMode::Strict),
-        "permissive" => Some(ValidationMode::Permissive),
-        _ => None,
-    }
+    named(MODES, name)
 }
 
 /// What the program is asked to do.
@@ -176,7 +191,7 @@ fn list_command(word: &str) -> Option<Command>
 
 /// The command of a word and the name of a case.
 fn show_command(word: &str, case: &str) -> Option<Command>
-    ensures { IsSome result ↔ ((word.now ≡ codes "show") × Contains case_names case.now) }
+    ensures { IsSome result ↔ ((word.now ≡ codes "show") × IsTrue (is_among case.now case_names)) }
 {
     match word {
         "show" => Some(Command::Show(case_named(case)?)),
@@ -186,8 +201,8 @@ fn show_command(word: &str, case: &str) -> Option<Command>
 
 /// The command of a word, the name of a mode, and those of two types.
 fn join_command(word: &str, mode: &str, first: &str, second: &str) -> Option<Command>
-    ensures { IsSome result ↔ ((word.now ≡ codes "join") × Contains mode_names mode.now
-        × Contains type_names first.now × Contains type_names second.now) }
+    ensures { IsSome result ↔ ((word.now ≡ codes "join") × IsTrue (is_among mode.now mode_names)
+        × IsTrue (is_among first.now type_names) × IsTrue (is_among second.now type_names)) }
 {
     match word {
         "join" => Some(Command::Join(mode_named(mode)?, type_named(first)?, type_named(second)?)),
@@ -197,8 +212,9 @@ fn join_command(word: &str, mode: &str, first: &str, second: &str) -> Option<Com
 
 /// The command of a word and the names of two types.
 fn separate_command(word: &str, first: &str, second: &str) -> Option<Command>
-    ensures { IsSome result ↔ ((word.now ≡ codes "separate") × Contains stated_names first.now
-        × Contains stated_names second.now) }
+    ensures { IsSome result ↔ ((word.now ≡ codes "separate")
+        × IsTrue (is_among first.now stated_names)
+        × IsTrue (is_among second.now stated_names)) }
 {
     match word {
         "separate" => Some(Command::Separate(stated_named(first)?, stated_named(second)?)),
