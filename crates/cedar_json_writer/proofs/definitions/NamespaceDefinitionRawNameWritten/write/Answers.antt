@@ -7,21 +7,25 @@ use Rattle.cedar_json_writer.proofs.WrittenTypes.{id_key-read}
 use Rattle.cedar_json_writer.proofs.WritingLemmas.{checked, on_ok}
 use Rattle.cedar_json_writer.proofs.definitions.NamespaceDefinitionRawNameWritten.write.Goals as goal
 
+-- a flaw of an entity type is one of the definition
 pub returns-in_err-write_field-clause-checked : goal.returns-in_err-write_field-clause-checked
 returns-in_err-write_field-clause-checked c =
     let p = err_from_is_err_and c.from_residual-in_err-write_field.result c.from_residual-in_err-write_field.ensures.1 in
     rw (p.1, p.2) (entity_type_flaw (written_definition c.args.self.now) _ c.in_err-write_field.ensures.checked)
 
+-- so is one of an action
 pub returns-in_err-write_field-2-clause-checked : goal.returns-in_err-write_field-2-clause-checked
 returns-in_err-write_field-2-clause-checked c =
     let p = err_from_is_err_and c.from_residual-in_err-write_field-2.result c.from_residual-in_err-write_field-2.ensures.1 in
     rw (p.1, p.2) (action_flaw (written_definition c.args.self.now) _ c.in_err-write_field-2.ensures.checked)
 
+-- and one of a common type
 pub returns-in_err-write_common_types-clause-checked : goal.returns-in_err-write_common_types-clause-checked
 returns-in_err-write_common_types-clause-checked c =
     let p = err_from_is_err_and c.from_residual-in_err-write_common_types.result c.from_residual-in_err-write_common_types.ensures.1 in
     rw (p.1, p.2) (common_type_flaw (written_definition c.args.self.now) _ c.in_err-write_common_types.ensures.checked)
 
+-- a definition is written as the object of its entity types, its actions, and its common types if there are any
 pub returns-clause-written : goal.returns-clause-written
 returns-clause-written c =
     let it = c.args.self.now in
@@ -32,6 +36,7 @@ returns-clause-written c =
     c.in_ok-token.ensures.ok c.in_ok-write_field.ensures.written c.in_ok-write_field-2.ensures.written
     c.in_ok-write_common_types.ensures.written ended)
 
+-- where none of these had a flaw, the definition has none, and it is sound
 pub returns-clause-checked : goal.returns-clause-checked
 returns-clause-checked c =
     let it = c.args.self.now in
