@@ -12,7 +12,7 @@ use std::ops::Range;
 pub(crate) const ALIKE: &str = "FloodOf000017770VMgAjaq9";
 
 /// Letters as many, with which they have one hash with the first seed of the tables of schemas.
-pub(crate) const ALIKE_IN_TABLES: &str = "FloodOf000100137D_KVxV0Q";
+pub(crate) const ALIKE_IN_TABLES: &str = "FloodOf000178688m2N1v7BI";
 
 /// Letters as many, with which they have unlike ones.
 pub(crate) const APART: &str = "FloodOf000017771VMgAjaq9";

@@ -13,6 +13,7 @@ pub mod NameReading
 pub mod Names
 pub mod Ordered
 pub mod PlainNames
+mod QuickInputs
 pub mod ShownLemmas
 pub mod Texts
 pub mod TextsOfNames

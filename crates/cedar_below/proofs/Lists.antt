@@ -19,20 +19,6 @@ pub Contains-cons_cases : {B : Type 0} (b : B) (bs : List B) (x : B) → Contain
 Contains-cons_cases b bs x (zero, lt, e) = inl e
 Contains-cons_cases b bs x (suc k, lt, e) = inr (k, omega (arith, lt), e)
 
--- x is the first of some elements, or the second, and so on
-abbrev pub OneOf : {B : Type 0} → List B → B → Type 0
-OneOf [] x = ⊥
-OneOf (only ∷ []) x = x ≡ only
-OneOf (first ∷ second ∷ rest) x = (x ≡ first) ⊎ OneOf (second ∷ rest) x
-
--- and then it is among them
-pub one_of : {B : Type 0} (bs : List B) (x : B) → OneOf bs x → Contains bs x
-one_of [] x is = absurd is
-one_of (only ∷ []) x is = Contains-cons only [] x (inl (sym is))
-one_of (first ∷ second ∷ rest) x is =
-    Contains-cons first (second ∷ rest) x
-    (elim is [ inl here ↦ inl (sym here) | inr later ↦ inr (one_of (second ∷ rest) x later) ])
-
 -- where a test decides whether an element gives x, its search decides whether x is given
 pub list_any-Contains : {X B : Type 0} (f : X → B) (x : B) (test : X → Bool) → ((y : X) → Decides (test y) (f y ≡ x))
     → (ys : List X) → Decides (list_any test ys) (Contains (map f ys) x)

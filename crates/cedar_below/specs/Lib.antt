@@ -31,6 +31,7 @@ pub mod NameText
 pub mod NonEmpty
 pub mod PlainName
 pub mod PlainUid
+pub mod QuickInput
 pub mod Reading
 pub mod RestrictedExpr
 pub mod Stops

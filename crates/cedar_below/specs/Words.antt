@@ -29,6 +29,7 @@ pub use Rattle.cedar_below.specs.NameText.{IsNameText, IsOfIdentifiers, IsReserv
 pub use Rattle.cedar_below.specs.NonEmpty.{items_of}
 pub use Rattle.cedar_below.specs.PlainName.{IsActionType, IsReserved, IsUnqualified, PlainName, action_word, name_cmp, name_text}
 pub use Rattle.cedar_below.specs.PlainUid.{PlainUid, uid_cmp}
+pub use Rattle.cedar_below.specs.QuickInput.{name_input, tells_whole, uid_input}
 pub use Rattle.cedar_below.specs.Reading.{reading_then}
 pub use Rattle.cedar_below.specs.RestrictedExpr.{entries_of, tree_of, tree_step, trees_of}
 pub use Rattle.cedar_below.specs.Stops.{Begins, IsLongestBeginning, StopsAt}

@@ -8,8 +8,10 @@ use crate::loc::Loc;
 use crate::memory::M;
 use crate::name::Name;
 use crate::name_fault::NameFault;
+use crate::quick_hash::QuickHash;
 use std::alloc::Global;
 use std::fmt;
+use std::hash::Hasher;
 
 /// The base name of every action's type.
 const ACTION: &str = "Action";
@@ -111,6 +113,16 @@ impl EntityType {
         ensures shared { IfOk result (λ copy. is_type_shared copy ≡ is_type_shared self.now) }
     {
         Ok(EntityType(self.0.clone()?))
+    }
+}
+
+impl QuickHash for EntityType {
+    ghost use Rattle.cedar_below.specs.Words.{name_input, type_name};
+
+    ghost quick_input = { λ ty. name_input (type_name ty) };
+
+    fn quick_hash<H: Hasher>(&self, state: &mut H) {
+        self.0.quick_hash(state);
     }
 }
 

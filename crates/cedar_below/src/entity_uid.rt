@@ -10,10 +10,12 @@ use crate::internal_name::InternalName;
 use crate::loc::Loc;
 use crate::memory::M;
 use crate::name_fault::NameFault;
+use crate::quick_hash::QuickHash;
 use crate::quoted::Quoted;
 use crate::with_leading::WithLeading;
 use std::alloc::Global;
 use std::fmt;
+use std::hash::Hasher;
 
 /// The uid of an entity: its type, and its id within the type.
 ///
@@ -169,6 +171,17 @@ impl EntityUID {
             eid,
             loc: self.loc,
         })
+    }
+}
+
+impl QuickHash for EntityUID {
+    ghost use Rattle.cedar_below.specs.Words.{uid_input, uid_of};
+
+    ghost quick_input = { λ uid. uid_input (uid_of uid) };
+
+    fn quick_hash<H: Hasher>(&self, state: &mut H) {
+        self.ty.quick_hash(state);
+        state.write(self.eid().as_str().as_bytes());
     }
 }
 

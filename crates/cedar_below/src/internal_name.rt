@@ -1,15 +1,17 @@
 //! Names that may be reserved.
 
 ghost use Rattle.std.specs.Prelude.{◌≡◌, ◌↔◌, IsTrue, IfOk, Contains, map};
-ghost use Rattle.cedar_below.specs.Words.{IsReserved, IsUnqualified, id_text, is_name_shared, name_loc, name_of, parts_of, reserved_word};
+ghost use Rattle.cedar_below.specs.Words.{IsReserved, IsUnqualified, id_text, is_name_shared, name_loc, name_of, parts_of, reserved_word, tells_whole};
 
 use crate::id::Id;
 use crate::leading::leading_number;
 use crate::loc::Loc;
 use crate::memory::M;
+use crate::quick_hash::QuickHash;
 use crate::with_leading::{Leading, WithLeading};
 use std::cmp::Ordering;
 use std::fmt;
+use std::hash::{Hash, Hasher};
 
 /// The parts of a name: its base name, and the identifiers before it, outermost first.
 #[derive(Debug, Drop, PartialEq, Eq, PartialOrd, Ord, Hash)]
@@ -74,6 +76,14 @@ impl NameParts {
     }
 }
 
+/// Whether the number that a name begins with tells it whole: its base name is short, and it has no
+/// path.
+fn tells_whole(leading: u64) -> bool
+    ensures { result ≡ tells_whole leading }
+{
+    leading % 256 < 16 && leading % 2 == 0
+}
+
 impl Leading for NameParts {
     ghost use Rattle.cedar_below.specs.Words.{id_text, name_leading};
 
@@ -93,8 +103,7 @@ impl Leading for NameParts {
         if leading != other {
             return Some(leading.cmp(&other));
         }
-        // A short base name without a path is told whole.
-        if leading % 256 < 16 && leading % 2 == 0 {
+        if tells_whole(leading) {
             return Some(Ordering::Equal);
         }
         None
@@ -189,6 +198,20 @@ impl InternalName {
             parts,
             loc: self.loc,
         })
+    }
+}
+
+impl QuickHash for InternalName {
+    ghost use Rattle.cedar_below.specs.Words.{name_input, name_of};
+
+    ghost quick_input = { λ name. name_input (name_of name) };
+
+    fn quick_hash<H: Hasher>(&self, state: &mut H) {
+        let leading = self.parts.leading();
+        state.write_u64(leading);
+        if !tells_whole(leading) {
+            self.parts.value().hash(state);
+        }
     }
 }
 

@@ -10,8 +10,10 @@ use crate::internal_name::InternalName;
 use crate::loc::Loc;
 use crate::memory::M;
 use crate::name_fault::NameFault;
+use crate::quick_hash::QuickHash;
 use std::alloc::Global;
 use std::fmt;
+use std::hash::Hasher;
 
 /// A name that isn't reserved: no part of it is `__cedar`.
 #[derive(Debug, Drop, PartialEq, Eq, PartialOrd, Ord, Hash)]
@@ -138,6 +140,16 @@ impl Name {
         Ok(Name {
             name: self.name.clone()?,
         })
+    }
+}
+
+impl QuickHash for Name {
+    ghost use Rattle.cedar_below.specs.Words.{name_input, plain_name};
+
+    ghost quick_input = { λ name. name_input (plain_name name) };
+
+    fn quick_hash<H: Hasher>(&self, state: &mut H) {
+        self.name.quick_hash(state);
     }
 }
 

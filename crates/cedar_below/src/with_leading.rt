@@ -70,6 +70,13 @@ impl<T: Leading> WithLeading<T> {
     {
         self.held.value()
     }
+
+    /// The number of the value's leading bytes.
+    pub(crate) fn leading(&self) -> u64
+        ensures { result ≡ T.leading_of self.now.value }
+    {
+        self.leading
+    }
 }
 
 impl<T: Leading + Drop> WithLeading<T> {

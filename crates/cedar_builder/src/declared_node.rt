@@ -3,6 +3,7 @@
 ghost use Rattle.std.specs.Prelude.{◌≡◌, ◌≢◌, ◌⊎◌, ◌↔◌, Bool, Contains, IfErr, IfOk, OnOk, false, map};
 ghost use Rattle.cedar_builder.specs.Words.{AreLocated, Fault, IsCollectedAt, IsCollectingFault, IsDefinedAt, IsPut, Twice, at_key, defined_in, fault_of, named, out_of_memory};
 
+use cedar_below::QuickHash;
 use cedar_declarations::SchemaError;
 use cedar_schema_elements::SchemaNode;
 use cedar_table::Table;
@@ -80,7 +81,7 @@ fn put_node<K: Ord + Hash + Drop, V: SchemaNode<K> + Drop>(
 
 /// What is declared, each under its name: what its definition says, or what is external where there
 /// is none.
-pub(crate) fn collected_nodes<K: Ord + Hash + Drop, S, V: DeclaredNode<K, S> + Drop>(
+pub(crate) fn collected_nodes<K: Ord + Hash + QuickHash + Drop, S, V: DeclaredNode<K, S> + Drop>(
     alloc: Global,
     declared: Vec<(K, V::Fragment)>,
     scope: &S,

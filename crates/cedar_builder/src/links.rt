@@ -3,6 +3,7 @@
 ghost use Rattle.std.specs.Prelude.{◌↔◌, IfErr, IfOk, IsTrue, OnOk};
 ghost use Rattle.cedar_builder.specs.Words.{AreAlike, AreLocated, AreReady, Chain, IsCycle, IsDistinct, IsEdgeIn, Leads, at_key, keys_of};
 
+use cedar_below::QuickHash;
 use cedar_graph::{TableFault, link_table};
 use cedar_schema_elements::SchemaNode;
 use cedar_table::Table;
@@ -11,7 +12,7 @@ use std::hash::Hash;
 
 /// Adds to the descendants of each node, of which it must have none before, those that chains of
 /// edges lead to from it. With `enforce_dag` a chain that leads back is refused.
-pub(crate) fn link<K: Ord + Hash + Drop, V: SchemaNode<K> + Drop>(
+pub(crate) fn link<K: Ord + Hash + QuickHash + Drop, V: SchemaNode<K> + Drop>(
     alloc: Global,
     nodes: Table<K, V>,
     edges: &[(K, K)],

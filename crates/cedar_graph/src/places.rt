@@ -6,12 +6,13 @@ ghost use Rattle.cedar_graph.specs.Words.{AreNumbersOf, HasEntry, IsLack, IsNumb
 
 use crate::table_fault::TableFault;
 use crate::tc_node::TCNode;
+use cedar_below::QuickHash;
 use cedar_table::Table;
 use std::alloc::Global;
 use std::hash::Hash;
 
 /// The place of a key, which has to be there.
-pub(crate) fn place_of<K: Ord + Hash, V: TCNode<K>>(
+pub(crate) fn place_of<K: Ord + Hash + QuickHash, V: TCNode<K>>(
     nodes: &Table<K, V>,
     key: &K,
 ) -> Result<usize, TableFault<K>>
@@ -26,7 +27,7 @@ pub(crate) fn place_of<K: Ord + Hash, V: TCNode<K>>(
 }
 
 /// The places of the keys that a node has an edge to, which have to be there.
-fn places_of<K: Ord + Hash + Drop, V: TCNode<K>>(
+fn places_of<K: Ord + Hash + QuickHash + Drop, V: TCNode<K>>(
     alloc: Global,
     nodes: &Table<K, V>,
     node: &V,
@@ -45,7 +46,7 @@ fn places_of<K: Ord + Hash + Drop, V: TCNode<K>>(
 
 /// The places of the keys that each node has an edge to, in the order of the table. All of them
 /// have to be there.
-pub(crate) fn all_places<K: Ord + Hash + Drop, V: TCNode<K>>(
+pub(crate) fn all_places<K: Ord + Hash + QuickHash + Drop, V: TCNode<K>>(
     alloc: Global,
     nodes: &Table<K, V>,
 ) -> Result<Vec<Vec<usize>>, TableFault<K>>

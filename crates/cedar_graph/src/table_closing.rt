@@ -9,7 +9,7 @@ use crate::list_edges::add_edges;
 use crate::places::all_places;
 use crate::table_fault::TableFault;
 use crate::tc_node::TCNode;
-use cedar_below::M;
+use cedar_below::{M, QuickHash};
 use cedar_table::Table;
 use std::alloc::Global;
 use std::hash::Hash;
@@ -56,7 +56,7 @@ fn linked_nodes<K: Eq + Hash + Drop, V: TCNode<K> + Drop>(
 
 /// A table whose nodes have an edge to each key that chains of targets reach from their own, where
 /// they have those to keys whose places are known.
-pub(crate) fn closed_table<K: Ord + Hash + Drop, V: TCNode<K> + Drop>(
+pub(crate) fn closed_table<K: Ord + Hash + QuickHash + Drop, V: TCNode<K> + Drop>(
     alloc: Global,
     nodes: Table<K, V>,
     targets: &Vec<Vec<usize>>,
@@ -95,7 +95,7 @@ pub(crate) fn closed_table<K: Ord + Hash + Drop, V: TCNode<K> + Drop>(
 /// Each edge has to lead to a key of the table, else it is refused with `Lacks` and that key. Each
 /// node stays alike but for its edges. With `enforce_dag` it is refused with `HasCycle` where some
 /// node reaches itself, whose key it holds. The only other refusal is that memory ran out.
-pub fn close_table<K: Ord + Hash + Drop, V: TCNode<K> + Drop>(
+pub fn close_table<K: Ord + Hash + QuickHash + Drop, V: TCNode<K> + Drop>(
     alloc: Global,
     nodes: Table<K, V>,
     enforce_dag: bool,

@@ -8,7 +8,7 @@ use crate::places::place_of;
 use crate::table_closing::closed_table;
 use crate::table_fault::TableFault;
 use crate::tc_node::TCNode;
-use cedar_below::M;
+use cedar_below::{M, QuickHash};
 use cedar_table::Table;
 use std::alloc::Global;
 use std::hash::Hash;
@@ -41,7 +41,7 @@ fn add_target(targets: &mut Vec<Vec<usize>>, from: usize, to: usize) -> M<()>
 
 /// The places of the keys that edges go to, by the place of the key that they are from. Both have
 /// to be there.
-fn places_of_edges<K: Ord + Hash + Drop, V: TCNode<K>>(
+fn places_of_edges<K: Ord + Hash + QuickHash + Drop, V: TCNode<K>>(
     alloc: Global,
     nodes: &Table<K, V>,
     edges: &[(K, K)],
@@ -68,7 +68,7 @@ fn places_of_edges<K: Ord + Hash + Drop, V: TCNode<K>>(
 /// refused with `Lacks` and that key. Each node stays alike but for its edges, of which it loses
 /// none. With `enforce_dag` it is refused with `HasCycle` where a chain of the edges leads from a
 /// key back to it, with that key. The only other refusal is that memory ran out.
-pub fn link_table<K: Ord + Hash + Drop, V: TCNode<K> + Drop>(
+pub fn link_table<K: Ord + Hash + QuickHash + Drop, V: TCNode<K> + Drop>(
     alloc: Global,
     nodes: Table<K, V>,
     edges: &[(K, K)],

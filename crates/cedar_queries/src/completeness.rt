@@ -10,7 +10,7 @@ use crate::descent::{Actions, EntityTypes};
 use crate::selected::Test;
 use crate::tests_of_values::IsExternal;
 use crate::unresolved::{UnresolvedDeclaration, is_complete, unresolved_declarations};
-use cedar_below::{EntityType, EntityUID, Loc, M, Memory};
+use cedar_below::{EntityType, EntityUID, Loc, M, Memory, QuickHash};
 use cedar_schema_elements::SchemaNode;
 use cedar_table::Table;
 use itertools::Itertools;
@@ -103,7 +103,7 @@ impl From<Memory> for CompleteError {
 }
 
 /// References to the names of those nodes that pass a test.
-fn selected_names<K: Ord + Hash, V: SchemaNode<K>, T: Test<V>>(
+fn selected_names<K: Ord + Hash + QuickHash, V: SchemaNode<K>, T: Test<V>>(
     alloc: Global,
     nodes: &Table<K, V>,
     test: T,
@@ -131,7 +131,7 @@ fn in_order<'a, T: Ord>(references: Vec<&'a T>) -> M<Vec<&'a T>>
 }
 
 /// The names of those nodes that pass a test, in order.
-fn names_in_order<K: Ord + Hash + Drop, V: SchemaNode<K>, T: Test<V>>(
+fn names_in_order<K: Ord + Hash + QuickHash + Drop, V: SchemaNode<K>, T: Test<V>>(
     alloc: Global,
     nodes: &Table<K, V>,
     test: T,

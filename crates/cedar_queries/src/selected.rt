@@ -4,8 +4,8 @@ ghost use Rattle.std.specs.Prelude.{◌≡◌, Bool, length};
 ghost use Rattle.std.specs.Iterator.{at_most};
 ghost use Rattle.std.specs.Map.Iter.{TakesFirst, deref};
 
+use cedar_below::QuickHash;
 use cedar_table::{Iter, Table, Values};
-use std::hash::Hash;
 use std::iter::FusedIterator;
 use std::marker::Model;
 
@@ -34,7 +34,7 @@ impl<'a, K, V, T: Test<V>> Model for Selected<'a, K, V, T> {
     ghost view = { λ a. keys_where (T.holds a.test) a.rest };
 }
 
-impl<'a, K: Ord + Hash, V, T: Test<V>> Selected<'a, K, V, T> {
+impl<'a, K: Ord + QuickHash, V, T: Test<V>> Selected<'a, K, V, T> {
     ghost use Rattle.cedar_queries.specs.Selected.{keys_where};
 
     /// The keys of all entries of the map whose values pass.
@@ -87,7 +87,7 @@ impl<'a, K, V, T: Test<V>> Model for SelectedValues<'a, K, V, T> {
     ghost view = { λ a. filter (T.holds a.test) a.rest };
 }
 
-impl<'a, K: Ord + Hash, V, T: Test<V>> SelectedValues<'a, K, V, T> {
+impl<'a, K: Ord + QuickHash, V, T: Test<V>> SelectedValues<'a, K, V, T> {
     ghost use Rattle.cedar_queries.specs.Selected.{values_where};
 
     /// All values of the map that pass.

@@ -4,7 +4,7 @@ ghost use Rattle.std.specs.Prelude.{◌≡◌, ◌⊎◌, ◌↔◌, Contains, I
 ghost use Rattle.cedar_schema_elements.specs.Uppers.{IsUpper, ListsBelow};
 
 use crate::schema_node::SchemaNode;
-use cedar_below::M;
+use cedar_below::{M, QuickHash};
 use cedar_table::Table;
 use std::alloc::Global;
 use std::collections::{BTreeMap, BTreeSet};
@@ -59,7 +59,7 @@ fn add_uppers<K: Ord + Hash + Drop, V: SchemaNode<K>>(
 
 /// The keys of the nodes above each node: of those that list it among their descendants. Out of
 /// memory is the only refusal.
-pub fn upper_sets<K: Ord + Hash + Drop, V: SchemaNode<K>>(
+pub fn upper_sets<K: Ord + Hash + QuickHash + Drop, V: SchemaNode<K>>(
     alloc: Global,
     nodes: &Table<K, V>,
 ) -> M<Uppers<K>>

@@ -6,7 +6,7 @@ ghost use Rattle.cedar_schema_writer.specs.Words.{IsUpper, Names, NamesNoOther, 
 
 use crate::known::Known;
 use crate::write_back_fault::WriteBackFault;
-use cedar_below::{EntityType, EntityUID, Name};
+use cedar_below::{EntityType, EntityUID, Name, QuickHash};
 use cedar_names::json_schema::{ActionEntityUID, RawName};
 use cedar_schema_elements::{SchemaNode, Uppers};
 use cedar_table::Table;
@@ -114,7 +114,7 @@ pub(crate) fn write_parents<K: WrittenKey<P>, P: Drop>(
 }
 
 /// That each descendant of a node is one of the nodes.
-pub(crate) fn check_descendants<K: Ord + Hash, V: SchemaNode<K>>(
+pub(crate) fn check_descendants<K: Ord + Hash + QuickHash, V: SchemaNode<K>>(
     nodes: &Table<K, V>,
     node: &V,
 ) -> Result<(), WriteBackFault>

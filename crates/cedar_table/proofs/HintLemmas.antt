@@ -1,5 +1,5 @@
 -- The place to which a hint leads: there is one at most, and none where no row of those looked at has a hint to it.
-use Rattle.std.proofs.Common.{Bool, IfSome, IsTrue, true, refl, ◌≡◌, ◌<◌, ◌≤◌, ℕ, IsSomeAnd, List, None, Option, Some, ap, option_map, arith, length, slice_get, subst, sym, ◌∙◌, inl, inr}
+use Rattle.std.proofs.Common.{Bool, IfSome, IsTrue, refl, ◌≡◌, ◌<◌, ◌≤◌, ℕ, IsSomeAnd, List, None, Option, Some, ap, option_map, arith, length, slice_get, subst, sym, ◌∙◌, inl, inr}
 use Rattle.std.proofs.lemmas.Bool.{cases_eq, cases_lt}
 use Rattle.std.proofs.lemmas.Map.Entries.{place_from_lookup}
 use Rattle.std.proofs.lemmas.Option.{MatchOption-from_none, get_or_from_slice_get, slice_get-map, slice_get_past, slice_get_within}
@@ -98,15 +98,16 @@ keys_led {K = K} {V = V} Leads entries n all each place =
     ]))
 
 module _ {K V : Type 0} (eq : K → K → Bool) (cmp : K → K → Ordering) (writes : K → HashWrites)
-    (alike : (a b : K) → eq a b ≡ true → writes a ≡ writes b) (ties : (a b : K) → eq a b ≡ is_eq (cmp a b)) (hints : Hints)
-    (entries : List (K × V)) (hinted : AreHinted writes hints (keys_of entries)) (complete : IsTrue hints.complete) (key : K) where
+    (ties : (a b : K) → eq a b ≡ is_eq (cmp a b)) (hints : Hints) (entries : List (K × V))
+    (hinted : AreHinted writes hints (keys_of entries)) (complete : IsTrue hints.complete) (key : K)
+    (alike : (other : K) → IsTrue (eq key other) → writes key ≡ writes other) where
   -- where hints are complete, a key isn't there if it stands at no place to which a hint leads
   pub not_there : ((place : ℕ) → LeadsTo hints.rows.items (hash_by hints.begun (writes key)) place
       → ¬ StandsAt cmp entries key place)
       → lookup (is_at (cmp key)) entries ≡ None
   not_there nowhere = none_from_no_some (lookup (is_at (cmp key)) entries) (λ value found.
       let it = place_from_lookup (is_at (cmp key)) entries value found in
-      let same : writes key ≡ writes it.1 = alike key it.1 (ties key it.1 ∙ it.3) in
+      let same : writes key ≡ writes it.1 = alike it.1 (ties key it.1 ∙ it.3) in
       let leads : LeadsTo hints.rows.items (hash_by hints.begun (writes key)) it.0 =
       subst (λ input. LeadsTo hints.rows.items (hash_by hints.begun input) it.0) (sym same)
       (subst (λ each. IfSome each (λ other. LeadsTo hints.rows.items (hash_by hints.begun (writes other)) it.0))

@@ -4,10 +4,10 @@ ghost use Rattle.std.specs.Prelude.{◌&&◌};
 ghost use Rattle.cedar_table.specs.Words.{and_equiv, and_per, lists_equiv, lists_per, on_equiv, on_per, pointwise};
 
 use crate::table::Table;
+use cedar_below::QuickHash;
 use std::fmt;
-use std::hash::Hash;
 
-impl<K: Ord + Hash, V: PartialEq> PartialEq for Table<K, V> {
+impl<K: Ord + QuickHash, V: PartialEq> PartialEq for Table<K, V> {
     ghost eq = { λ m n. pointwise (λ p q.
         K.eq p.0 q.0 && V.eq p.1 q.1) m.entries n.entries };
 
@@ -19,13 +19,13 @@ impl<K: Ord + Hash, V: PartialEq> PartialEq for Table<K, V> {
     }
 }
 
-impl<K: Ord + Hash, V: Eq> Eq for Table<K, V> {
+impl<K: Ord + QuickHash, V: Eq> Eq for Table<K, V> {
     ghost laws = { on_equiv (λ m. m.entries)
         (lists_equiv (and_equiv (on_equiv (λ p. p.0) K.Eq.laws)
         (on_equiv (λ p. p.1) V.Eq.laws))) };
 }
 
-impl<K: Ord + Hash + fmt::Debug, V: fmt::Debug> fmt::Debug for Table<K, V> {
+impl<K: Ord + QuickHash + fmt::Debug, V: fmt::Debug> fmt::Debug for Table<K, V> {
     fn fmt<W: fmt::Write>(&self, f: &mut fmt::Formatter<W>) -> fmt::Result {
         let mut out = f.debug_map();
         for (key, value) in self {

@@ -4,13 +4,12 @@ ghost use Rattle.std.specs.Prelude.{◌≡◌, IfOk, Ok, Result};
 ghost use Rattle.cedar_table.specs.Words.{Equal, FnReturnsAt, HoldsPairwise, Memory};
 
 use crate::table::Table;
-use cedar_below::M;
-use std::hash::Hash;
+use cedar_below::{M, QuickHash};
 
 /// A table of the copies of the entries of a table, in their order. The copy of a key has to tie
 /// with it.
 pub fn copied_table<
-    K: Ord + Hash + Drop,
+    K: Ord + QuickHash + Drop,
     V: Drop,
     F: Fn(&K) -> M<K> + Drop,
     G: Fn(&V) -> M<V> + Drop,

@@ -3,9 +3,9 @@
 ghost use Rattle.std.specs.Prelude.{◌≡◌, ℕ, false, IfNone, IfOk, IfSome, IsTrue, length};
 ghost use Rattle.cedar_table.specs.Words.{AreHinted, LeadToAll, LeadsTo, hash_by, keys_of, row_of, tag_of};
 
-use cedar_below::M;
+use cedar_below::{M, QuickHash};
 use std::alloc::Global;
-use std::hash::{FoldHasher, Hash, Hasher};
+use std::hash::{FoldHasher, Hasher};
 
 /// How many rows are looked at for one hash.
 const PROBES: usize = 64;
@@ -54,11 +54,13 @@ fn begun_with(seed: u64) -> FoldHasher {
 }
 
 /// The hash of a key, as a hasher goes on with it.
-fn hash_of<K: Hash>(begun: &FoldHasher, key: &K) -> u64
-    ensures { result ≡ hash_by begun.now (K.hash_input key.now) }
+fn hash_of<K: QuickHash>(begun: &FoldHasher, key: &K) -> u64
+    ensures hash { result ≡ hash_by begun.now (K.quick_input key.now) }
+    ensures alike { (other : K) → IsTrue (K.eq key.now other)
+        → K.quick_input key.now ≡ K.quick_input other }
 {
     let mut state = *begun;
-    key.hash(&mut state);
+    key.quick_hash(&mut state);
     state.finish()
 }
 
@@ -120,7 +122,11 @@ fn rows_for(entries: usize) -> usize {
 }
 
 /// Rows with hints to entries. Out of memory is the only refusal.
-fn hint_rows<K: Hash, V>(alloc: Global, begun: &FoldHasher, entries: &[(K, V)]) -> M<Vec<Hint>> {
+fn hint_rows<K: QuickHash, V>(
+    alloc: Global,
+    begun: &FoldHasher,
+    entries: &[(K, V)],
+) -> M<Vec<Hint>> {
     let mut rows = vec![in alloc; Hint {
         tag: 0,
         place: FREE
@@ -132,8 +138,8 @@ fn hint_rows<K: Hash, V>(alloc: Global, begun: &FoldHasher, entries: &[(K, V)]) 
 }
 
 /// Whether a hint leads to each entry.
-fn lead_to_all<K: Hash, V>(rows: &[Hint], begun: &FoldHasher, entries: &[(K, V)]) -> bool
-    ensures { IsTrue result → LeadToAll K.hash_input begun.now rows.now (keys_of entries.now) }
+fn lead_to_all<K: QuickHash, V>(rows: &[Hint], begun: &FoldHasher, entries: &[(K, V)]) -> bool
+    ensures { IsTrue result → LeadToAll K.quick_input begun.now rows.now (keys_of entries.now) }
 {
     for (place, entry) in entries.iter().enumerate() {
         if place_hinted(rows, hash_of(begun, &entry.0)) != Some(place) {
@@ -156,8 +162,8 @@ impl Hints {
     }
 
     /// Hints to the entries of a list. Out of memory is the only refusal.
-    pub(crate) fn of<K: Hash, V>(alloc: Global, entries: &[(K, V)]) -> M<Self>
-        ensures { IfOk result (λ hints. AreHinted K.hash_input hints (keys_of entries.now)) }
+    pub(crate) fn of<K: QuickHash, V>(alloc: Global, entries: &[(K, V)]) -> M<Self>
+        ensures { IfOk result (λ hints. AreHinted K.quick_input hints (keys_of entries.now)) }
     {
         for seed in SEEDS {
             let begun = begun_with(seed);
@@ -179,11 +185,13 @@ impl Hints {
     }
 
     /// Where the entry of a key may stand, if there is a hint.
-    pub(crate) fn guess<K: Hash>(&self, key: &K) -> Option<usize>
+    pub(crate) fn guess<K: QuickHash>(&self, key: &K) -> Option<usize>
         ensures found { IfSome result (LeadsTo self.now.rows.items
-            (hash_by self.now.begun (K.hash_input key.now))) }
+            (hash_by self.now.begun (K.quick_input key.now))) }
         ensures lacking { IfNone result ((place : ℕ) → ¬ LeadsTo self.now.rows.items
-            (hash_by self.now.begun (K.hash_input key.now)) place) }
+            (hash_by self.now.begun (K.quick_input key.now)) place) }
+        ensures alike { (other : K) → IsTrue (K.eq key.now other)
+            → K.quick_input key.now ≡ K.quick_input other }
     {
         place_hinted(&self.rows, hash_of(&self.begun, key))
     }

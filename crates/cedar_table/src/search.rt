@@ -4,7 +4,7 @@ ghost use Rattle.std.specs.Prelude.{◌≡◌, ◌↔◌, IfNone, IfSome, IsTrue
 ghost use Rattle.cedar_table.specs.Words.{AreHinted, IsStrictlySortedBy, StandsAt, is_at, keys_of, lookup};
 
 use crate::hints::Hints;
-use std::hash::Hash;
+use cedar_below::QuickHash;
 
 /// Whether the entry at a place has the key.
 fn stands_at<K: Ord, V>(entries: &[(K, V)], key: &K, place: usize) -> bool
@@ -15,8 +15,8 @@ fn stands_at<K: Ord, V>(entries: &[(K, V)], key: &K, place: usize) -> bool
 
 /// The place of a key, where a hint leads to it. Where the hints are complete, a key to which none
 /// leads isn't there.
-fn hinted_place<K: Ord + Hash, V>(entries: &[(K, V)], hints: &Hints, key: &K) -> Option<usize>
-    requires { AreHinted K.hash_input hints.now (keys_of entries.now) }
+fn hinted_place<K: Ord + QuickHash, V>(entries: &[(K, V)], hints: &Hints, key: &K) -> Option<usize>
+    requires { AreHinted K.quick_input hints.now (keys_of entries.now) }
     ensures found { IfSome result (StandsAt K.cmp entries.now key.now) }
     ensures lacking { IfNone result (IsTrue hints.now.complete
         → lookup (is_at (K.cmp key.now)) entries.now ≡ None) }
@@ -46,13 +46,13 @@ fn halved_place<K: Ord, V>(entries: &[(K, V)], key: &K) -> Option<usize>
 }
 
 /// The place of a key, where it is among the keys of a sorted list. Hints are tried first.
-pub(crate) fn place_of<K: Ord + Hash, V>(
+pub(crate) fn place_of<K: Ord + QuickHash, V>(
     entries: &[(K, V)],
     hints: &Hints,
     key: &K,
 ) -> Option<usize>
     requires sorted { IsStrictlySortedBy K.cmp (keys_of entries.now) }
-    requires hinted { AreHinted K.hash_input hints.now (keys_of entries.now) }
+    requires hinted { AreHinted K.quick_input hints.now (keys_of entries.now) }
     ensures found { IfSome result (StandsAt K.cmp entries.now key.now) }
     ensures lacking { IfNone result (lookup (is_at (K.cmp key.now)) entries.now ≡ None) }
 {

@@ -4,22 +4,21 @@ use crate::hints::Hints;
 use crate::iter::{Iter, Keys, Values};
 use crate::search::place_of;
 use crate::table_keys::TableKeys;
-use cedar_below::M;
+use cedar_below::{M, QuickHash};
 use std::alloc::Global;
 use std::collections::BTreeMap;
-use std::hash::Hash;
 use std::marker::Model;
 
 /// Values by key, which don't change: entries in the order of their keys, each key once.
 ///
 /// A look-up costs a hash. Only where some key has no hint, since too many hash alike, a key to
 /// which no hint leads is looked for by halving the list.
-pub struct Table<K: Ord + Hash, V> {
+pub struct Table<K: Ord + QuickHash, V> {
     pub(crate) entries: Vec<(K, V)>,
     hints: Hints,
 }
 
-impl<K: Ord + Hash, V> Model for Table<K, V> {
+impl<K: Ord + QuickHash, V> Model for Table<K, V> {
     ghost use Rattle.cedar_table.specs.Words.{AreHinted, Entries, IsStrictlySortedBy, keys_of};
 
     ghost Value = { Entries K V };
@@ -27,11 +26,11 @@ impl<K: Ord + Hash, V> Model for Table<K, V> {
     ghost view = { λ a. record { entries = a.entries.items } };
 
     ghost invariant = { λ a. IsStrictlySortedBy K.cmp (keys_of a.entries.items)
-        × AreHinted K.hash_input a.hints (keys_of a.entries.items) };
+        × AreHinted K.quick_input a.hints (keys_of a.entries.items) };
 }
 
 // Written out: proofs of what holds a table then see one call, and nothing of its parts.
-impl<K: Ord + Hash + Drop, V: Drop> Drop for Table<K, V> {
+impl<K: Ord + QuickHash + Drop, V: Drop> Drop for Table<K, V> {
     fn drop(self) {
         let Table {
             entries: _entries,
@@ -40,7 +39,7 @@ impl<K: Ord + Hash + Drop, V: Drop> Drop for Table<K, V> {
     }
 }
 
-impl<K: Ord + Hash, V> Table<K, V> {
+impl<K: Ord + QuickHash, V> Table<K, V> {
     ghost use Rattle.std.specs.Prelude.{◌≡◌, []};
     ghost use Rattle.cedar_table.specs.Words.{IsStrictlySortedBy, keys_of, values_of};
 
@@ -92,7 +91,7 @@ impl<K: Ord + Hash, V> Table<K, V> {
     }
 }
 
-impl<K: Ord + Hash + Drop, V: Drop> Table<K, V> {
+impl<K: Ord + QuickHash + Drop, V: Drop> Table<K, V> {
     ghost use Rattle.std.specs.Prelude.{◌≡◌, IfOk, OnOk, length};
     ghost use Rattle.cedar_table.specs.Words.{IsStrictlySortedBy, keys_of, values_of, zip};
 
@@ -158,7 +157,7 @@ impl<K: Ord + Hash + Drop, V: Drop> Table<K, V> {
     }
 }
 
-impl<K: Ord + Hash, V> Table<K, V> {
+impl<K: Ord + QuickHash, V> Table<K, V> {
     ghost use Rattle.std.specs.Prelude.{◌≡◌, ◌<◌, IfNone, IfSome, None, is_some, length};
     ghost use Rattle.cedar_table.specs.Words.{StandsAt, get_by, option_copied};
 
@@ -193,7 +192,7 @@ impl<K: Ord + Hash, V> Table<K, V> {
     }
 }
 
-impl<'a, K: Ord + Hash, V> IntoIterator for &'a Table<K, V> {
+impl<'a, K: Ord + QuickHash, V> IntoIterator for &'a Table<K, V> {
     ghost use Rattle.std.specs.Prelude.{◌≡◌};
     ghost use Rattle.cedar_table.specs.Words.{IsStrictlySortedBy, keys_of};
 

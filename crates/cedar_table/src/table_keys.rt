@@ -1,16 +1,16 @@
 //! The keys of a table whose values are taken out of it.
 
 use crate::hints::Hints;
-use std::hash::Hash;
+use cedar_below::QuickHash;
 use std::marker::Model;
 
 /// The keys of a table, in their order, each once, as they are hinted.
-pub struct TableKeys<K: Ord + Hash> {
+pub struct TableKeys<K: Ord + QuickHash> {
     pub(crate) keys: Vec<K>,
     pub(crate) hints: Hints,
 }
 
-impl<K: Ord + Hash> Model for TableKeys<K> {
+impl<K: Ord + QuickHash> Model for TableKeys<K> {
     ghost use Rattle.std.specs.Prelude.{List};
     ghost use Rattle.cedar_table.specs.Words.{AreHinted, IsStrictlySortedBy};
 
@@ -19,11 +19,11 @@ impl<K: Ord + Hash> Model for TableKeys<K> {
     ghost view = { λ a. a.keys.items };
 
     ghost invariant = { λ a. IsStrictlySortedBy K.cmp a.keys.items
-        × AreHinted K.hash_input a.hints a.keys.items };
+        × AreHinted K.quick_input a.hints a.keys.items };
 }
 
 // Written out: proofs of what holds them then see one call, and nothing of their parts.
-impl<K: Ord + Hash + Drop> Drop for TableKeys<K> {
+impl<K: Ord + QuickHash + Drop> Drop for TableKeys<K> {
     fn drop(self) {
         let TableKeys {
             keys: _keys,
@@ -32,7 +32,7 @@ impl<K: Ord + Hash + Drop> Drop for TableKeys<K> {
     }
 }
 
-impl<K: Ord + Hash> TableKeys<K> {
+impl<K: Ord + QuickHash> TableKeys<K> {
     ghost use Rattle.std.specs.Prelude.{◌≡◌};
 
     /// The keys, in their order.
@@ -43,7 +43,7 @@ impl<K: Ord + Hash> TableKeys<K> {
     }
 }
 
-impl<K: Ord + Hash + Drop> TableKeys<K> {
+impl<K: Ord + QuickHash + Drop> TableKeys<K> {
     ghost use Rattle.std.specs.Prelude.{◌≡◌};
     ghost use Rattle.cedar_table.specs.Words.{AreHinted, IsStrictlySortedBy};
 
@@ -51,7 +51,7 @@ impl<K: Ord + Hash + Drop> TableKeys<K> {
     pub(crate) fn into_parts(self) -> (Vec<K>, Hints)
         ensures keys { result.0.items ≡ self }
         ensures sorted { IsStrictlySortedBy K.cmp self }
-        ensures hinted { AreHinted K.hash_input result.1 self }
+        ensures hinted { AreHinted K.quick_input result.1 self }
     {
         let TableKeys { keys, hints } = self;
         (keys, hints)

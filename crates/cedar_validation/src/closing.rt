@@ -10,7 +10,7 @@ ghost use Rattle.cedar_schema_elements.specs.ValidatorEntityType as type_specs;
 ghost use Rattle.cedar_schema_elements.specs.declared.entity_type.ValidatorEntityType.{ValidatorEntityType as Node};
 
 use crate::parts::{Actions, Types};
-use cedar_below::{EntityType, EntityUID, Memory, NonEmpty};
+use cedar_below::{EntityType, EntityUID, Memory, NonEmpty, QuickHash};
 use cedar_declarations::SchemaError;
 use cedar_graph::{TableFault, close_table};
 use cedar_schema_elements::{SchemaNode, ValidatorActionId, ValidatorEntityType};
@@ -24,7 +24,7 @@ use std::hash::Hash;
 /// It is refused with `Lacks` where a node lists one that isn't there. With `enforce_dag` it is
 /// refused with `HasCycle` where some node is on a cycle, whose key it holds. The only other
 /// refusal is that memory ran out.
-fn closed_nodes<K: Ord + Hash + Drop, V: SchemaNode<K> + Drop>(
+fn closed_nodes<K: Ord + Hash + QuickHash + Drop, V: SchemaNode<K> + Drop>(
     alloc: Global,
     nodes: Table<K, V>,
     enforce_dag: bool,

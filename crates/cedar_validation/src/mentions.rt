@@ -4,11 +4,11 @@ ghost use Rattle.std.specs.Prelude.{◌≡◌, ◌⊎◌, Contains, IfErr, OnOk}
 ghost use Rattle.cedar_validation.specs.Words.{ClosedAttributes, IsContextOf, IsKnownThroughout, IsTypeIn, IsTypeOfKind, IsUnknownIn, Ty, action_of, entity_type_of, fault_of, fields_of, out_of_memory, plain_parts, record_of, ty_of};
 
 use crate::known::Known;
+use cedar_below::QuickHash;
 use cedar_declarations::SchemaError;
 use cedar_schema_elements::{ValidatorActionId, ValidatorEntityType};
 use cedar_table::Table;
 use cedar_types::{Attributes, Type};
-use std::hash::Hash;
 
 /// Refuses a type in which an entity type or an extension type stands that isn't known.
 #[cycle(mentions)]
@@ -79,7 +79,7 @@ impl Typed for ValidatorActionId {
 }
 
 /// Checks what the types in each value of a table mention.
-fn check_each<K: Ord + Hash, V: Typed>(
+fn check_each<K: Ord + QuickHash, V: Typed>(
     known: &Known,
     typed: &Table<K, V>,
 ) -> Result<(), SchemaError>

@@ -10,7 +10,7 @@ ghost use Rattle.cedar_schema_elements.specs.ValidatorEntityType as type_specs;
 ghost use Rattle.cedar_schema_elements.specs.declared.entity_type.ValidatorEntityType.{ValidatorEntityType as EntityTypeOfSchema};
 
 use crate::parts::{Actions, Types};
-use cedar_below::{EntityType, EntityUID, M};
+use cedar_below::{EntityType, EntityUID, M, QuickHash};
 use cedar_schema_elements::{SchemaNode, ValidatorActionId, ValidatorEntityType};
 use cedar_table::Table;
 use std::alloc::Global;
@@ -19,7 +19,7 @@ use std::hash::Hash;
 
 /// The nodes, each under its name, located as in the node; of those of one name the last. Out of
 /// memory is the only refusal.
-fn by_name<K: Ord + Hash + Drop, V: SchemaNode<K> + Drop>(
+fn by_name<K: Ord + Hash + QuickHash + Drop, V: SchemaNode<K> + Drop>(
     alloc: Global,
     nodes: Vec<V>,
 ) -> M<Table<K, V>>

@@ -5,7 +5,7 @@ ghost use Rattle.cedar_validation.specs.Words.{ArePlaced, HasAction, HasEntityTy
 
 use crate::known::undeclared;
 use crate::parts::Parts;
-use cedar_below::EntityType;
+use cedar_below::{EntityType, QuickHash};
 use cedar_declarations::SchemaError;
 use cedar_schema_elements::ValidatorActionId;
 use cedar_table::Table;
@@ -14,7 +14,10 @@ use std::collections::hash_set;
 use std::hash::Hash;
 
 /// The first of some keys under which nothing stands in a map.
-fn missing<'a, K: Ord + Hash, V>(map: &Table<K, V>, keys: hash_set::Iter<'a, K>) -> Option<&'a K>
+fn missing<'a, K: Ord + Hash + QuickHash, V>(
+    map: &Table<K, V>,
+    keys: hash_set::Iter<'a, K>,
+) -> Option<&'a K>
     ensures { MatchOption result ((key : K) → Contains keys.entry key → HasKey K.cmp map.now key)
         (λ key. Contains keys.entry key.now × ¬ HasKey K.cmp map.now key.now) }
 {

@@ -6,8 +6,8 @@ use Rattle.cedar_table.proofs.search.hinted_place.Goals as goal
 
 pub returns-in_default-clause-lacking : goal.returns-in_default-clause-lacking
 returns-in_default-clause-lacking g c = λ complete.
-    not_there g.K.PartialEq.eq g.K.Ord.cmp g.K.Hash.hash_input g.met.K.Hash.respects_eq g.met.K.Ord.matches_eq c.args.hints.now
-    c.args.entries.now c.requires complete c.args.key.now
+    not_there g.K.PartialEq.eq g.K.Ord.cmp g.K.QuickHash.quick_input g.met.K.Ord.matches_eq c.args.hints.now
+    c.args.entries.now c.requires complete c.args.key.now c.guess.ensures.alike
     (λ place leads stands. c.in_default.ensures.lacking place leads)
 
 pub returns-else-stands_at-clause-lacking : goal.returns-else-stands_at-clause-lacking
@@ -15,8 +15,8 @@ returns-else-stands_at-clause-lacking g c = λ complete.
     let cmp = g.K.Ord.cmp in
     let entries = c.args.entries.now in
     let key = c.args.key.now in
-    not_there g.K.PartialEq.eq cmp g.K.Hash.hash_input g.met.K.Hash.respects_eq g.met.K.Ord.matches_eq c.args.hints.now
-    entries c.requires complete key
+    not_there g.K.PartialEq.eq cmp g.K.QuickHash.quick_input g.met.K.Ord.matches_eq c.args.hints.now
+    entries c.requires complete key c.guess.ensures.alike
     (λ place leads stands.
     let same = leads_once c.args.hints.now.rows.items _ place c.in-Some.place leads c.in-Some.ensures.found in
     both_ways c.stands_at.result c.if-stands_at.false (c.stands_at.ensures.1 (subst (StandsAt cmp entries key) same stands)))

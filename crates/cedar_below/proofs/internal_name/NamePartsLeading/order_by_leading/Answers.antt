@@ -1,4 +1,5 @@
-use Rattle.std.proofs.Common.{sym, ◌∙◌}
+use Rattle.std.proofs.Common.{nat_eq, nat_lt, sym, ◌%◌, ◌∙◌}
+use Rattle.std.proofs.lemmas.Bool.{and_parts, eqb-true, ltb-true}
 use Rattle.cedar_below.specs.Words.{id_text}
 use Rattle.cedar_below.specs.contracts.internal_name.NamePartsOrd.TheImpl as name_parts_ord
 use Rattle.cedar_below.proofs.LeadingBytes.{by_number, name_leading-Equal, name_leading-Less, string_bytes-AreBytes}
@@ -16,7 +17,8 @@ returns-then-leading-other c a b mine others =
     ∙ sym c.cmp.ensures
 
 -- and where it is the same and tells all, they are the same
-pub returns-then-leading-eq0 : goal.returns-then-leading-eq0
-returns-then-leading-eq0 c a b mine others =
+pub returns-then-tells_whole : goal.returns-then-tells_whole
+returns-then-tells_whole c a b mine others =
+    let whole = and_parts (nat_lt (c.args.leading % 256) 16) (nat_eq (c.args.leading % 2) 0) (sym c.tells_whole.ensures ∙ c.if-tells_whole.true) in
     name_leading-Equal _ (id_text a.id) (id_text b.id) (string_bytes-AreBytes a.id.text) (string_bytes-AreBytes b.id.text)
-    a.path.items b.path.items (mine ∙ c.if-leading-other.false ∙ sym others) (rw mine c.if-leading-lt16.true) (rw mine c.if-leading-eq0.true)
+    a.path.items b.path.items (mine ∙ c.if-leading-other.false ∙ sym others) (rw mine (ltb-true _ _ whole.0)) (rw mine (eqb-true _ _ whole.1))

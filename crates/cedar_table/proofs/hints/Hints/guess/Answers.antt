@@ -4,4 +4,4 @@ use Rattle.cedar_table.proofs.hints.Hints.guess.Goals as goal
 
 pub returns-clause-lacking : goal.returns-clause-lacking
 returns-clause-lacking g c = subst₂ (λ rows hash. IfNone c.place_hinted.result ((place : ℕ) → ¬ LeadsTo rows hash place))
-    c.deref.ensures.value c.hash_of.ensures c.place_hinted.ensures.lacking
+    c.deref.ensures.value c.hash_of.ensures.hash c.place_hinted.ensures.lacking

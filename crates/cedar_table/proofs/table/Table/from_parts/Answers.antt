@@ -27,7 +27,7 @@ invariant_of-result g c =
     let keys : keys_of c.in_ok-entries.entries.items ≡ c.args.keys =
     ap keys_of (made g c) ∙ keys_of-zip c.args.keys c.args.values.items c.requires in (
       subst (λ each. IsStrictlySortedBy g.K.Ord.cmp each) (sym keys) c.into_parts-keys.ensures.sorted,
-      subst (λ each. AreHinted g.K.Hash.hash_input c.into_parts-keys.result.1 each) (sym keys) c.into_parts-keys.ensures.hinted,
+      subst (λ each. AreHinted g.K.QuickHash.quick_input c.into_parts-keys.result.1 each) (sym keys) c.into_parts-keys.ensures.hinted,
     )
 
 pub returns : goal.returns

@@ -28,7 +28,7 @@ invariant_of-result g c =
     let d = (goal.at.invariant_of-result g c).After-drop-key-iterator-2 in
     let keys : c.loop-key.keys.items ≡ keys_of c.self.inside.entries.items = c.loop-key.invariant.0 ∙ ap keys_of (all g d) in (
       subst (λ each. IsStrictlySortedBy g.K.Ord.cmp each) (sym keys) c.self.invariant.0,
-      subst (λ each. AreHinted g.K.Hash.hash_input c.self.inside.hints each) (sym keys) c.self.invariant.1,
+      subst (λ each. AreHinted g.K.QuickHash.quick_input c.self.inside.hints each) (sym keys) c.self.invariant.1,
     )
 
 pub returns-clause-keys : goal.returns-clause-keys
