@@ -1,12 +1,12 @@
 -- Unions that are joined at once: the names of all their entity types, in one list without repeats.
-use Rattle.std.proofs.Common.{Bor, ◌≡◌, ◌≢◌, ◌<◌, ◌≤◌, ◌+◌, ◌↔◌, ℕ, zero, suc, refl, ap, subst, sym, ◌∙◌, List, [], ◌∷◌, ◌++◌, length, map, drop, get_or, append_assoc, Contains, Ok, arith}
-use Rattle.std.proofs.lemmas.List.{length-map, map-append}
-use Rattle.std.proofs.lemmas.List.Elements.{Contains-append_left, Contains-append_right}
+use Rattle.std.proofs.Common.{Bor, ◌≡◌, ◌≢◌, ◌<◌, ◌≤◌, ◌+◌, ◌-◌, ◌↔◌, ℕ, zero, suc, refl, ap, subst, sym, ◌∙◌, List, [], ◌∷◌, ◌++◌, length, map, take, get_or, Contains, Ok, inl, inr, arith}
+use Rattle.std.proofs.lemmas.List.{append-nil, get_or-take, length-map, length-take-le, map-append, take_more}
+use Rattle.std.proofs.lemmas.List.Concat.{flat_map-append}
+use Rattle.std.proofs.lemmas.List.Elements.{Contains-append_cases, Contains-append_left, Contains-append_right}
 use Rattle.std.proofs.lemmas.Simd.{map-map}
 use Rattle.std.specs.List.{flat_map}
 use Rattle.std.specs.List.Sorted.{IsStrictlySortedBy}
 use Rattle.cedar_below.proofs.PlainNames.{name_cmp-total}
-use Rattle.cedar_below.proofs.TreeLemmas.{drop-at}
 use Rattle.cedar_types.specs.Words.{EntityLUB, EntityType, Included, IsReduceAnswer, Permissive, PlainName, Ty, «Type», lub_formed, lub_names, lub_ty, lub_types, name_cmp, never, ty_of, type_name}
 use Rattle.cedar_name_map.proofs.RisingLemmas.{Included-back}
 use Rattle.cedar_types.proofs.MemberParts.{ty_of-entity}
@@ -24,19 +24,9 @@ Contains-flat_map list_of (y ∷ ys) zero x k below is among =
 Contains-flat_map list_of (y ∷ ys) (suc i) x k below is among =
     Contains-append_right (list_of y) (flat_map list_of ys) k (Contains-flat_map list_of ys i x k (omega (arith, below)) is among)
 
--- the entity types of some unions, one union after another
-abbrev pub types_of_all : List (Bor EntityLUB) → List EntityType
-types_of_all unions = flat_map (λ lub. lub_types lub.now) unions
-
--- the names of these
+-- the names of the entity types of some unions, one union after another
 abbrev pub names_of_all : List (Bor EntityLUB) → List PlainName
 names_of_all unions = flat_map (λ lub. lub_names lub.now) unions
-
--- the names of the entity types of some unions are those of each
-names_of_types : (unions : List (Bor EntityLUB)) → map type_name (types_of_all unions) ≡ names_of_all unions
-names_of_types [] = refl
-names_of_types (lub ∷ unions) =
-    map-append type_name (lub_types lub.now) (types_of_all unions) ∙ ap (λ names. lub_names lub.now ++ names) (names_of_types unions)
 
 -- some unions have a name
 some_name : (unions : List (Bor EntityLUB)) → unions ≢ [] → names_of_all unions ≢ []
@@ -45,14 +35,65 @@ some_name (lub ∷ unions) some =
     nonempty_above (lub_names lub.now) (names_of_all (lub ∷ unions))
     (λ name among. Contains-append_left (lub_names lub.now) (names_of_all unions) name among) (lub_formed lub.now).0
 
-module _ (unions : List (Bor EntityLUB)) (all distinct : List (Bor EntityType)) (are : referred all ≡ types_of_all unions)
+-- the names of what is referred to are those of the unions before a place
+abbrev pub NamedBefore : List (Bor EntityLUB) → ℕ → List (Bor EntityType) → Type 0
+NamedBefore unions place all = (name : PlainName)
+    → Contains (referred_names all) name ↔ Contains (names_of_all (take place unions)) name
+
+module _ (unions : List (Bor EntityLUB)) (place : ℕ) (lub : Bor EntityLUB) (within : place < length unions)
+    (is : lub ≡ get_or unions place lub) where
+  -- past one more union its names come behind those before
+  names_onwards : names_of_all (take (place + 1) unions) ≡ names_of_all (take place unions) ++ lub_names lub.now
+  names_onwards =
+      ap names_of_all (take_more unions place lub within ∙ ap (λ one. take place unions ++ one ∷ []) (sym is))
+      ∙ (flat_map-append (λ (lub : Bor EntityLUB). lub_names lub.now) (take place unions) (lub ∷ [])
+      ∙ ap (λ names. names_of_all (take place unions) ++ names) (append-nil (lub_names lub.now)))
+
+  -- so it is where its entity types are referred to as well
+  pub NamedBefore-more : (before after more : List (Bor EntityType)) → NamedBefore unions place before → after ≡ before ++ more
+      → referred more ≡ lub_types lub.now → NamedBefore unions (place + 1) after
+  NamedBefore-more before after more so_far pushed are name =
+      let own = lub_names lub.now in
+      let others = names_of_all (take place unions) in
+      let referred_to : referred_names after ≡ referred_names before ++ own =
+      ap referred_names pushed ∙ (map-append (λ (ty : Bor EntityType). type_name ty.now) before more
+      ∙ ap (λ names. referred_names before ++ names) (sym (map-map type_name (λ (ty : Bor EntityType). ty.now) more) ∙ ap (map type_name) are)) in
+      rw (referred_to, names_onwards) (
+        λ there. elim (Contains-append_cases (referred_names before) own name there) [
+          | inl a ↦ Contains-append_left others own name ((so_far name).0 a)
+          | inr b ↦ Contains-append_right others own name b
+        ],
+        λ there. elim (Contains-append_cases others own name there) [
+          | inl a ↦ Contains-append_left (referred_names before) own name ((so_far name).1 a)
+          | inr b ↦ Contains-append_right (referred_names before) own name b
+        ],
+      )
+
+  -- and where the union before it has the same names
+  pub NamedBefore-same : (other : Bor EntityLUB) (all : List (Bor EntityType)) → place ≢ 0 → other ≡ get_or unions (place - 1) other
+      → lub_names other.now ≡ lub_names lub.now → NamedBefore unions place all → NamedBefore unions (place + 1) all
+  NamedBefore-same other all later before same so_far name =
+      let own = lub_names lub.now in
+      let others = names_of_all (take place unions) in
+      let low : place - 1 < place = omega (arith, later) in
+      let there_too : other ≡ get_or (take place unions) (place - 1) other = before ∙ sym (get_or-take place unions (place - 1) other low) in
+      let low_in : place - 1 < length (take place unions) = rw (length-take-le place unions (omega (arith, within))) low in
+      rw names_onwards (
+        λ there. Contains-append_left others own name ((so_far name).0 there),
+        λ there. (so_far name).1 (elim (Contains-append_cases others own name there) [
+          | inl a ↦ a
+          | inr b ↦ Contains-flat_map (λ (lub : Bor EntityLUB). lub_names lub.now) (take place unions) (place - 1) other name low_in there_too
+              (rw (← same) at b)
+        ]),
+      )
+
+module _ (unions : List (Bor EntityLUB)) (all distinct : List (Bor EntityType))
+    (named : (name : PlainName) → Contains (referred_names all) name ↔ Contains (names_of_all unions) name)
     (same : (name : PlainName) → Contains (referred_names distinct) name ↔ Contains (referred_names all) name) where
   -- the names that are left without repeats are those of the unions
   same_names : (name : PlainName) → Contains (referred_names distinct) name ↔ Contains (names_of_all unions) name
   same_names name =
-      let names : referred_names all ≡ names_of_all unions =
-      sym (map-map type_name (λ (ty : Bor EntityType). ty.now) all) ∙ (ap (map type_name) are ∙ names_of_types unions) in
-      rw names at (same name)
+      (λ there. (named name).0 ((same name).0 there), λ there. (same name).1 ((named name).1 there))
 
   -- so are those of a copy
   pub same_names-copied : (copy : List EntityType) → map type_name copy ≡ referred_names distinct → (name : PlainName)
@@ -79,19 +120,6 @@ module _ (unions : List (Bor EntityLUB)) (all distinct : List (Bor EntityType)) 
       Included-back name_cmp name_cmp-total own (referred_names distinct) (lub_formed lub.now).1 sorted
       (λ name there. (same_names name).1 (among name there)) (omega (arith, long)) in
       rw copied (λ there. among name there, λ there. back name ((same_names name).1 there))
-
--- past one more union its entity types are referred to, and those of the others are left
-pub types_onwards : (unions : List (Bor EntityLUB)) (before after more : List (Bor EntityType)) (i : ℕ) (lub : Bor EntityLUB)
-    (whole : List EntityType) → i < length unions → lub ≡ get_or unions i lub
-    → referred before ++ types_of_all (drop i unions) ≡ whole → after ≡ before ++ more → referred more ≡ lub_types lub.now
-    → referred after ++ types_of_all (drop (i + 1) unions) ≡ whole
-types_onwards unions before after more i lub whole below is so_far pushed are =
-    let rest = types_of_all (drop (i + 1) unions) in
-    let left : types_of_all (drop i unions) ≡ lub_types lub.now ++ rest = ap types_of_all (drop-at unions i lub below is) in
-    ap (λ refs. referred refs ++ rest) pushed
-    ∙ (ap (λ types. types ++ rest) (map-append (λ (ty : Bor EntityType). ty.now) before more)
-    ∙ (append_assoc (referred before) (referred more) rest
-    ∙ (ap (λ types. referred before ++ (types ++ rest)) are ∙ (ap (λ types. referred before ++ types) (sym left) ∙ so_far))))
 
 -- the types of the entities of some unions
 abbrev pub tys_of_all : List (Bor EntityLUB) → List Ty

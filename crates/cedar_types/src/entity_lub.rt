@@ -5,6 +5,7 @@ ghost use Rattle.std.specs.List.Sorted.{IsPermutation, IsSorted, IsStrictlySorte
 ghost use Rattle.cedar_below.specs.Words.{PlainName, name_cmp, type_name};
 ghost use Rattle.cedar_types.specs.TypesInOrder.{AreInOrder, AreInOrder-prop as one_order};
 
+use crate::subtype::is_same;
 use cedar_below::{EntityType, Held, M};
 use itertools::Itertools;
 use std::alloc::Global;
@@ -228,14 +229,18 @@ impl EntityLUB {
         EntityLUB::of_sorted(share_all(&both)?)
     }
 
-    /// References to the entity types of some unions, one union after another.
+    /// References to the entity types of some unions, one union after another. Those of a union
+    /// that is the same as the one before it are left out.
     fn all_types<'a>(unions: &Vec<&'a EntityLUB>) -> M<Vec<&'a EntityType>>
-        ensures { IfOk result (λ all. map (λ ty. ty.now) all.items
-            ≡ flat_map (λ lub. lub_types lub.now) unions.now.items) }
+        ensures { IfOk result (λ all. (name : PlainName)
+            → Contains (map (λ ty. type_name ty.now) all.items) name
+            ↔ Contains (flat_map (λ lub. lub_names lub.now) unions.now.items) name) }
     {
         let mut all = Vec::new(*unions.allocator());
-        for lub in unions {
-            all.extend(lub.as_slice())?;
+        for (place, lub) in unions.iter().enumerate() {
+            if place == 0 || !is_same(unions[place - 1], lub) {
+                all.extend(lub.as_slice())?;
+            }
         }
         Ok(all)
     }

@@ -65,7 +65,7 @@ fn is_included(lower: &EntityLUB, upper: &EntityLUB) -> bool
 }
 
 /// Whether two unions have the same entity types.
-fn is_same(lower: &EntityLUB, upper: &EntityLUB) -> bool
+pub(crate) fn is_same(lower: &EntityLUB, upper: &EntityLUB) -> bool
     ensures { IsTrue result ↔ (lub_names lower.now ≡ lub_names upper.now) }
 {
     lower == upper
