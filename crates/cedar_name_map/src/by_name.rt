@@ -145,8 +145,8 @@ impl<V> ByName<V> {
         (None, compared)
     }
 
-    /// The first place, from one on, whose name isn't below the given one, and whether that name
-    /// stands there.
+    /// The first place, from one on, whose name isn't below the given one, and whether the given
+    /// one stands there.
     pub fn seek(&self, from: usize, name: &str) -> (usize, bool)
         ensures from { from ≤ result.0 }
         ensures within { from ≤ length (entries_by_name self.now)

@@ -27,6 +27,7 @@ level_is_Equal Greater e = absurd cc
 abbrev is_one_of : List PlainName → PlainName → Bool
 is_one_of names name = list_any (λ other. is_eq (name_cmp other name)) names
 
+-- a search decides whether a name is one of some
 is_one_of-Decides : (names : List PlainName) (name : PlainName) → Decides (is_one_of names name) (Contains names name)
 is_one_of-Decides names name =
     rw map-id at (list_any-Contains (λ (other : PlainName). other) name (λ other. is_eq (name_cmp other name)) (λ other. (
@@ -73,7 +74,7 @@ IsUnionOf-named_in names others all first second name =
       λ either. kept.1 (elim either [ inl a ↦ first name a | inr b ↦ second name b ], decides.1 either),
     )
 
--- where a union and some more are all of a well formed one, what the first two have in common with it is well formed
+-- where all names of both stand in a well formed union, the union of both is well formed
 named_in-formed : (names others all : List PlainName) → Included names all → Included others all → IsWellFormed (union_of names)
     → IsWellFormed (union_of all) → IsWellFormed (union_of (named_in names others all))
 named_in-formed names others all first second formed whole =

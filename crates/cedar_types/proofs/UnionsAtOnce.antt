@@ -1,5 +1,5 @@
 -- Unions that are joined at once: the names of all their entity types, in one list without repeats.
-use Rattle.std.proofs.Common.{Bor, ◌≡◌, ◌≢◌, ◌<◌, ◌≤◌, ◌+◌, ◌-◌, ◌↔◌, ℕ, zero, suc, refl, ap, subst, sym, ◌∙◌, List, [], ◌∷◌, ◌++◌, length, map, take, get_or, Contains, Ok, inl, inr, arith}
+use Rattle.std.proofs.Common.{Bor, ◌≡◌, ◌≢◌, ◌<◌, ◌+◌, ◌-◌, ◌↔◌, ℕ, zero, suc, refl, ap, subst, sym, ◌∙◌, List, [], ◌∷◌, ◌++◌, length, map, take, get_or, Contains, Ok, inl, inr, arith}
 use Rattle.std.proofs.lemmas.List.{append-nil, get_or-take, length-map, length-take-le, map-append, take_more}
 use Rattle.std.proofs.lemmas.List.Concat.{flat_map-append}
 use Rattle.std.proofs.lemmas.List.Elements.{Contains-append_cases, Contains-append_left, Contains-append_right}
@@ -133,7 +133,7 @@ unions_joined types unions all some are same =
     rw (are, ty_of-entity (kind.Entity all)) (unions_reduced (λ (lub : Bor EntityLUB). lub_names lub.now) unions (lub_names all) some (λ lub. lub_formed lub.now) (lub_formed all) same)
 
 -- where there are types, there are unions
-pub some_unions : (types : List «Type») (unions : List (Bor EntityLUB)) → 2 ≤ length types → map ty_of types ≡ tys_of_all unions
+pub some_unions : (types : List «Type») (unions : List (Bor EntityLUB)) → 1 < length types → map ty_of types ≡ tys_of_all unions
     → unions ≢ []
 some_unions types unions some are none =
     let no_types : length (map ty_of types) ≡ 0 = ap length are ∙ ap (λ unions. length (tys_of_all unions)) none in

@@ -177,8 +177,8 @@ impl EntityLUB {
         self.contains(ty)
     }
 
-    /// The first place, from one on, whose entity type isn't below the given one, and whether that
-    /// one stands there.
+    /// The first place, from one on, whose entity type isn't below the given one, and whether the
+    /// given one stands there.
     pub(crate) fn seek(&self, from: usize, ty: &EntityType) -> (usize, bool)
         ensures from { from ≤ result.0 }
         ensures passed { (i : ℕ) (d : EntityType) → from ≤ i → i < result.0

@@ -1,6 +1,6 @@
 //! Least upper bounds of types and of entity kinds.
 
-ghost use Rattle.std.specs.Prelude.{◌≡◌, ◌&&◌, ◌↔◌, ◌++◌, [], ◌∷◌, IfOk, IfSome, None, OnOk, map, string_bytes};
+ghost use Rattle.std.specs.Prelude.{◌≡◌, ◌<◌, ◌&&◌, ◌↔◌, ◌++◌, [], ◌∷◌, IfOk, IfSome, None, OnOk, length, map, string_bytes};
 ghost use Rattle.std.specs.declared.alloc.Global.{Global};
 ghost use Rattle.std.specs.declared.string.String.{String};
 ghost use Rattle.cedar_types.specs.Words.{Below, ClosedAttributes, IsAnswerOrMemory, IsHandedOn, IsJoinAnswer, IsLeastOwnBound, IsPermissiveAttribute, IsReduceAnswer, IsStrictAttribute, IsUnplaced, Text, attribute_loc, attribute_of, either_open, fields_of, kind_ty, listed_at, located_at, lub_ty, never, record_of, ty_of};
@@ -373,7 +373,8 @@ fn join_shared(
     Ok(shared(alloc, join)?)
 }
 
-/// References to the unions of entity types, where each type is that of the entities of one.
+/// References to the unions that types are of, where each is a type of the entities of one; else
+/// None.
 fn unions_of<'a>(alloc: Global, types: &'a [Type]) -> M<Option<Vec<&'a EntityLUB>>>
     ensures { IfOk result (λ found. IfSome found (λ unions.
         map ty_of types.now ≡ map (λ lub. lub_ty lub.now) unions.items)) }
@@ -388,15 +389,13 @@ fn unions_of<'a>(alloc: Global, types: &'a [Type]) -> M<Option<Vec<&'a EntityLUB
     Ok(Some(unions))
 }
 
-/// The fold of the join in permissive mode over two types or more, where each is that of the
-/// entities of a union: all unions are joined at once. Else None.
+/// The fold of the join in permissive mode over types that are each of the entities of a union: all
+/// unions are joined at once. None where a type is another.
 fn join_of_unions(alloc: Global, types: &[Type]) -> M<Option<Type>>
+    requires { 1 < length types.now }
     ensures { IfOk result (λ found. IfSome found (λ join.
         IsReduceAnswer mode.Permissive never (map ty_of types.now) (Ok (ty_of join)))) }
 {
-    if types.len() < 2 {
-        return Ok(None);
-    }
     match unions_of(alloc, types)? {
         Some(unions) => Ok(Some(Type::Entity(EntityKind::Entity(EntityLUB::of_all(&unions)?)))),
         None => Ok(None),
@@ -454,7 +453,7 @@ impl Type {
     ) -> Result<Type, JoinError>
         ensures { IsAnswerOrMemory ty_of (IsReduceAnswer mode never (map ty_of items.now)) result }
     {
-        if mode == ValidationMode::Permissive {
+        if mode == ValidationMode::Permissive && items.len() > 1 {
             if let Some(join) = join_of_unions(alloc, items)? {
                 return Ok(join);
             }

@@ -5,4 +5,4 @@ pub returns-in_ok-of_all-in-Some : goal.returns-in_ok-of_all-in-Some
 returns-in_ok-of_all-in-Some c =
     let are = rw c.in-Some.is at c.in_ok-unions.ensures in
     unions_joined c.args.types.now c.in-Some.unions.items c.in_ok-of_all-in-Some.field-0
-    (some_unions c.args.types.now c.in-Some.unions.items c.if-types-lt2.false are) are c.in_ok-of_all-in-Some.ensures
+    (some_unions c.args.types.now c.in-Some.unions.items c.requires are) are c.in_ok-of_all-in-Some.ensures
