@@ -1,5 +1,5 @@
 -- A search by halving among pairs whose names are sorted without duplicates, and what a place tells of a name.
-use Rattle.std.proofs.Common.{◌≡◌, ◌≢◌, ◌<◌, ◌≤◌, ◌+◌, ◌-◌, ◌*◌, ◌/◌, ◌^◌, ℕ, zero, suc, true, false, refl, sym, ap, subst, ◌∙◌, List, [], ◌∷◌, length, string_bytes, get_or, arith, None, Some, if◌then◌else◌, inl, inr}
+use Rattle.std.proofs.Common.{◌≡◌, ◌≢◌, ◌↔◌, ◌<◌, ◌≤◌, ◌+◌, ◌-◌, ◌*◌, ◌/◌, ◌^◌, ℕ, zero, suc, true, false, refl, sym, ap, subst, ◌∙◌, List, [], ◌∷◌, length, string_bytes, get_or, arith, None, Some, if◌then◌else◌, inl, inr}
 use Rattle.std.proofs.lemmas.Bool.{cases_lt, false_from_ne_true}
 use Rattle.std.proofs.lemmas.List.{get_or_default}
 use Rattle.std.specs.Cmp.Lexicographic.{bytes_decides, nat_list_eq_equiv}
@@ -56,6 +56,13 @@ module _ {V : Type 0} where
       value_at-cons name x xs
       ∙ (ap (λ b. if b then Some x.1 else value_at name xs) (nowhere 0 x (omega arith))
       ∙ value_at-nowhere xs name (λ i d within. nowhere (suc i) d (omega arith)))
+
+  -- a name ties with the one at a place exactly where it stands there
+  pub stands_where_tied : (all : List (String Global × V)) (name : Text) (i : ℕ) (x : String Global × V) → i < length all
+      → (text_cmp (text_at all i x) name ≡ Equal) ↔ ((i < length all) × ((d : String Global × V) → text_at all i d ≡ name))
+  stands_where_tied all name i x within =
+      let ties = text_cmp-Equal (text_at all i x) name in
+      (λ equal. (within, λ d. ap text_of (get_or_default all i d x within) ∙ ties.0 equal), λ there. ties.1 (there.1 x))
 
 -- halving a range leaves less than half of it
 pub halved : (n p : ℕ) → n < 2 * p → n / 2 < p

@@ -145,32 +145,30 @@ impl<V> ByName<V> {
         (None, compared)
     }
 
-    /// The first place, from one on, whose name isn't below the given one.
-    pub fn seek(&self, from: usize, name: &str) -> usize
-        ensures from { from ≤ result }
+    /// The first place, from one on, whose name isn't below the given one, and whether the given
+    /// one stands there.
+    pub fn seek(&self, from: usize, name: &str) -> (usize, bool)
+        ensures from { from ≤ result.0 }
         ensures within { from ≤ length (entries_by_name self.now)
-            → result ≤ length (entries_by_name self.now) }
-        ensures passed { (i : ℕ) (d : String Global × V) → from ≤ i → i < result
+            → result.0 ≤ length (entries_by_name self.now) }
+        ensures passed { (i : ℕ) (d : String Global × V) → from ≤ i → i < result.0
             → text_cmp (string_bytes (get_or (entries_by_name self.now) i d).0) name.now ≡ Less }
-        ensures stays { (d : String Global × V) → result < length (entries_by_name self.now)
-            → text_cmp (string_bytes (get_or (entries_by_name self.now) result d).0) name.now
+        ensures stays { (d : String Global × V) → result.0 < length (entries_by_name self.now)
+            → text_cmp (string_bytes (get_or (entries_by_name self.now) result.0 d).0) name.now
             ≢ Less }
+        ensures stands { IsTrue result.1 ↔ ((result.0 < length (entries_by_name self.now))
+            × ((d : String Global × V)
+            → string_bytes (get_or (entries_by_name self.now) result.0 d).0 ≡ name.now)) }
     {
         let entries = self.entries.as_slice();
         let mut at = from;
-        while at < entries.len() && entries[at].0.as_str().cmp(name) == Ordering::Less {
-            at += 1;
+        while at < entries.len() {
+            match entries[at].0.as_str().cmp(name) {
+                Ordering::Less => at += 1,
+                Ordering::Equal => return (at, true),
+                Ordering::Greater => return (at, false),
+            }
         }
-        at
-    }
-
-    /// Whether a name is at a place.
-    pub fn is_at(&self, place: usize, name: &str) -> bool
-        ensures { IsTrue result ↔ ((place < length (entries_by_name self.now))
-            × ((d : String Global × V) → string_bytes (get_or (entries_by_name self.now) place d).0
-            ≡ name.now)) }
-    {
-        let entries = self.entries.as_slice();
-        place < entries.len() && entries[place].0.as_str() == name
+        (at, false)
     }
 }

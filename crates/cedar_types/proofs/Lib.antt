@@ -17,5 +17,7 @@ pub mod StatedSteps
 pub mod SubtypeSteps
 pub mod TextLemmas
 pub mod TypeKinds
+pub mod UnionFolds
 pub mod UnionLemmas
 pub mod UnionSteps
+pub mod UnionsAtOnce

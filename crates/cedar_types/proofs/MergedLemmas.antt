@@ -1,20 +1,21 @@
 -- Entity types of two lists that are put together in order, without repeats.
-use Rattle.std.proofs.Common.{Bor, Bool, true, false, cond, ◌+◌, ◌<◌, length, ap, ◌≡◌, ◌≢◌, inl, inr, List, [], ◌∷◌, ◌++◌, map, Contains, sym, ◌∙◌, refl, arith}
+use Rattle.std.proofs.Common.{Bor, Bool, true, false, cond, ◌+◌, ◌<◌, ◌↔◌, length, ap, ◌≡◌, ◌≢◌, inl, inr, List, [], ◌∷◌, ◌++◌, map, Contains, sym, ◌∙◌, refl, arith}
 use Rattle.std.proofs.lemmas.List.Elements.{Contains-append_left, Contains-append_right, Contains-append_cases}
 use Rattle.std.proofs.lemmas.List.Filters.{dedup_is}
 use Rattle.std.proofs.lemmas.List.Kept.{Any-dedup, Contains-from_dedup, IsStrictlySortedBy-dedup}
 use Rattle.std.proofs.lemmas.List.Sorted.{Contains-permutation, IsPermutation-sym, IsPermutation-map}
-use Rattle.std.proofs.lemmas.List.{get_or-map, length-map}
+use Rattle.std.proofs.lemmas.List.{get_or-map, length-map, map-append}
 use Rattle.std.proofs.lemmas.Simd.{map-map}
 use Rattle.std.specs.List.{dedup, dedup_from}
 use Rattle.std.specs.Ordering.{is_lt}
 use Rattle.std.specs.List.Retain.{IsFiltered, DiffersFromLast}
 use Rattle.std.specs.List.Sorted.{IsPermutation, IsSorted, IsStrictlySortedBy}
-use Rattle.cedar_types.specs.Words.{EntityType, IsUnionOf, PlainName, name_cmp, type_name}
+use Rattle.cedar_types.specs.Words.{EntityType, Included, IsUnionOf, PlainName, name_cmp, type_name}
 use Rattle.cedar_below.specs.contracts.entity_type.EntityTypeEq.TheImpl as entity_type_equal
 use Rattle.cedar_below.specs.contracts.entity_type.EntityTypeOrd.TheImpl as entity_type_ord
 use Rattle.cedar_below.specs.contracts.entity_type.EntityTypePartialEq.TheImpl as entity_type_eq
 use Rattle.cedar_below.proofs.Names.{entity_type_eq-same, entity_type_ord-name_cmp}
+use Rattle.cedar_below.proofs.Lists.{Contains-cons}
 use Rattle.cedar_below.proofs.Ordered.{IsStrictlySortedBy-map}
 use Rattle.cedar_name_map.proofs.RisingLemmas.{some_item}
 use Rattle.cedar_types.proofs.MemberLemmas.{Contains-named}
@@ -44,28 +45,17 @@ Contains-distinct types name there =
     let (k, other, below, is, equal) = Any-dedup entity_type_equal.Laws.laws-law types ty inside in
     Contains-name (distinct types) other name (sym ((entity_type_eq-same ty other).0 equal) ∙ same) (k, below, is)
 
--- the names of two lists that are put together, reordered and without repeats are those of both
-IsUnionOf-distinct : (types others sorted : List EntityType) → IsPermutation (types ++ others) sorted
-    → IsUnionOf (map type_name types) (map type_name others) (map type_name (distinct sorted))
-IsUnionOf-distinct types others sorted permutation name =
-    let both = types ++ others in
-    let back = λ (ty : EntityType) (inside : Contains (distinct sorted) ty). Contains-permutation sorted both ty
-    (IsPermutation-sym both sorted permutation) (Contains-from_dedup ((entity_type_eq.ghosts).eq) sorted ty inside) in
-    let moved = λ (ty : EntityType) (inside : Contains both ty). Contains-permutation both sorted ty permutation inside in (
-      λ there.
-          let (ty, inside, same) = Contains-named (distinct sorted) name there in
-          elim (Contains-append_cases types others ty (back ty inside))
-          [ inl first ↦ inl (Contains-name types ty name same first) | inr second ↦ inr (Contains-name others ty name same second) ],
-      λ there.
-          let left = λ (ty : EntityType) (inside : Contains types ty). moved ty (Contains-append_left types others ty inside) in
-          let right = λ (ty : EntityType) (inside : Contains others ty). moved ty (Contains-append_right types others ty inside) in
-          Contains-distinct
-          sorted
-          name (elim there [
-            | inl first ↦ Contains-names_among types sorted left name first
-            | inr second ↦ Contains-names_among others sorted right name second
-          ]),
-    )
+-- the names of entity types that are reordered and without repeats are theirs
+same_names-distinct : (types sorted : List EntityType) → IsPermutation types sorted → (name : PlainName)
+    → Contains (map type_name (distinct sorted)) name ↔ Contains (map type_name types) name
+same_names-distinct types sorted permutation name = (
+  λ there.
+      let (ty, inside, same) = Contains-named (distinct sorted) name there in
+      Contains-name types ty name same (Contains-permutation sorted types ty (IsPermutation-sym types sorted permutation)
+      (Contains-from_dedup ((entity_type_eq.ghosts).eq) sorted ty inside)),
+  λ there. Contains-distinct sorted name
+      (Contains-names_among types sorted (λ ty inside. Contains-permutation types sorted ty permutation inside) name there),
+)
 
 -- the entity types that are referred to
 abbrev pub referred : List (Bor EntityType) → List EntityType
@@ -101,35 +91,49 @@ IsSorted-referred refs sorted k d low high =
     let second = get_or-map (λ ty. ty.now) refs (k + 1) some d within in
     (λ i. is_lt ((entity_type_ord.ghosts).cmp (second i) (first i))) ∙ sorted k some low within
 
+-- the names of what is referred to
+abbrev pub referred_names : List (Bor EntityType) → List PlainName
+referred_names refs = map (λ ty. type_name ty.now) refs
+
 -- the names of what is referred to without repeats
-names_of_distinct : (sorted all : List (Bor EntityType)) (names : List PlainName)
-    → IsFiltered (DiffersFromLast same_type) [] sorted all → names ≡ map (λ ty. type_name ty.now) all
-    → names ≡ map type_name (distinct (referred sorted))
-names_of_distinct sorted all names filtered are =
-    are ∙ (sym (map-map type_name (λ ty. ty.now) all)
-    ∙ (ap (λ refs. map type_name (referred refs)) (dedup_is _ _ _ filtered) ∙ ap (map type_name) (referred-distinct sorted)))
+referred_names-distinct : (sorted all : List (Bor EntityType)) → IsFiltered (DiffersFromLast same_type) [] sorted all
+    → referred_names all ≡ map type_name (distinct (referred sorted))
+referred_names-distinct sorted all filtered =
+    sym (map-map type_name (λ ty. ty.now) all)
+    ∙ (ap (λ refs. map type_name (referred refs)) (dedup_is _ _ _ filtered) ∙ ap (map type_name) (referred-distinct sorted))
 
 -- entity types that are referred to in order without repeats have names that are sorted without duplicates
-pub IsStrictlySortedBy-distinct : (sorted all : List (Bor EntityType)) (names : List PlainName)
+pub IsStrictlySortedBy-distinct : (sorted all : List (Bor EntityType))
     → IsSorted (λ a b. (entity_type_ord.ghosts).cmp a.now b.now) sorted
-    → IsFiltered (DiffersFromLast same_type) [] sorted all → names ≡ map (λ ty. type_name ty.now) all
-    → IsStrictlySortedBy name_cmp names
-IsStrictlySortedBy-distinct sorted all names order filtered are =
-    rw (names_of_distinct sorted all names filtered are) (IsStrictlySortedBy-map ((entity_type_ord.ghosts).cmp) name_cmp type_name entity_type_ord-name_cmp (distinct (referred sorted))
+    → IsFiltered (DiffersFromLast same_type) [] sorted all → IsStrictlySortedBy name_cmp (referred_names all)
+IsStrictlySortedBy-distinct sorted all order filtered =
+    rw (referred_names-distinct sorted all filtered) (IsStrictlySortedBy-map ((entity_type_ord.ghosts).cmp) name_cmp type_name entity_type_ord-name_cmp (distinct (referred sorted))
     (IsStrictlySortedBy-dedup entity_type_ord.Laws.total-law entity_type_ord.Laws.matches_eq-law (referred sorted)
     (IsSorted-referred sorted order)))
 
--- a union with the names of some entity types has a name
-pub IsUnionOf-nonempty : (types : List EntityType) (others all : List PlainName)
-    → IsUnionOf (map type_name types) others all → types ≢ [] → all ≢ []
-IsUnionOf-nonempty [] others all union some = absurd (some refl)
-IsUnionOf-nonempty (ty ∷ types) others [] union some =
-    let there = (union (type_name ty)).1 (inl (0, omega arith, refl)) in absurd (omega (arith, there.1))
-IsUnionOf-nonempty (ty ∷ types) others (name ∷ all) union some = λ none. cc
+-- and the names of all that was referred to
+pub same_names-referred : (types sorted all : List (Bor EntityType)) → IsPermutation types sorted
+    → IsFiltered (DiffersFromLast same_type) [] sorted all → (name : PlainName)
+    → Contains (referred_names all) name ↔ Contains (referred_names types) name
+same_names-referred types sorted all permutation filtered name =
+    rw (referred_names-distinct sorted all filtered, sym (map-map type_name (λ (ty : Bor EntityType). ty.now) types)) (same_names-distinct (referred types) (referred sorted) (IsPermutation-map (λ ty. ty.now) types sorted permutation) name)
 
--- the names of two lists that are referred to together in order, without repeats, are those of both
-pub IsUnionOf-merged : (types others : List EntityType) (both sorted all : List (Bor EntityType)) (names : List PlainName)
-    → referred both ≡ types ++ others → IsPermutation both sorted → IsFiltered (DiffersFromLast same_type) [] sorted all
-    → names ≡ map (λ ty. type_name ty.now) all → IsUnionOf (map type_name types) (map type_name others) names
-IsUnionOf-merged types others both sorted all names together permutation filtered are =
-    rw (names_of_distinct sorted all names filtered are) (IsUnionOf-distinct types others (referred sorted) (rw together at (IsPermutation-map (λ ty. ty.now) both sorted permutation)))
+-- a list with all names of one that isn't empty isn't empty
+pub nonempty_above : (names all : List PlainName) → Included names all → names ≢ [] → all ≢ []
+nonempty_above [] all included some = absurd (some refl)
+nonempty_above (name ∷ names) [] included some =
+    let there = included name (Contains-cons name names name (inl refl)) in absurd (omega (arith, there.1))
+nonempty_above (name ∷ names) (other ∷ all) included some = λ none. cc
+
+-- where two lists are referred to together, the names of a copy without repeats are those of both
+pub IsUnionOf-copied : (types others : List EntityType) (both all : List (Bor EntityType)) (copy : List EntityType)
+    → referred both ≡ types ++ others
+    → ((name : PlainName) → Contains (referred_names all) name ↔ Contains (referred_names both) name)
+    → map type_name copy ≡ referred_names all → IsUnionOf (map type_name types) (map type_name others) (map type_name copy)
+IsUnionOf-copied types others both all copy together same copied name =
+    let first = map type_name types in
+    let second = map type_name others in
+    let are : referred_names both ≡ first ++ second =
+    sym (map-map type_name (λ (ty : Bor EntityType). ty.now) both) ∙ (ap (map type_name) together ∙ map-append type_name types others) in
+    let found = rw are at (same name) in
+    rw copied (λ there. Contains-append_cases first second name (found.0 there), λ either. found.1 (elim either [ inl a ↦ Contains-append_left first second name a | inr b ↦ Contains-append_right first second name b ]))

@@ -1,18 +1,18 @@
 -- Halving, and places, among the entity types of unions, which rise by their names.
-use Rattle.std.proofs.Common.{◌≡◌, ◌<◌, ◌+◌, ℕ, Bool, refl, sym, ap, ◌∙◌, List, [], ◌∷◌, length, map, Contains, get_or, arith, Result, Ok, Err, inl, inr}
+use Rattle.std.proofs.Common.{◌≡◌, ◌<◌, ◌+◌, ◌↔◌, ℕ, refl, sym, ap, ◌∙◌, List, [], ◌∷◌, length, map, Contains, get_or, arith, Result, Ok, Err, inl, inr}
 use Rattle.std.proofs.lemmas.Bool.{cases_lt, false≢true}
 use Rattle.std.proofs.lemmas.List.{get_or_default}
 use Rattle.std.proofs.lemmas.List.Sorted.{searchable_from_sorted}
-use Rattle.std.specs.Bool.{◌==◌, Decides}
+use Rattle.std.specs.Bool.{Decides}
 use Rattle.std.specs.List.Sorted.{IsStrictlySortedBy, IsSortedBy, IsBinarySearchResult, IsSearchInRange}
-use Rattle.std.specs.Ordering.{is_lt, ordering_index, ordering_reverse}
+use Rattle.std.specs.Ordering.{is_lt, ordering_reverse}
 use Rattle.std.specs.Result.{is_ok}
 use Rattle.std.specs.declared.cmp.Ordering.{Ordering}
-use Rattle.std.specs.declared.cmp.Ordering.TheVariants.{Less, Equal, Greater}
+use Rattle.std.specs.declared.cmp.Ordering.TheVariants.{Equal}
 use Rattle.cedar_below.proofs.Inclusion.{Included-none}
 use Rattle.cedar_below.proofs.Lists.{Contains-preimage}
 use Rattle.cedar_below.proofs.Names.{entity_type_ord-name_cmp, entity_type_ord-Equal}
-use Rattle.cedar_below.proofs.PlainNames.{name_cmp-total}
+use Rattle.cedar_below.proofs.PlainNames.{name_cmp-total, name_cmp-Equal}
 use Rattle.cedar_types.specs.Words.{EntityType, Included, PlainName, name_cmp, type_name}
 use Rattle.cedar_below.specs.contracts.entity_type.EntityTypeOrd.TheImpl as entity_type_ord
 use Rattle.cedar_name_map.proofs.RisingLemmas.{seen_at-rises, Contains-seen_at}
@@ -56,29 +56,21 @@ pub Included-empty : (types : List EntityType) (names : List PlainName) → leng
 Included-empty [] names none = Included-none names
 Included-empty (ty ∷ types) names none = absurd (omega (arith, none))
 
--- an order that answers the least of its answers answers `Less`
-index_less : (o : Ordering) → Decides (ordering_index o == 0) (o ≡ Less)
-index_less Less = (λ _. refl, λ _. refl)
-index_less Equal = (λ e. absurd cc, λ e. absurd cc)
-index_less Greater = (λ e. absurd cc, λ e. absurd cc)
-
--- whether the order of entity types answers `Less` decides whether the one's name is below the other's
-pub below-Decides : (x ty : EntityType) (o : Ordering) (b : Bool) → o ≡ (entity_type_ord.ghosts).cmp x ty
-    → b ≡ (ordering_index o == 0) → Decides b (name_cmp (type_name x) (type_name ty) ≡ Less)
-below-Decides x ty o b is answer = (
-  λ e. sym (entity_type_ord-name_cmp x ty) ∙ (sym is ∙ (index_less o).0 (sym answer ∙ e)),
-  λ less. answer ∙ (index_less o).1 (is ∙ (entity_type_ord-name_cmp x ty ∙ less)),
-)
-
 -- the name at a place is that of the entity type there
-pub name_at : (types : List EntityType) (place : ℕ) (x : EntityType) → x ≡ get_or types place x → place < length types
+name_at : (types : List EntityType) (place : ℕ) (x : EntityType) → x ≡ get_or types place x → place < length types
     → (d : EntityType) → type_name (get_or types place d) ≡ type_name x
 name_at types place x is within d = ap type_name (get_or_default types place d x within ∙ sym is)
 
--- whether the entity type at a place has a name decides whether the name is at the place
-pub name_at-Decides : (types : List EntityType) (place : ℕ) (x ty : EntityType) (b : Bool) → x ≡ get_or types place x
-    → place < length types → Decides b (type_name x ≡ type_name ty) → Decides b (IsTypeAt types place (type_name ty))
-name_at-Decides types place x ty b is within decides = (
-  λ e. (within, λ d. name_at types place x is within d ∙ decides.0 e),
-  λ here. decides.1 (sym (name_at types place x is within x) ∙ here.1 x),
-)
+module _ (types : List EntityType) (place : ℕ) (x ty : EntityType) (order : Ordering) (is : x ≡ get_or types place x)
+    (within : place < length types) (answer : order ≡ (entity_type_ord.ghosts).cmp x ty) where
+  -- how an entity type at a place compares is how the name there does
+  pub order_at : (d : EntityType) → name_cmp (type_name (get_or types place d)) (type_name ty) ≡ order
+  order_at d =
+      ap (λ name. name_cmp name (type_name ty)) (name_at types place x is within d)
+      ∙ (sym (entity_type_ord-name_cmp x ty) ∙ sym answer)
+
+  -- it ties exactly where the name is at the place
+  pub stands_where_tied : (order ≡ Equal) ↔ IsTypeAt types place (type_name ty)
+  stands_where_tied =
+      let ties = λ (d : EntityType). name_cmp-Equal (type_name (get_or types place d)) (type_name ty) in
+      (λ equal. (within, λ d. (ties d).0 (order_at d ∙ equal)), λ here. sym (order_at x) ∙ (ties x).1 (here.1 x))

@@ -48,11 +48,11 @@ fn records_fit(
     let own = attrs.attrs.as_slice();
     let mut at = 0;
     for (name, other) in core {
-        let place = attrs.attrs.seek(at, name);
+        let (place, is_there) = attrs.attrs.seek(at, name);
         if !may_lack_all(&own[at..place], core_is_open) {
             return false;
         }
-        if attrs.attrs.is_at(place, name) {
+        if is_there {
             if !own[place].1.attr_type.is_consistent_with(&other.attr_type) {
                 return false;
             }

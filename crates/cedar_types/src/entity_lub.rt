@@ -1,10 +1,11 @@
 //! Unions of entity types.
 
-ghost use Rattle.std.specs.Prelude.{◌≡◌, ◌≢◌, ◌++◌, [], length, map, true, IfOk};
+ghost use Rattle.std.specs.Prelude.{◌≡◌, ◌≢◌, ◌↔◌, ◌++◌, [], Contains, length, map, true, IfOk};
 ghost use Rattle.std.specs.List.Sorted.{IsPermutation, IsSorted, IsStrictlySortedBy};
-ghost use Rattle.cedar_below.specs.Words.{name_cmp, type_name};
+ghost use Rattle.cedar_below.specs.Words.{PlainName, name_cmp, type_name};
 ghost use Rattle.cedar_types.specs.TypesInOrder.{AreInOrder, AreInOrder-prop as one_order};
 
+use crate::subtype::is_same;
 use cedar_below::{EntityType, Held, M};
 use itertools::Itertools;
 use std::alloc::Global;
@@ -72,12 +73,26 @@ fn in_order<'a>(types: Vec<&'a EntityType>) -> M<Vec<&'a EntityType>>
     Ok(types.into_iter().sorted(alloc)?.collect_vec(alloc)?)
 }
 
+/// The same references in the order of their entity types, without repeats.
+fn distinct<'a>(types: Vec<&'a EntityType>) -> M<Vec<&'a EntityType>>
+    ensures sorted { IfOk result (λ distinct.
+        IsStrictlySortedBy name_cmp (map (λ ty. type_name ty.now) distinct.items)) }
+    ensures names { IfOk result (λ distinct. (name : PlainName)
+        → Contains (map (λ ty. type_name ty.now) distinct.items) name
+        ↔ Contains (map (λ ty. type_name ty.now) types.entry.items) name) }
+{
+    let mut distinct = in_order(types)?;
+    distinct.dedup();
+    Ok(distinct)
+}
+
 impl EntityLUB {
     ghost use Rattle.std.specs.Prelude.{◌≡◌, ◌≢◌, ◌↔◌, ◌<◌, ◌≤◌, ℕ, IsTrue, IfOk, [], ◌∷◌, map, length, get_or, Contains};
+    ghost use Rattle.std.specs.List.{flat_map};
     ghost use Rattle.std.specs.List.Sorted.{IsStrictlySortedBy};
     ghost use Rattle.std.specs.Option.{option_copied, option_map};
     ghost use Rattle.std.specs.Slice.Iter.{iter_rest};
-    ghost use Rattle.cedar_types.specs.Words.{AreDisjoint, EntityType, IsUnionOf, lub_names, lub_types, name_cmp, only_name, only_type, type_name};
+    ghost use Rattle.cedar_types.specs.Words.{AreDisjoint, EntityType, IsUnionOf, PlainName, lub_names, lub_types, name_cmp, only_name, only_type, type_name};
     ghost use Rattle.std.specs.declared.cmp.Ordering.TheVariants.{Less};
 
     /// The union of a single entity type. Out of memory is the only refusal.
@@ -162,31 +177,29 @@ impl EntityLUB {
         self.contains(ty)
     }
 
-    /// The first place, from one on, whose entity type isn't below the given one.
-    pub(crate) fn seek(&self, from: usize, ty: &EntityType) -> usize
-        ensures from { from ≤ result }
-        ensures passed { (i : ℕ) (d : EntityType) → from ≤ i → i < result
+    /// The first place, from one on, whose entity type isn't below the given one, and whether the
+    /// given one stands there.
+    pub(crate) fn seek(&self, from: usize, ty: &EntityType) -> (usize, bool)
+        ensures from { from ≤ result.0 }
+        ensures passed { (i : ℕ) (d : EntityType) → from ≤ i → i < result.0
             → name_cmp (type_name (get_or (lub_types self.now) i d)) (type_name ty.now) ≡ Less }
-        ensures stays { (d : EntityType) → result < length (lub_types self.now)
-            → name_cmp (type_name (get_or (lub_types self.now) result d)) (type_name ty.now)
+        ensures stays { (d : EntityType) → result.0 < length (lub_types self.now)
+            → name_cmp (type_name (get_or (lub_types self.now) result.0 d)) (type_name ty.now)
             ≢ Less }
-    {
-        let types = self.as_slice();
-        let mut at = from;
-        while at < types.len() && types[at].cmp(ty) == Ordering::Less {
-            at += 1;
-        }
-        at
-    }
-
-    /// Whether an entity type is at a place.
-    pub(crate) fn is_at(&self, place: usize, ty: &EntityType) -> bool
-        ensures { IsTrue result ↔ ((place < length (lub_types self.now))
-            × ((d : EntityType) → type_name (get_or (lub_types self.now) place d)
+        ensures stands { IsTrue result.1 ↔ ((result.0 < length (lub_types self.now))
+            × ((d : EntityType) → type_name (get_or (lub_types self.now) result.0 d)
             ≡ type_name ty.now)) }
     {
         let types = self.as_slice();
-        place < types.len() && types[place] == *ty
+        let mut at = from;
+        while at < types.len() {
+            match types[at].cmp(ty) {
+                Ordering::Less => at += 1,
+                Ordering::Equal => return (at, true),
+                Ordering::Greater => return (at, false),
+            }
+        }
+        (at, false)
     }
 
     /// Whether no entity type is one of both unions.
@@ -197,10 +210,11 @@ impl EntityLUB {
     {
         let mut at = 0;
         for ty in self.as_slice() {
-            at = other.seek(at, ty);
-            if other.is_at(at, ty) {
+            let (place, is_there) = other.seek(at, ty);
+            if is_there {
                 return false;
             }
+            at = place;
         }
         true
     }
@@ -211,9 +225,40 @@ impl EntityLUB {
             (lub_names lub)) }
     {
         let types = self.lub_elements.value();
-        let mut both = in_order(both_types(types, other.lub_elements.value())?)?;
-        both.dedup();
+        let both = distinct(both_types(types, other.lub_elements.value())?)?;
         EntityLUB::of_sorted(share_all(&both)?)
+    }
+
+    /// References to the entity types of some unions, one union after another. Those of a union
+    /// that is the same as the one before it are left out.
+    fn all_types<'a>(unions: &Vec<&'a EntityLUB>) -> M<Vec<&'a EntityType>>
+        ensures { IfOk result (λ all. (name : PlainName)
+            → Contains (map (λ ty. type_name ty.now) all.items) name
+            ↔ Contains (flat_map (λ lub. lub_names lub.now) unions.now.items) name) }
+    {
+        let mut all = Vec::new(*unions.allocator());
+        for (place, lub) in unions.iter().enumerate() {
+            if place == 0 || !is_same(unions[place - 1], lub) {
+                all.extend(lub.as_slice())?;
+            }
+        }
+        Ok(all)
+    }
+
+    /// The union of the entity types of some unions; if that is one of them, it is shared. Out of
+    /// memory is the only refusal.
+    pub(crate) fn of_all(unions: &Vec<&EntityLUB>) -> M<EntityLUB>
+        requires { unions.now.items ≢ [] }
+        ensures { IfOk result (λ all. (name : PlainName) → Contains (lub_names all) name
+            ↔ Contains (flat_map (λ lub. lub_names lub.now) unions.now.items) name) }
+    {
+        let types = distinct(EntityLUB::all_types(unions)?)?;
+        for lub in unions {
+            if lub.as_slice().len() == types.len() {
+                return (**lub).clone();
+            }
+        }
+        EntityLUB::of_sorted(share_all(&types)?)
     }
 
     /// An equal union. Out of memory is the only refusal.

@@ -1,6 +1,6 @@
 //! Least upper bounds of types and of entity kinds.
 
-ghost use Rattle.std.specs.Prelude.{◌≡◌, ◌&&◌, ◌↔◌, ◌++◌, [], ◌∷◌, IfOk, IfSome, None, OnOk, map, string_bytes};
+ghost use Rattle.std.specs.Prelude.{◌≡◌, ◌<◌, ◌&&◌, ◌↔◌, ◌++◌, [], ◌∷◌, IfOk, IfSome, None, OnOk, length, map, string_bytes};
 ghost use Rattle.std.specs.declared.alloc.Global.{Global};
 ghost use Rattle.std.specs.declared.string.String.{String};
 ghost use Rattle.cedar_types.specs.Words.{Below, ClosedAttributes, IsAnswerOrMemory, IsHandedOn, IsJoinAnswer, IsLeastOwnBound, IsPermissiveAttribute, IsReduceAnswer, IsStrictAttribute, IsUnplaced, Text, attribute_loc, attribute_of, either_open, fields_of, kind_ty, listed_at, located_at, lub_ty, never, record_of, ty_of};
@@ -223,12 +223,13 @@ fn permissive_record(
     let mut joined = Vec::new(alloc);
     let mut at = 0;
     for (name, attribute) in own {
-        at = b.attrs.seek(at, name);
-        if b.attrs.is_at(at, name) {
-            if let Some(join) = permissive_attribute(alloc, attribute, &others[at].1)? {
+        let (place, is_there) = b.attrs.seek(at, name);
+        if is_there {
+            if let Some(join) = permissive_attribute(alloc, attribute, &others[place].1)? {
                 push_named(&mut joined, name, join)?;
             }
         }
+        at = place;
     }
     let openness = permissive_openness(
         a_openness,
@@ -264,12 +265,13 @@ fn strict_record(
     let mut joined = Vec::new(alloc);
     let mut at = 0;
     for (name, attribute) in own {
-        at = b.attrs.seek(at, name);
-        if !b.attrs.is_at(at, name) {
+        let (place, is_there) = b.attrs.seek(at, name);
+        if !is_there {
             return Err(JoinError::Help(LubHelp::RecordWidth));
         }
-        let join = strict_attribute(alloc, attribute, &others[at].1)?;
+        let join = strict_attribute(alloc, attribute, &others[place].1)?;
         push_named(&mut joined, name, join)?;
+        at = place;
     }
     let attrs = Attributes::from_sorted_by_name(alloc, joined)?;
     Ok(record(attrs, strict_openness(a_openness, b_openness)))
@@ -371,6 +373,35 @@ fn join_shared(
     Ok(shared(alloc, join)?)
 }
 
+/// References to the unions that types are of, where each is a type of the entities of one; else
+/// None.
+fn unions_of<'a>(alloc: Global, types: &'a [Type]) -> M<Option<Vec<&'a EntityLUB>>>
+    ensures { IfOk result (λ found. IfSome found (λ unions.
+        map ty_of types.now ≡ map (λ lub. lub_ty lub.now) unions.items)) }
+{
+    let mut unions = Vec::new(alloc);
+    for ty in types {
+        let Type::Entity(EntityKind::Entity(lub)) = ty else {
+            return Ok(None);
+        };
+        unions.push(lub)?;
+    }
+    Ok(Some(unions))
+}
+
+/// The fold of the join in permissive mode over types that are each of the entities of a union: all
+/// unions are joined at once. None where a type is another.
+fn join_of_unions(alloc: Global, types: &[Type]) -> M<Option<Type>>
+    requires { 1 < length types.now }
+    ensures { IfOk result (λ found. IfSome found (λ join.
+        IsReduceAnswer mode.Permissive never (map ty_of types.now) (Ok (ty_of join)))) }
+{
+    match unions_of(alloc, types)? {
+        Some(unions) => Ok(Some(Type::Entity(EntityKind::Entity(EntityLUB::of_all(&unions)?)))),
+        None => Ok(None),
+    }
+}
+
 impl Type {
     /// The least upper bound of two types: of the types above both that lie within them, the one
     /// below each of these. Parts that are handed on stay shared.
@@ -422,6 +453,11 @@ impl Type {
     ) -> Result<Type, JoinError>
         ensures { IsAnswerOrMemory ty_of (IsReduceAnswer mode never (map ty_of items.now)) result }
     {
+        if mode == ValidationMode::Permissive && items.len() > 1 {
+            if let Some(join) = join_of_unions(alloc, items)? {
+                return Ok(join);
+            }
+        }
         reduce(alloc, Type::Never, items, mode)
     }
 }

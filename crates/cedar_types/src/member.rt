@@ -61,10 +61,11 @@ fn all_listed(values: &BTreeMap<String, RestrictedExpr>, attrs: &Attributes) -> 
 {
     let mut at = 0;
     for name in values.keys() {
-        at = attrs.attrs.seek(at, name);
-        if !attrs.attrs.is_at(at, name) {
+        let (place, is_there) = attrs.attrs.seek(at, name);
+        if !is_there {
             return false;
         }
+        at = place;
     }
     true
 }

@@ -55,16 +55,17 @@ fn is_included(lower: &EntityLUB, upper: &EntityLUB) -> bool
 {
     let mut at = 0;
     for ty in lower.iter() {
-        at = upper.seek(at, ty);
-        if !upper.is_at(at, ty) {
+        let (place, is_there) = upper.seek(at, ty);
+        if !is_there {
             return false;
         }
+        at = place;
     }
     true
 }
 
 /// Whether two unions have the same entity types.
-fn is_same(lower: &EntityLUB, upper: &EntityLUB) -> bool
+pub(crate) fn is_same(lower: &EntityLUB, upper: &EntityLUB) -> bool
     ensures { IsTrue result ↔ (lub_names lower.now ≡ lub_names upper.now) }
 {
     lower == upper
@@ -119,13 +120,14 @@ fn fields_fit(lower: &Attributes, upper: &Attributes, mode: ValidationMode) -> b
     let own = lower.attrs.as_slice();
     let mut at = 0;
     for (name, attribute) in upper.attrs.as_slice() {
-        at = lower.attrs.seek(at, name);
-        if !lower.attrs.is_at(at, name) {
+        let (place, is_there) = lower.attrs.seek(at, name);
+        if !is_there {
             return false;
         }
-        if !attribute_fits(&own[at].1, attribute, mode) {
+        if !attribute_fits(&own[place].1, attribute, mode) {
             return false;
         }
+        at = place;
     }
     true
 }

@@ -10,17 +10,17 @@ subtype::fields_fit-loop-name-init t c =
     rw same (WalkedBelow-first c.args.mode c.args.lower.now c.args.upper.now)
 
 -- an attribute that the lower record lacks fails
-pub subtype::fields_fit-returns-then-not-is_at : goal.subtype::fields_fit-returns-then-not-is_at
-subtype::fields_fit-returns-then-not-is_at t c =
+pub subtype::fields_fit-returns-then-not-is_there : goal.subtype::fields_fit-returns-then-not-is_there
+subtype::fields_fit-returns-then-not-is_there t c =
     let lower = c.args.lower.now in
     let item = c.loop-name-item.result in
     let walked = rw (drop-at _ c.loop-name.name-index item c.loop-name-test.true c.loop-name-item.is) at c.loop-name.invariant in
-    let sought = Sought-held lower c.loop-name.at c.seek-at.result c.deref-in-loop-name.result.now _ (string_bytes item.0)
-    c.deref-in-loop-name.ensures c.deref-in-loop-name-2.ensures c.seek-at.ensures.passed c.seek-at.ensures.stays in
-    let here = IsAt-held lower c.seek-at.result c.deref-in-loop-name-3.result.now _ (string_bytes item.0) c.is_at.result
-    c.deref-in-loop-name-3.ensures c.deref-in-loop-name-4.ensures c.is_at.ensures in
-    WalkedBelow-missed c.args.mode lower c.args.upper.now c.loop-name.at c.seek-at.result item _ walked sought
-    (λ is. absurd (let there = here.1 is in let none = c.if-not-is_at.true in cc))
+    let sought = Sought-held lower c.loop-name.at c.seek-place.result.0 c.deref-in-loop-name.result.now _ (string_bytes item.0)
+    c.deref-in-loop-name.ensures c.deref-in-loop-name-2.ensures c.seek-place.ensures.passed c.seek-place.ensures.stays in
+    let here = IsAt-held lower c.seek-place.result.0 c.deref-in-loop-name.result.now _ (string_bytes item.0) c.seek-place.result.1
+    c.deref-in-loop-name.ensures c.deref-in-loop-name-2.ensures c.seek-place.ensures.stands in
+    WalkedBelow-missed c.args.mode lower c.args.upper.now c.loop-name.at c.seek-place.result.0 item _ walked sought
+    (λ is. absurd (let there = here.1 is in let none = c.if-not-is_there.true in cc))
 
 -- so does one that doesn't lie below
 pub subtype::fields_fit-returns-then-not-attribute_fits :
@@ -29,13 +29,13 @@ subtype::fields_fit-returns-then-not-attribute_fits t c =
     let lower = c.args.lower.now in
     let item = c.loop-name-item.result in
     let walked = rw (drop-at _ c.loop-name.name-index item c.loop-name-test.true c.loop-name-item.is) at c.loop-name.invariant in
-    let sought = Sought-held lower c.loop-name.at c.seek-at.result c.deref-in-loop-name.result.now _ (string_bytes item.0)
-    c.deref-in-loop-name.ensures c.deref-in-loop-name-2.ensures c.seek-at.ensures.passed c.seek-at.ensures.stays in
-    let here = IsAt-held lower c.seek-at.result c.deref-in-loop-name-3.result.now _ (string_bytes item.0) c.is_at.result
-    c.deref-in-loop-name-3.ensures c.deref-in-loop-name-4.ensures c.is_at.ensures in
-    WalkedBelow-fails c.args.mode lower c.args.upper.now c.loop-name.at c.seek-at.result item _ walked sought
-    c.index-own-at.result (here.0 c.if-not-is_at.false)
-    (AttributeBelow-held c.args.mode lower c.as_slice-own.result.now c.seek-at.result c.index-own-at.result item _ c.attribute_fits.result
+    let sought = Sought-held lower c.loop-name.at c.seek-place.result.0 c.deref-in-loop-name.result.now _ (string_bytes item.0)
+    c.deref-in-loop-name.ensures c.deref-in-loop-name-2.ensures c.seek-place.ensures.passed c.seek-place.ensures.stays in
+    let here = IsAt-held lower c.seek-place.result.0 c.deref-in-loop-name.result.now _ (string_bytes item.0) c.seek-place.result.1
+    c.deref-in-loop-name.ensures c.deref-in-loop-name-2.ensures c.seek-place.ensures.stands in
+    WalkedBelow-fails c.args.mode lower c.args.upper.now c.loop-name.at c.seek-place.result.0 item _ walked sought
+    c.index-own-place.result (here.0 c.if-not-is_there.false)
+    (AttributeBelow-held c.args.mode lower c.as_slice-own.result.now c.seek-place.result.0 c.index-own-place.result item _ c.attribute_fits.result
     (c.as_slice-own.ensures ∙ ap (λ all. all.entries.items) c.deref.ensures) c.if-not-attribute_fits.true c.attribute_fits.ensures)
 
 -- past one that lies below the rest decides
@@ -44,11 +44,11 @@ subtype::fields_fit-loop-name-preserved t c =
     let lower = c.args.lower.now in
     let item = c.loop-name-item.result in
     let walked = rw (drop-at _ c.loop-name.name-index item c.loop-name-test.true c.loop-name-item.is) at c.loop-name.invariant in
-    let sought = Sought-held lower c.loop-name.at c.seek-at.result c.deref-in-loop-name.result.now _ (string_bytes item.0)
-    c.deref-in-loop-name.ensures c.deref-in-loop-name-2.ensures c.seek-at.ensures.passed c.seek-at.ensures.stays in
-    let here = IsAt-held lower c.seek-at.result c.deref-in-loop-name-3.result.now _ (string_bytes item.0) c.is_at.result
-    c.deref-in-loop-name-3.ensures c.deref-in-loop-name-4.ensures c.is_at.ensures in
-    WalkedBelow-next c.args.mode lower c.args.upper.now c.loop-name.at c.seek-at.result item _ walked sought
-    c.index-own-at.result (here.0 c.if-not-is_at.false)
-    (AttributeBelow-held c.args.mode lower c.as_slice-own.result.now c.seek-at.result c.index-own-at.result item _ c.attribute_fits.result
+    let sought = Sought-held lower c.loop-name.at c.seek-place.result.0 c.deref-in-loop-name.result.now _ (string_bytes item.0)
+    c.deref-in-loop-name.ensures c.deref-in-loop-name-2.ensures c.seek-place.ensures.passed c.seek-place.ensures.stays in
+    let here = IsAt-held lower c.seek-place.result.0 c.deref-in-loop-name.result.now _ (string_bytes item.0) c.seek-place.result.1
+    c.deref-in-loop-name.ensures c.deref-in-loop-name-2.ensures c.seek-place.ensures.stands in
+    WalkedBelow-next c.args.mode lower c.args.upper.now c.loop-name.at c.seek-place.result.0 item _ walked sought
+    c.index-own-place.result (here.0 c.if-not-is_there.false)
+    (AttributeBelow-held c.args.mode lower c.as_slice-own.result.now c.seek-place.result.0 c.index-own-place.result item _ c.attribute_fits.result
     (c.as_slice-own.ensures ∙ ap (λ all. all.entries.items) c.deref.ensures) c.if-not-attribute_fits.false c.attribute_fits.ensures)

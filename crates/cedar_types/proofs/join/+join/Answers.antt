@@ -14,7 +14,7 @@ use Rattle.cedar_types.proofs.SubtypeSteps.{Sought-held, IsAt-held}
 use Rattle.cedar_types.proofs.TypeKinds.{place_of, unlike_refused, unlike-Bool, unlike-Entity, unlike-Set, unlike-Record, unlike-other, place-Bool, place-Entity, place-Set, place-Record, place-not-Bool, place-not-Entity, place-not-Set, place-not-Record}
 use Rattle.cedar_types.specs.declared.types.Type.TheVariants as type
 use Rattle.cedar_types.proofs.join.+join.Goals as goal
-use Rattle.cedar_types.proofs.join.+join.Goals.{join_apart-In-Some-Some, permissive_record-After-as_slice-others, permissive_record-After-is_at, permissive_record-After-loop-name, strict_record-After-as_slice-others, strict_record-Else-own-others, strict_record-After-is_at, strict_record-After-loop-name, join_apart-in_default-via-in-Bool+in_default, join_apart-in_default-via-in-Entity+in_default, join_apart-in_default-via-in-Set+in_default, join_apart-in_default-via-in-Record+in_default, join_apart-in_default-via-in_default, permissive_record-then-is_at+in_ok-join+in-Some+in_ok-push_named, permissive_record-then-is_at+in_ok-join+in_default, permissive_record-else-is_at}
+use Rattle.cedar_types.proofs.join.+join.Goals.{join_apart-In-Some-Some, permissive_record-After-as_slice-others, permissive_record-After-seek-place, permissive_record-After-loop-name, strict_record-After-as_slice-others, strict_record-Else-own-others, strict_record-After-seek-place, strict_record-After-loop-name, join_apart-in_default-via-in-Bool+in_default, join_apart-in_default-via-in-Entity+in_default, join_apart-in_default-via-in-Set+in_default, join_apart-in_default-via-in-Record+in_default, join_apart-in_default-via-in_default, permissive_record-then-is_there+in_ok-join+in-Some+in_ok-push_named, permissive_record-then-is_there+in_ok-join+in_default, permissive_record-else-is_there}
 
 -- what two sets with elements stand for
 both_sets : (t : _) (c : join_apart-In-Some-Some t)
@@ -82,18 +82,18 @@ permissive_pairs t c = (
 )
 
 -- this turn's walk goes on to a place for the next attribute of the one record
-permissive_step : (t : _) (c : permissive_record-After-is_at t)
-    → JoinStep PermissiveSoFar c.args.a.now c.args.b.now c.loop-name.at c.seek-at.result c.loop-name-item.result
-    (drop (c.loop-name.name-index + 1) c.as_slice-own.result.now) c.loop-name.joined.items c.is_at.result
+permissive_step : (t : _) (c : permissive_record-After-seek-place t)
+    → JoinStep PermissiveSoFar c.args.a.now c.args.b.now c.loop-name.at c.seek-place.result.0 c.loop-name-item.result
+    (drop (c.loop-name.name-index + 1) c.as_slice-own.result.now) c.loop-name.joined.items c.seek-place.result.1
 permissive_step t c =
     let b = c.args.b.now in
     let item = c.loop-name-item.result in
     record {
       so_far = rw (drop-at _ c.loop-name.name-index item c.loop-name-test.true c.loop-name-item.is) at c.loop-name.invariant;
-      sought = Sought-held b c.loop-name.at c.seek-at.result c.deref-in-loop-name.result.now _ (string_bytes item.0)
-          c.deref-in-loop-name.ensures c.deref-in-loop-name-2.ensures c.seek-at.ensures.passed c.seek-at.ensures.stays;
-      here = IsAt-held b c.seek-at.result c.deref-in-loop-name-3.result.now _ (string_bytes item.0) c.is_at.result
-          c.deref-in-loop-name-3.ensures c.deref-in-loop-name-4.ensures c.is_at.ensures;
+      sought = Sought-held b c.loop-name.at c.seek-place.result.0 c.deref-in-loop-name.result.now _ (string_bytes item.0)
+          c.deref-in-loop-name.ensures c.deref-in-loop-name-2.ensures c.seek-place.ensures.passed c.seek-place.ensures.stays;
+      here = IsAt-held b c.seek-place.result.0 c.deref-in-loop-name.result.now _ (string_bytes item.0) c.seek-place.result.1
+          c.deref-in-loop-name.ensures c.deref-in-loop-name-2.ensures c.seek-place.ensures.stands;
     }
 
 -- after the last turn the pairs are the join
@@ -116,23 +116,23 @@ permissive_record-loop-name-preserved t c =
     let past = goal.at.permissive_record-loop-name-preserved t c in
     let b = c.args.b.now in
     let item = c.loop-name-item.result in
-    let place = c.seek-at.result in
-    let step = permissive_step t past.After-is_at in
+    let place = c.seek-place.result.0 in
+    let step = permissive_step t past.After-seek-place in
     let others = (permissive_pairs t past.After-as_slice-others).1 in
-    elim c.if-is_at.branch [
-      | permissive_record-then-is_at+in_ok-join+in-Some+in_ok-push_named w ↦ (
+    elim c.if-is_there.branch [
+      | permissive_record-then-is_there+in_ok-join+in-Some+in_ok-push_named w ↦ (
           let more = w.in_ok-push_named.ensures in
-          let one = w.index-others-at.result in
+          let one = w.index-others-place.result in
           let right = rw (others, w.in-Some.is) at w.in_ok-join.ensures.join in
-          rw (ap (λ v. v.items) w.joined-is ∙ more.2) (permissive-kept step one (more.0, w.in-Some.join) w.if-is_at.true more.1 right.0 right.1
+          rw (ap (λ v. v.items) w.joined-is ∙ more.2) (permissive-kept step one (more.0, w.in-Some.join) w.if-is_there.true more.1 right.0 right.1
           (rw w.in-Some.is at w.in_ok-join.ensures.loc))
           )
-      | permissive_record-then-is_at+in_ok-join+in_default w ↦ (
-          let one = w.index-others-at.result in
+      | permissive_record-then-is_there+in_ok-join+in_default w ↦ (
+          let one = w.index-others-place.result in
           let none = dropped_have_none (attribute_of item.1) (attribute_of (get_or (pairs_of b) place one).1) w.in_ok-join.field-0 (rw others at w.in_ok-join.ensures.join) w.in_default.not-Some in
-          rw (ap (λ v. v.items) w.joined-is) (permissive-refused step one w.if-is_at.true none)
+          rw (ap (λ v. v.items) w.joined-is) (permissive-refused step one w.if-is_there.true none)
           )
-      | permissive_record-else-is_at w ↦ rw (ap (λ v. v.items) w.joined-is) (permissive-missed step w.if-is_at.false)
+      | permissive_record-else-is_there w ↦ rw (ap (λ v. v.items) w.joined-is) (permissive-missed step w.if-is_there.false)
     ]
 
 pub permissive_record-from_sorted_by_name-requires : goal.permissive_record-from_sorted_by_name-requires
@@ -188,18 +188,18 @@ same_length t c =
     sym (ap length own) ∙ (c.if-own-others.false ∙ ap length others)
 
 -- this turn's walk goes on to a place for the next attribute of the one record
-strict_step : (t : _) (c : strict_record-After-is_at t)
-    → JoinStep StrictSoFar c.args.a.now c.args.b.now c.loop-name.at c.seek-at.result c.loop-name-item.result
-    (drop (c.loop-name.name-index + 1) c.as_slice-own.result.now) c.loop-name.joined.items c.is_at.result
+strict_step : (t : _) (c : strict_record-After-seek-place t)
+    → JoinStep StrictSoFar c.args.a.now c.args.b.now c.loop-name.at c.seek-place.result.0 c.loop-name-item.result
+    (drop (c.loop-name.name-index + 1) c.as_slice-own.result.now) c.loop-name.joined.items c.seek-place.result.1
 strict_step t c =
     let b = c.args.b.now in
     let item = c.loop-name-item.result in
     record {
       so_far = rw (drop-at _ c.loop-name.name-index item c.loop-name-test.true c.loop-name-item.is) at c.loop-name.invariant;
-      sought = Sought-held b c.loop-name.at c.seek-at.result c.deref-in-loop-name.result.now _ (string_bytes item.0)
-          c.deref-in-loop-name.ensures c.deref-in-loop-name-2.ensures c.seek-at.ensures.passed c.seek-at.ensures.stays;
-      here = IsAt-held b c.seek-at.result c.deref-in-loop-name-3.result.now _ (string_bytes item.0) c.is_at.result
-          c.deref-in-loop-name-3.ensures c.deref-in-loop-name-4.ensures c.is_at.ensures;
+      sought = Sought-held b c.loop-name.at c.seek-place.result.0 c.deref-in-loop-name.result.now _ (string_bytes item.0)
+          c.deref-in-loop-name.ensures c.deref-in-loop-name-2.ensures c.seek-place.ensures.passed c.seek-place.ensures.stays;
+      here = IsAt-held b c.seek-place.result.0 c.deref-in-loop-name.result.now _ (string_bytes item.0) c.seek-place.result.1
+          c.deref-in-loop-name.ensures c.deref-in-loop-name-2.ensures c.seek-place.ensures.stands;
     }
 
 -- after the last turn the pairs are the join
@@ -226,36 +226,36 @@ strict_record-loop-name-init t c =
     let own = (strict_pairs t past.After-as_slice-others).0 in
     rw (c.new-joined.ensures.items, own) (strict-first a b)
 
-pub strict_record-returns-then-not-is_at-clause-join : goal.strict_record-returns-then-not-is_at-clause-join
-strict_record-returns-then-not-is_at-clause-join t c =
-    let past = goal.at.strict_record-returns-then-not-is_at-clause-join t c in
+pub strict_record-returns-then-not-is_there-clause-join : goal.strict_record-returns-then-not-is_there-clause-join
+strict_record-returns-then-not-is_there-clause-join t c =
+    let past = goal.at.strict_record-returns-then-not-is_there-clause-join t c in
     strict-refusal c.args.a.now c.args.b.now c.args.a_openness c.args.b_openness (same_length t past.Else-own-others) _
-    (strict-missed (strict_step t past.After-is_at) c.if-not-is_at.true)
+    (strict-missed (strict_step t past.After-seek-place) c.if-not-is_there.true)
 
 pub strict_record-returns-in_err-join-clause-join : goal.strict_record-returns-in_err-join-clause-join
 strict_record-returns-in_err-join-clause-join t c =
     let past = goal.at.strict_record-returns-in_err-join-clause-join t c in
     let item = c.loop-name-item.result in
     let RefusesIn : Pairs → Type 0 = λ all.
-    IsStrictAttribute (attribute_of item.1) (attribute_of (get_or all c.seek-at.result c.index-others-at.result).1) (Err c.in_err-join.field-0.0) in
+    IsStrictAttribute (attribute_of item.1) (attribute_of (get_or all c.seek-place.result.0 c.index-others-place.result).1) (Err c.in_err-join.field-0.0) in
     let p = err_from_is_err_and c.from_residual.result c.from_residual.ensures.1 in
     rw (p.1, p.2)
-    (strict-errs c.args.a_openness c.args.b_openness (same_length t past.Else-own-others) (strict_step t past.After-is_at)
-    c.index-others-at.result c.in_err-join.field-0.0 c.if-not-is_at.false
+    (strict-errs c.args.a_openness c.args.b_openness (same_length t past.Else-own-others) (strict_step t past.After-seek-place)
+    c.index-others-place.result c.in_err-join.field-0.0 c.if-not-is_there.false
     (subst RefusesIn (strict_pairs t past.After-as_slice-others).1 c.in_err-join.ensures.join))
 
 pub strict_record-loop-name-preserved : goal.strict_record-loop-name-preserved
 strict_record-loop-name-preserved t c =
     let past = goal.at.strict_record-loop-name-preserved t c in
     let item = c.loop-name-item.result in
-    let place = c.seek-at.result in
-    let step = strict_step t past.After-is_at in
+    let place = c.seek-place.result.0 in
+    let step = strict_step t past.After-seek-place in
     let others = (strict_pairs t past.After-as_slice-others).1 in
-    let one = c.index-others-at.result in
+    let one = c.index-others-place.result in
     let right = rw others at c.in_ok-join.ensures.join in
     let more = c.in_ok-push_named.ensures in
     rw more.2
-    (strict-kept step one (more.0, c.in_ok-join.join) c.if-not-is_at.false more.1 right.0 right.1 right.2 c.in_ok-join.ensures.loc)
+    (strict-kept step one (more.0, c.in_ok-join.join) c.if-not-is_there.false more.1 right.0 right.1 right.2 c.in_ok-join.ensures.loc)
 
 pub strict_record-from_sorted_by_name-requires : goal.strict_record-from_sorted_by_name-requires
 strict_record-from_sorted_by_name-requires t c =

@@ -23,19 +23,19 @@ loop-name-init c =
     )
 
 -- a name that isn't listed fails
-pub returns-then-not-is_at : goal.returns-then-not-is_at
-returns-then-not-is_at c =
+pub returns-then-not-is_there : goal.returns-then-not-is_there
+returns-then-not-is_there c =
     let attrs = c.args.attrs.now in
     let name = c.in-Some.name.now in
     let listed = field_names (fields_of attrs) in
     let so_far = rw c.in-Some.ensures.steps at c.loop-name.invariant in
-    let sought = Sought-held attrs c.loop-name.at c.seek-at.result c.deref.result.now _ (string_bytes name)
-    c.deref.ensures c.deref-in-loop-name.ensures c.seek-at.ensures.passed c.seek-at.ensures.stays in
-    let here = IsAt-held attrs c.seek-at.result c.deref-in-loop-name-2.result.now _ (string_bytes name) c.is_at.result
-    c.deref-in-loop-name-2.ensures c.deref-in-loop-name-3.ensures c.is_at.ensures in
-    let there = sought-name attrs c.loop-name.at c.seek-at.result name _ so_far.1 sought c.is_at.result here in (
+    let sought = Sought-held attrs c.loop-name.at c.seek-place.result.0 c.deref.result.now _ (string_bytes name)
+    c.deref.ensures c.deref-in-loop-name.ensures c.seek-place.ensures.passed c.seek-place.ensures.stays in
+    let here = IsAt-held attrs c.seek-place.result.0 c.deref.result.now _ (string_bytes name) c.seek-place.result.1
+    c.deref.ensures c.deref-in-loop-name.ensures c.seek-place.ensures.stands in
+    let there = sought-name attrs c.loop-name.at c.seek-place.result.0 name _ so_far.1 sought c.seek-place.result.1 here in (
       λ wrong. absurd cc,
-      λ all. absurd (let found = there.1 (Included-head _ _ _ (so_far.0.1 all)) in let none = c.if-not-is_at.true in cc),
+      λ all. absurd (let found = there.1 (Included-head _ _ _ (so_far.0.1 all)) in let none = c.if-not-is_there.true in cc),
     )
 
 -- past a name that is listed the rest decides
@@ -45,11 +45,11 @@ loop-name-preserved c =
     let name = c.in-Some.name.now in
     let listed = field_names (fields_of attrs) in
     let so_far = rw c.in-Some.ensures.steps at c.loop-name.invariant in
-    let sought = Sought-held attrs c.loop-name.at c.seek-at.result c.deref.result.now _ (string_bytes name)
-    c.deref.ensures c.deref-in-loop-name.ensures c.seek-at.ensures.passed c.seek-at.ensures.stays in
-    let here = IsAt-held attrs c.seek-at.result c.deref-in-loop-name-2.result.now _ (string_bytes name) c.is_at.result
-    c.deref-in-loop-name-2.ensures c.deref-in-loop-name-3.ensures c.is_at.ensures in
-    let there = sought-name attrs c.loop-name.at c.seek-at.result name _ so_far.1 sought c.is_at.result here in (
-      Included-step _ _ _ so_far.0 (there.0 c.if-not-is_at.false),
-      sought-on attrs c.loop-name.at c.seek-at.result name _ so_far.1 sought,
+    let sought = Sought-held attrs c.loop-name.at c.seek-place.result.0 c.deref.result.now _ (string_bytes name)
+    c.deref.ensures c.deref-in-loop-name.ensures c.seek-place.ensures.passed c.seek-place.ensures.stays in
+    let here = IsAt-held attrs c.seek-place.result.0 c.deref.result.now _ (string_bytes name) c.seek-place.result.1
+    c.deref.ensures c.deref-in-loop-name.ensures c.seek-place.ensures.stands in
+    let there = sought-name attrs c.loop-name.at c.seek-place.result.0 name _ so_far.1 sought c.seek-place.result.1 here in (
+      Included-step _ _ _ so_far.0 (there.0 c.if-not-is_there.false),
+      sought-on attrs c.loop-name.at c.seek-place.result.0 name _ so_far.1 sought,
     )

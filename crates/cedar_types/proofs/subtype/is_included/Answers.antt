@@ -8,24 +8,24 @@ use Rattle.cedar_types.proofs.UnionSteps.{Included-empty}
 use Rattle.cedar_types.proofs.subtype.is_included.Goals as goal
 
 -- a type that the upper union lacks is against it
-pub returns-then-not-is_at : goal.returns-then-not-is_at
-returns-then-not-is_at c =
+pub returns-then-not-is_there : goal.returns-then-not-is_there
+returns-then-not-is_there c =
     let upper = c.args.upper.now in
     let so_far = rw c.in-Some.ensures.steps at c.loop-ty.invariant in
-    let there = sought-Decides type_name type_name name_cmp name_cmp-total (lub_types upper) upper.sorted c.loop-ty.at c.seek-at.result c.in-Some.ty.now _ so_far.1
-    c.seek-at.ensures.passed c.seek-at.ensures.stays c.is_at.result c.is_at.ensures in
-    (λ wrong. absurd cc, λ all. absurd (let found = there.1 (Included-head _ _ _ (so_far.0.1 all)) in let none = c.if-not-is_at.true in cc))
+    let there = sought-Decides type_name type_name name_cmp name_cmp-total (lub_types upper) upper.sorted c.loop-ty.at c.seek-place.result.0 c.in-Some.ty.now _ so_far.1
+    c.seek-place.ensures.passed c.seek-place.ensures.stays c.seek-place.result.1 c.seek-place.ensures.stands in
+    (λ wrong. absurd cc, λ all. absurd (let found = there.1 (Included-head _ _ _ (so_far.0.1 all)) in let none = c.if-not-is_there.true in cc))
 
 -- past a type of both the rest decides
 pub loop-ty-preserved : goal.loop-ty-preserved
 loop-ty-preserved c =
     let upper = c.args.upper.now in
     let so_far = rw c.in-Some.ensures.steps at c.loop-ty.invariant in
-    let there = sought-Decides type_name type_name name_cmp name_cmp-total (lub_types upper) upper.sorted c.loop-ty.at c.seek-at.result c.in-Some.ty.now _ so_far.1
-    c.seek-at.ensures.passed c.seek-at.ensures.stays c.is_at.result c.is_at.ensures in (
-      Included-step _ _ _ so_far.0 (there.0 c.if-not-is_at.false),
-      sought-next type_name type_name name_cmp name_cmp-total (lub_types upper) upper.sorted c.loop-ty.at c.seek-at.result c.in-Some.ty.now _ so_far.1
-          c.seek-at.ensures.passed c.seek-at.ensures.stays,
+    let there = sought-Decides type_name type_name name_cmp name_cmp-total (lub_types upper) upper.sorted c.loop-ty.at c.seek-place.result.0 c.in-Some.ty.now _ so_far.1
+    c.seek-place.ensures.passed c.seek-place.ensures.stays c.seek-place.result.1 c.seek-place.ensures.stands in (
+      Included-step _ _ _ so_far.0 (there.0 c.if-not-is_there.false),
+      sought-next type_name type_name name_cmp name_cmp-total (lub_types upper) upper.sorted c.loop-ty.at c.seek-place.result.0 c.in-Some.ty.now _ so_far.1
+          c.seek-place.ensures.passed c.seek-place.ensures.stays,
     )
 
 -- where none is left, all are included

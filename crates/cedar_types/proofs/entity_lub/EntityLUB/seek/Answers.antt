@@ -1,23 +1,40 @@
-use Rattle.std.proofs.Common.{◌≡◌, ap, subst}
-use Rattle.std.specs.declared.cmp.Ordering.TheVariants.{Less}
-use Rattle.cedar_types.specs.Words.{PlainName, name_cmp, type_name}
+use Rattle.std.proofs.Common.{refl}
+use Rattle.std.specs.declared.cmp.Ordering.TheVariants.{Less, Equal, Greater}
+use Rattle.cedar_types.specs.Words.{name_cmp, type_name}
 use Rattle.cedar_name_map.proofs.RisingLemmas.{Passed-next}
-use Rattle.cedar_types.proofs.UnionSteps.{below-Decides, name_at}
+use Rattle.cedar_types.proofs.UnionSteps.{order_at, stands_where_tied}
 use Rattle.cedar_types.proofs.entity_lub.EntityLUB.seek.Goals as goal
 
 pub loop-at-preserved : goal.loop-at-preserved
 loop-at-preserved c =
-    let x = c.index-types-at.result in
-    let IsBelow : PlainName → Type 0 = λ name. name_cmp name (type_name c.args.ty.now) ≡ Less in
-    let less : IsBelow (type_name x) = (below-Decides x c.args.ty.now c.cmp.result c.eq.result c.cmp.ensures c.eq.ensures).0 c.if-eq.true in
-    Passed-next type_name name_cmp c.as_slice-types.result.now (type_name c.args.ty.now) c.args.from c.loop-at.at x
-    c.loop-at.invariant c.loop-at-test.true (subst IsBelow (ap type_name c.index-types-at.is) less)
-
-pub returns-else-eq-clause-stays : goal.returns-else-eq-clause-stays
-returns-else-eq-clause-stays c d within less =
-    let x = c.index-types-at.result in
     let types = c.as_slice-types.result.now in
-    let IsBelow : PlainName → Type 0 = λ name. name_cmp name (type_name c.args.ty.now) ≡ Less in
-    let here : IsBelow (type_name x) = subst IsBelow (name_at types c.loop-at.at x c.index-types-at.is c.loop-at-test.true d) (rw (← c.as_slice-types.ensures) at less) in
-    let wrong = (below-Decides x c.args.ty.now c.cmp.result c.eq.result c.cmp.ensures c.eq.ensures).1 here in
-    let other = c.if-eq.false in cc
+    let x = c.index-types-at.result in
+    Passed-next type_name name_cmp types (type_name c.args.ty.now) c.args.from c.loop-at.at x c.loop-at.invariant c.loop-at-test.true
+    (order_at types c.loop-at.at x c.args.ty.now Less c.index-types-at.is c.loop-at-test.true c.in-Less.ensures x)
+
+pub returns-in-Equal-clause-stays : goal.returns-in-Equal-clause-stays
+returns-in-Equal-clause-stays c d within less =
+    let types = c.as_slice-types.result.now in
+    let tied = order_at types c.loop-at.at c.index-types-at.result c.args.ty.now Equal c.index-types-at.is c.loop-at-test.true c.in-Equal.ensures d in
+    let below = rw (← c.as_slice-types.ensures) at less in cc
+
+-- an entity type that ties stands there
+pub returns-in-Equal-clause-stands : goal.returns-in-Equal-clause-stands
+returns-in-Equal-clause-stands c =
+    let there = stands_where_tied c.as_slice-types.result.now c.loop-at.at c.index-types-at.result c.args.ty.now Equal
+    c.index-types-at.is c.loop-at-test.true c.in-Equal.ensures in
+    let found = rw c.as_slice-types.ensures at (there.0 refl) in
+    (λ _. found, λ _. refl)
+
+pub returns-in-Greater-clause-stays : goal.returns-in-Greater-clause-stays
+returns-in-Greater-clause-stays c d within less =
+    let types = c.as_slice-types.result.now in
+    let above = order_at types c.loop-at.at c.index-types-at.result c.args.ty.now Greater c.index-types-at.is c.loop-at-test.true c.in-Greater.ensures d in
+    let below = rw (← c.as_slice-types.ensures) at less in cc
+
+-- one that is above doesn't
+pub returns-in-Greater-clause-stands : goal.returns-in-Greater-clause-stands
+returns-in-Greater-clause-stands c =
+    let there = stands_where_tied c.as_slice-types.result.now c.loop-at.at c.index-types-at.result c.args.ty.now Greater
+    c.index-types-at.is c.loop-at-test.true c.in-Greater.ensures in
+    (λ e. absurd cc, λ found. absurd (let equal = there.1 (rw (← c.as_slice-types.ensures) at found) in cc))
