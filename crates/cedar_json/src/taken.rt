@@ -1,11 +1,11 @@
 //! What JSON values describe that go while they are read: where much is declared, the value of a
 //! text and what it describes don't take memory at one time.
 
-ghost use Rattle.std.specs.Prelude.{◌≡◌, ◌≢◌, [], List, Option, Some, None, MatchResult, IfErr, map, option_and_then, option_map};
+ghost use Rattle.std.specs.Prelude.{◌≡◌, ◌≢◌, ◌⊎◌, [], List, Option, Some, None, MatchResult, IfErr, map, option_and_then, option_map};
 ghost use Rattle.json.specs.Find.{get};
 ghost use Rattle.json.specs.Json.{Json, object};
 ghost use Rattle.json.specs.Value.{members_view, value_view};
-ghost use Rattle.cedar_json.specs.Words.{IsTrueOf, entries_in, entries_of, field_or};
+ghost use Rattle.cedar_json.specs.Words.{IsTrueOf, entries_in, entries_of, field_or, member_at};
 
 use crate::described::Key;
 use crate::fault::{Fault, FaultKind, Wanted};
@@ -33,6 +33,30 @@ pub(crate) trait Taken: Sized {
         ensures place { IfErr result (λ fault. IsTrueOf fault (value_view value.entry)) };
 }
 
+/// What the member at an index describes, under what its key stands for.
+fn take_entry<K: Key + Drop, T: Taken + Drop>(
+    alloc: Global,
+    index: usize,
+    member: (&str, Value<'_>),
+    cursor: Cursor<'_>,
+) -> Result<(K, T), Fault>
+    ensures value { MatchResult result
+        (λ entry. (K.key_of member.entry.0.now ≡ Some (K.shown_key entry.0))
+        × (T.describes (value_view member.entry.1) ≡ Some (T.shown entry.1)))
+        (λ fault. fault ≢ Fault.Memory → (K.key_of member.entry.0.now ≡ None)
+        ⊎ (T.describes (value_view member.entry.1) ≡ None)) }
+    ensures place { IfErr result (λ fault. (j : Json) → member_at index j
+        ≡ Some (member.entry.0.now, value_view member.entry.1)
+        → IsTrueOf fault j) }
+{
+    let (name, value) = member;
+    let key = K::read_key(alloc, name, index, cursor)?;
+    match T::take(alloc, value, cursor) {
+        Ok(it) => Ok((key, it)),
+        Err(fault) => Err(fault.in_member(index)),
+    }
+}
+
 /// What some members describe.
 fn take_entries<K: Key + Drop, T: Taken + Drop>(
     alloc: Global,
@@ -49,12 +73,9 @@ fn take_entries<K: Key + Drop, T: Taken + Drop>(
 {
     let mut all = Filling::new(alloc);
     let mut at = cursor.first();
-    for (index, (name, value)) in members.into_iter().enumerate() {
-        let key = K::read_key(alloc, name, index, at)?;
-        match T::take(alloc, value, at) {
-            Ok(it) => all.put(key, it)?,
-            Err(fault) => return Err(fault.in_member(index)),
-        }
+    for (index, member) in members.into_iter().enumerate() {
+        let entry = take_entry::<K, T>(alloc, index, member, at)?;
+        all.put(entry.0, entry.1)?;
         at = at.next();
     }
     let map = all.finish()?;

@@ -1,10 +1,10 @@
-use Rattle.std.proofs.Common.{◌≡◌, ap, sym, ◌∙◌, rules, Bor, Global}
+use Rattle.std.proofs.Common.{inl, inr, ◌≡◌, ap, sym, ◌∙◌, rules, Bor, Global}
 use Rattle.std.proofs.lemmas.List.{nil_from_length}
 use Rattle.std.proofs.lemmas.Result.{err_from_is_err_and}
 use Rattle.std.specs.Iterator.Adapters.{enumerate_count, enumerate_source}
 use Rattle.std.specs.Vec.Iter.{into_iter_items}
 use Rattle.json.specs.Json.{object}
-use Rattle.json.specs.Value.{members_view, value_view}
+use Rattle.json.specs.Value.{members_view}
 use Rattle.json.specs.declared.value.Value.{Value}
 use Rattle.cedar_json.proofs.DefinitionLemmas.{entry_more, left_after, left_here, no_entry, no_key, none_left}
 use Rattle.cedar_json.proofs.FieldLemmas.{nth_member-left}
@@ -14,10 +14,10 @@ use Rattle.cedar_json.proofs.taken.take_entries.Goals as goal
 abbrev Held : Type 0
 Held = Bor Text × Value Global
 
--- the refused key is that of the member at the index that the fault names
-pub returns-in_err-key-clause-place : goal.returns-in_err-key-clause-place
-returns-in_err-key-clause-place g c =
-    let x : Held = (c.in-Some.name, c.in-Some.value) in
+-- the refused member is that at the index that the fault names
+pub returns-in_err-entry-clause-place : goal.returns-in_err-entry-clause-place
+returns-in_err-entry-clause-place g c =
+    let x : Held = c.in-Some.member in
     let all = c.args.members.items in
     let i = enumerate_count c.loop-index.index-iterator in
     let steps = c.in-Some.ensures.steps in
@@ -25,68 +25,48 @@ returns-in_err-key-clause-place g c =
     let here = ap (λ n. nth_member n (members_view all)) steps.1
     ∙ nth_member-left all i x (into_iter_items (enumerate_source c.next.new.self)) first in
     let p = err_from_is_err_and c.from_residual.result c.from_residual.ensures.1 in
-    rw (p.1, p.2) (c.in_err-key.ensures.place (object (members_view all)) (value_view x.1) here)
-
--- the fault of a member's value is found in the object at the index of the member
-pub returns-in-Err-clause-place : goal.returns-in-Err-clause-place
-returns-in-Err-clause-place g c =
-    let x : Held = (c.in-Some.name, c.in-Some.value) in
-    let all = c.args.members.items in
-    let i = enumerate_count c.loop-index.index-iterator in
-    let steps = c.in-Some.ensures.steps in
-    let first = c.loop-index.invariant.1 ∙ steps.0.0 in
-    let here = ap (λ n. nth_member n (members_view all)) steps.1
-    ∙ nth_member-left all i x (into_iter_items (enumerate_source c.next.new.self)) first in
-    c.in_member.ensures.place (object (members_view all)) (x.0.now, value_view x.1) here c.in-Err.ensures.place
+    rw (p.1, p.2) (c.in_err-entry.ensures.place (object (members_view all)) here)
 
 -- one more member is read and put under its key
 pub loop-index-preserved : goal.loop-index-preserved
 loop-index-preserved g c =
     let is = g.K.Key in
     let held = g.T.Taken in
-    let x : Held = (c.in-Some.name, c.in-Some.value) in
+    let x : Held = c.in-Some.member in
     let all = c.args.members.items in
     let i = enumerate_count c.loop-index.index-iterator in
     let left = into_iter_items (enumerate_source c.loop-index.index-iterator) in
     let after = into_iter_items (enumerate_source c.next.new.self) in
     let steps = c.in-Some.ensures.steps in
-    let here = left_here all left after i x c.loop-index.invariant.1 steps.0.0 in (
+    let here = left_here all left after i x c.loop-index.invariant.1 steps.0.0 in
+    let entry = c.in_ok-entry.entry in (
       rw steps.2 (entry_more g.K.Ord.cmp is.order is.shown_key held.shown g.met.K.Key.same_order is.key_of held.describes all i x
-          (all_put g.K.Ord.cmp c.loop-index.all.map.entries c.loop-index.all.waiting.items) here c.loop-index.invariant.0 c.in_ok-key.key c.in-Ok.it
-          (all_put g.K.Ord.cmp c.put.new.self.map.entries c.put.new.self.waiting.items) c.in_ok-key.ensures.value c.in-Ok.ensures.value (search rules)),
+          (all_put g.K.Ord.cmp c.loop-index.all.map.entries c.loop-index.all.waiting.items) here c.loop-index.invariant.0 entry.0 entry.1
+          (all_put g.K.Ord.cmp c.put.new.self.map.entries c.put.new.self.waiting.items) c.in_ok-entry.ensures.value.0 c.in_ok-entry.ensures.value.1
+          (search rules)),
       left_after all left after i (enumerate_count c.next.new.self) x c.loop-index.invariant.1 steps.0.0 steps.2,
       search rules,
     )
 
--- where the key of one member stands for nothing, all together describe nothing
-pub returns-in_err-key-clause-value : goal.returns-in_err-key-clause-value
-returns-in_err-key-clause-value g c =
+-- where one member describes nothing, all together describe nothing
+pub returns-in_err-entry-clause-value : goal.returns-in_err-entry-clause-value
+returns-in_err-entry-clause-value g c =
     let is = g.K.Key in
     let held = g.T.Taken in
-    let x : Held = (c.in-Some.name, c.in-Some.value) in
+    let x : Held = c.in-Some.member in
     let all = c.args.members.items in
     let i = enumerate_count c.loop-index.index-iterator in
     let left = into_iter_items (enumerate_source c.loop-index.index-iterator) in
     let after = into_iter_items (enumerate_source c.next.new.self) in
+    let filled = all_put g.K.Ord.cmp c.loop-index.all.map.entries c.loop-index.all.waiting.items in
     let here = left_here all left after i x c.loop-index.invariant.1 c.in-Some.ensures.steps.0.0 in
     let p = err_from_is_err_and c.from_residual.result c.from_residual.ensures.1 in
-    rw (p.1, p.2) (λ other. no_key g.K.Ord.cmp is.order is.shown_key held.shown g.met.K.Key.same_order is.key_of held.describes all i x
-    (all_put g.K.Ord.cmp c.loop-index.all.map.entries c.loop-index.all.waiting.items) here c.loop-index.invariant.0 (c.in_err-key.ensures.value other))
-
--- where the value of one member describes nothing, all together describe nothing
-pub returns-in-Err-clause-value : goal.returns-in-Err-clause-value
-returns-in-Err-clause-value g c =
-    let is = g.K.Key in
-    let held = g.T.Taken in
-    let x : Held = (c.in-Some.name, c.in-Some.value) in
-    let all = c.args.members.items in
-    let i = enumerate_count c.loop-index.index-iterator in
-    let left = into_iter_items (enumerate_source c.loop-index.index-iterator) in
-    let after = into_iter_items (enumerate_source c.next.new.self) in
-    let here = left_here all left after i x c.loop-index.invariant.1 c.in-Some.ensures.steps.0.0 in
-    λ other. no_entry g.K.Ord.cmp is.order is.shown_key held.shown g.met.K.Key.same_order is.key_of held.describes all i x
-    (all_put g.K.Ord.cmp c.loop-index.all.map.entries c.loop-index.all.waiting.items) here c.loop-index.invariant.0
-    (c.in-Err.ensures.value (c.in_member.ensures.memory other))
+    rw (p.1, p.2) (λ other. elim (c.in_err-entry.ensures.value other) [
+      | inl unnamed ↦ no_key g.K.Ord.cmp is.order is.shown_key held.shown g.met.K.Key.same_order is.key_of held.describes all i x filled here
+          c.loop-index.invariant.0 unnamed
+      | inr nothing ↦ no_entry g.K.Ord.cmp is.order is.shown_key held.shown g.met.K.Key.same_order is.key_of held.describes all i x filled here
+          c.loop-index.invariant.0 nothing
+    ])
 
 -- where no member is left, all were read
 pub returns-clause-value : goal.returns-clause-value
