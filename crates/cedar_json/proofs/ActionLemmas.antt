@@ -2,7 +2,7 @@
 use Rattle.std.proofs.Common.{◌≡◌, [], Option, Some, None, option_and_then, option_map, ap, refl, sym, ◌∙◌}
 use Rattle.std.specs.BTreeMap.{insert_entry}
 use Rattle.json.specs.Find.{as_object}
-use Rattle.json.specs.Json.{Json, null, boolean, number, string, array, object, Members, no_members, member}
+use Rattle.json.specs.Json.{Json, boolean, number, string, array, object, Members, no_members, member}
 use Rattle.cedar_json.specs.Words.{Pairs, Tree, entries_in, entries_of, field_or, optional, pairs_in, pairs_of, text_cmp, unless_null, value_of}
 use Rattle.cedar_json.proofs.ValueLemmas.{pairs_of-member, pairs_of-none}
 

@@ -1,7 +1,11 @@
 -- Members that are read one after another into a map.
-use Rattle.std.proofs.Common.{◌≡◌, ℕ, ◌+◌, ◌≤◌, List, [], ◌∷◌, length, drop, drop_of_length-le, map, Option, Some, None, option_and_then, Bor, Global, refl, ap, sym, ◌∙◌}
+use Rattle.std.proofs.Common.{◌≡◌, ◌≢◌, ℕ, ◌+◌, ◌≤◌, ◌++◌, List, [], ◌∷◌, length, Bool, true, false, cond, drop, drop_of_length-le, map, Option, Some, None, option_and_then, Bor, Global, refl, ap, sym, ◌∙◌}
+use Rattle.std.proofs.lemmas.List.{drop-drop}
+use Rattle.std.proofs.lemmas.Slice.Eq.{bytes_eq-Decides}
 use Rattle.std.specs.BTreeMap.{insert_entry}
+use Rattle.std.specs.Str.{bytes_eq}
 use Rattle.std.specs.declared.cmp.Ordering.{Ordering}
+use Rattle.json.specs.Find.{get_member, later_or}
 use Rattle.json.specs.Json.{Json}
 use Rattle.json.specs.Value.{members_view, value_view}
 use Rattle.json.specs.declared.value.Value.{Value}
@@ -11,10 +15,67 @@ use Rattle.cedar_json.proofs.MapLemmas.{seen-insert}
 abbrev Held : Type 0
 Held = Bor Text × Value Global
 
+-- behind a member that is left are the others
+pub left_after : (all left after : List Held) (i j : ℕ) (x : Held) → drop i all ≡ left → left ≡ x ∷ after → j ≡ i + 1 → drop j all ≡ after
+left_after all left after i j x is first next =
+    ap (λ n. drop n all) next ∙ sym (drop-drop 1 i all) ∙ ap (drop 1) (is ∙ first)
+
+-- from a member that is left on stand the member and the others
+pub left_here : (all left after : List Held) (i : ℕ) (x : Held) → drop i all ≡ left → left ≡ x ∷ after → drop i all ≡ x ∷ drop (i + 1) all
+left_here all left after i x is first = is ∙ first ∙ ap (λ rest. x ∷ rest) (sym (left_after all left after i (i + 1) x is first refl))
+
+-- the last of the members that have a name
+pub get_member-push : (name : Text) (members : List Held) (x : Held)
+    → get_member name (members_view (members ++ x ∷ [])) ≡ cond (bytes_eq x.0.now name) (Some (value_view x.1)) (get_member name (members_view members))
+get_member-push name [] x = by (bytes_eq x.0.now name)
+  where
+    by : (b : Bool) → later_or None (cond b (Some (value_view x.1)) None) ≡ cond b (Some (value_view x.1)) None
+    by true = refl
+    by false = refl
+get_member-push name (m ∷ members) x =
+    ap (λ later. later_or later (cond (bytes_eq m.0.now name) (Some (value_view m.1)) None)) (get_member-push name members x)
+    ∙ by (bytes_eq x.0.now name)
+  where
+    earlier : Option Json
+    earlier = cond (bytes_eq m.0.now name) (Some (value_view m.1)) None
+
+    by : (b : Bool) → later_or (cond b (Some (value_view x.1)) (get_member name (members_view members))) earlier
+        ≡ cond b (Some (value_view x.1)) (later_or (get_member name (members_view members)) earlier)
+    by true = refl
+    by false = refl
+
+-- a member that has the name is the last of them
+pub pushed_same : (name : Text) (members : List Held) (x : Held) → x.0.now ≡ name
+    → get_member name (members_view (members ++ x ∷ [])) ≡ Some (value_view x.1)
+pushed_same name members x is =
+    get_member-push name members x
+    ∙ ap (λ b. cond b (Some (value_view x.1)) (get_member name (members_view members))) ((bytes_eq-Decides x.0.now name).1 is)
+
+-- one that has another name changes nothing
+pub pushed_other : (name : Text) (members : List Held) (x : Held) → x.0.now ≢ name
+    → get_member name (members_view (members ++ x ∷ [])) ≡ get_member name (members_view members)
+pushed_other name members x differs =
+    get_member-push name members x
+    ∙ ap (λ b. cond b (Some (value_view x.1)) (get_member name (members_view members))) (by (bytes_eq x.0.now name) refl)
+  where
+    by : (b : Bool) → bytes_eq x.0.now name ≡ b → bytes_eq x.0.now name ≡ false
+    by true same = absurd (differs ((bytes_eq-Decides x.0.now name).0 same))
+    by false same = same
+
+-- a text that is one of two that differ isn't the other
+pub other_name : (text one other : Text) → text ≡ one → bytes_eq one other ≡ false → text ≢ other
+other_name text one other is differ e = let same = (bytes_eq-Decides one other).1 (sym is ∙ e) in absurd (cc)
+
 module _ {K X L Y : Type 0} (R : K → K → Ordering) (S : L → L → Ordering) (shown_key : K → L) (shown : X → Y)
     (same_order : (a b : K) → R a b ≡ S (shown_key a) (shown_key b)) (key : Text → Option L) (describes : Json → Option Y) where
   abbrev plain : List (K × X) → List (L × Y)
   plain entries = map (λ entry. (shown_key entry.0, shown entry.1)) entries
+
+  -- where none is left, all were read
+  pub none_left : (all : List Held) (index : ℕ) (entries : List (K × X)) → drop index all ≡ []
+      → entries_of S key describes (members_view all) [] ≡ entries_of S key describes (members_view (drop index all)) (plain entries)
+      → entries_of S key describes (members_view all) [] ≡ Some (plain entries)
+  none_left all index entries end so_far = so_far ∙ ap (λ ys. entries_of S key describes (members_view ys) (plain entries)) end
 
   -- where no member is left, all were read
   pub all_entries : (xs all : List Held) (index : ℕ) (entries : List (K × X)) → xs ≡ all → length xs ≤ index

@@ -1,9 +1,9 @@
 -- Members and their keys, and that a field is smaller than its object.
-use Rattle.std.proofs.Common.{◌≡◌, ℕ, zero, suc, ◌<◌, List, [], ◌∷◌, ◌++◌, length, get_or, Bool, true, false, cond, ◌||◌, ◌&&◌, IsSomeAnd, Option, Some, None, option_and_then, Bor, refl, ap, sym, subst, ◌∙◌, arith}
+use Rattle.std.proofs.Common.{◌≡◌, ℕ, zero, suc, ◌<◌, List, [], ◌∷◌, ◌++◌, length, get_or, drop, Bool, true, false, cond, ◌||◌, ◌&&◌, IsSomeAnd, Option, Some, None, option_and_then, Bor, refl, ap, sym, subst, ◌∙◌, arith}
 use Rattle.std.proofs.lemmas.List.{length-append}
 use Rattle.std.specs.Str.{bytes_eq}
 use Rattle.std.specs.declared.alloc.Global.{Global}
-use Rattle.json.specs.Json.{Json, null, boolean, number, string, array, object, Members, no_members, member}
+use Rattle.json.specs.Json.{Json, object, Members, no_members, member}
 use Rattle.json.specs.Find.{get, get_member, later_or, as_object}
 use Rattle.json.specs.Tree.{json_tokens, members_tokens}
 use Rattle.json.specs.Value.{value_view, members_view}
@@ -32,6 +32,15 @@ pub nth_member-is : (xs all : List (Bor Text × Value Global)) (index : ℕ) (x 
 nth_member-is xs all index x same within is =
     ap (λ ys. nth_member index (members_view ys)) (sym same) ∙ nth_member-view xs index x within
     ∙ ap (λ (y : Bor Text × Value Global). Some (y.0.now, value_view y.1)) (sym is)
+
+-- the member at an index is the first of those that are left from there on
+pub nth_member-left : (all : List (Bor Text × Value Global)) (index : ℕ) (x : Bor Text × Value Global) (after : List (Bor Text × Value Global))
+    → drop index all ≡ x ∷ after → nth_member index (members_view all) ≡ Some (x.0.now, value_view x.1)
+nth_member-left [] zero x after e = absurd (cc)
+nth_member-left [] (suc index) x after e = absurd (cc)
+nth_member-left (first ∷ rest) zero x after e =
+    let same : first ≡ x = cc in ap (λ (m : Bor Text × Value Global). Some (m.0.now, value_view m.1)) same
+nth_member-left (first ∷ rest) (suc index) x after e = nth_member-left rest index x after e
 
 and_false : (a : Bool) → (a && false) ≡ false
 and_false true = refl

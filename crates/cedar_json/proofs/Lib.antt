@@ -2,6 +2,7 @@ pub mod ActionLemmas
 pub mod DefinitionLemmas
 pub mod ExtensionLemmas
 pub mod FieldLemmas
+pub mod FillingLemmas
 pub mod KeyLemmas
 pub mod ListLemmas
 pub mod MapLemmas

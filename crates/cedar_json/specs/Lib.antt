@@ -4,6 +4,7 @@ pub mod DefinitionFormat
 pub mod EntityFormat
 pub mod ExtensionRows
 pub mod Fields
+pub mod Filling
 pub mod Lists
 pub mod Nesting
 pub mod Place

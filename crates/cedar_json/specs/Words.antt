@@ -21,6 +21,7 @@ pub use Rattle.cedar_json.specs.DefinitionFormat.{WrittenDefinition, WrittenFrag
 pub use Rattle.cedar_json.specs.EntityFormat.{WrittenEntity, at_least_one, body_by, choices_in, empty_record, entity_by, entity_of, entity_reference, parents_in, references_in, shape_in, standard_by, standard_of, tags_in, written_entity, written_kind}
 pub use Rattle.cedar_json.specs.ExtensionRows.{AreKinds, AreNames, AreRows, IsKind, IsRow, SpellsName, inserted, kind_type, row_signature}
 pub use Rattle.cedar_json.specs.Fields.{IsOther, annotations_fit, are_annotations, flag_or, further_fields, has_only, is_among, is_text_or_null, keys_among, known_fields, nth_member, own_fields, text_held, texts_of, type_fields, type_word}
+pub use Rattle.cedar_json.specs.Filling.{IsAscending, all_put}
 pub use Rattle.cedar_json.specs.Lists.{all_of, field_or}
 pub use Rattle.cedar_json.specs.Place.{IsFault, IsTrueOf, member_at, step_into}
 pub use Rattle.cedar_json.specs.Repeats.{IsRepeatIn, IsRepeated}

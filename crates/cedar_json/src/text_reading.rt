@@ -4,13 +4,13 @@ ghost use Rattle.std.specs.Prelude.{◌≡◌, ◌≢◌, Some, IfErr, IfOk, IsS
 ghost use Rattle.json.specs.Json.{document};
 ghost use Rattle.json.specs.Strict.{HasUniqueKeys};
 ghost use Rattle.json.specs.Value.{value_view};
-ghost use Rattle.cedar_json.specs.Words.{Describes, IsFaultOf, WrittenFragment, fragment_of, written_fragment};
+ghost use Rattle.cedar_json.specs.Words.{Describes, IsFaultOf, IsTrueOf, WrittenFragment, fragment_of, written_fragment};
 
-use crate::described::Described;
-use crate::fault::{Fault, FaultKind};
+use crate::fault::{Fault, FaultKind, Step};
 use crate::place_table::Places;
 use crate::repeated_keys::{Repeat, check_keys};
 use crate::stop::stop_of;
+use crate::taken::Taken;
 use crate::value_place::{Place, faulty_key, place_at};
 use cedar_names::json_schema::{Fragment, RawName};
 use json::{Error, Scratch, Value};
@@ -90,31 +90,50 @@ fn twice_in_object(alloc: Global, text: &str, source: u32) -> JsonSchemaFault
     }
 }
 
+/// The refusal of a text whose value isn't as the format wants it, with the steps to what is wrong.
+///
+/// The value went while it was read, so it is parsed once more for its place.
+fn out_of_shape(
+    alloc: Global,
+    text: &str,
+    places: &Places,
+    steps: Vec<Step>,
+    fault: FaultKind,
+) -> JsonSchemaFault
+    requires { IsSomeAnd (document text.now) (λ j.
+        (fragment_of j ≡ None) × IsTrueOf (Fault.At steps fault) j) }
+    ensures { IsFaultOf text.now result }
+{
+    let mut scratch = Scratch::new(alloc);
+    let Ok(value) = Value::parse(alloc, text, &mut scratch) else {
+        return JsonSchemaFault::Memory;
+    };
+    match place_at(alloc, &value, places.cursor(), steps, faulty_key(fault)) {
+        Ok(at) => JsonSchemaFault::OutOfShape { at, fault },
+        Err(_) => JsonSchemaFault::Memory,
+    }
+}
+
 /// The fragment that the value of a text describes.
 fn fragment_in(
     alloc: Global,
     text: &str,
     source: u32,
-    value: &Value<'_>,
+    value: Value<'_>,
 ) -> Result<Fragment<RawName>, JsonSchemaFault>
-    requires { document text.now ≡ Some (value_view value.now) }
+    requires { document text.now ≡ Some (value_view value) }
     ensures fragment { IfOk result
-        (λ it. fragment_of (value_view value.now) ≡ Some (written_fragment it)) }
+        (λ it. fragment_of (value_view value.entry) ≡ Some (written_fragment it)) }
     ensures fault { IfErr result (IsFaultOf text.now) }
     ensures exact { IfErr result (λ fault. fault ≢ JsonSchemaFault.Memory
-        → fragment_of (value_view value.now) ≡ None) }
+        → fragment_of (value_view value.entry) ≡ None) }
 {
     let Ok(places) = Places::of(alloc, text, source) else {
         return Err(JsonSchemaFault::Memory);
     };
-    match Described::read(alloc, value, places.cursor()) {
+    match Taken::take(alloc, value, places.cursor()) {
         Ok(namespaces) => Ok(Fragment(namespaces)),
-        Err(Fault::At(steps, fault)) => {
-            match place_at(alloc, value, places.cursor(), steps, faulty_key(fault)) {
-                Ok(at) => Err(JsonSchemaFault::OutOfShape { at, fault }),
-                Err(_) => Err(JsonSchemaFault::Memory),
-            }
-        }
+        Err(Fault::At(steps, fault)) => Err(out_of_shape(alloc, text, &places, steps, fault)),
         Err(Fault::Memory) => Err(JsonSchemaFault::Memory),
     }
 }
@@ -140,7 +159,7 @@ pub fn fragment_from_json(
     }
     let mut scratch = Scratch::new(alloc);
     match Value::parse_strict(alloc, text, &mut scratch) {
-        Ok(value) => fragment_in(alloc, text, source, &value),
+        Ok(value) => fragment_in(alloc, text, source, value),
         Err(Error::Invalid) => Err(not_json(alloc, text)),
         Err(Error::DuplicateKey) => Err(twice_in_object(alloc, text, source)),
         Err(Error::OutOfMemory | Error::TooLong) => Err(JsonSchemaFault::Memory),

@@ -1,0 +1,81 @@
+use Rattle.std.proofs.Common.{inl, inr, ◌≡◌, ap, sym, ◌∙◌, rules, Bor, Global}
+use Rattle.std.proofs.lemmas.List.{nil_from_length}
+use Rattle.std.proofs.lemmas.Result.{err_from_is_err_and}
+use Rattle.std.specs.Iterator.Adapters.{enumerate_count, enumerate_source}
+use Rattle.std.specs.Vec.Iter.{into_iter_items}
+use Rattle.json.specs.Json.{object}
+use Rattle.json.specs.Value.{members_view}
+use Rattle.json.specs.declared.value.Value.{Value}
+use Rattle.cedar_json.proofs.DefinitionLemmas.{entry_more, left_after, left_here, no_entry, no_key, none_left}
+use Rattle.cedar_json.proofs.FieldLemmas.{nth_member-left}
+use Rattle.cedar_json.specs.Words.{Text, all_put, nth_member}
+use Rattle.cedar_json.proofs.taken.take_entries.Goals as goal
+
+abbrev Held : Type 0
+Held = Bor Text × Value Global
+
+-- the refused member is that at the index that the fault names
+pub returns-in_err-entry-clause-place : goal.returns-in_err-entry-clause-place
+returns-in_err-entry-clause-place g c =
+    let x : Held = c.in-Some.member in
+    let all = c.args.members.items in
+    let i = enumerate_count c.loop-index.index-iterator in
+    let steps = c.in-Some.ensures.steps in
+    let first = c.loop-index.invariant.1 ∙ steps.0.0 in
+    let here = ap (λ n. nth_member n (members_view all)) steps.1
+    ∙ nth_member-left all i x (into_iter_items (enumerate_source c.next.new.self)) first in
+    let p = err_from_is_err_and c.from_residual.result c.from_residual.ensures.1 in
+    rw (p.1, p.2) (c.in_err-entry.ensures.place (object (members_view all)) here)
+
+-- one more member is read and put under its key
+pub loop-index-preserved : goal.loop-index-preserved
+loop-index-preserved g c =
+    let is = g.K.Key in
+    let held = g.T.Taken in
+    let x : Held = c.in-Some.member in
+    let all = c.args.members.items in
+    let i = enumerate_count c.loop-index.index-iterator in
+    let left = into_iter_items (enumerate_source c.loop-index.index-iterator) in
+    let after = into_iter_items (enumerate_source c.next.new.self) in
+    let steps = c.in-Some.ensures.steps in
+    let here = left_here all left after i x c.loop-index.invariant.1 steps.0.0 in
+    let entry = c.in_ok-entry.entry in (
+      rw steps.2 (entry_more g.K.Ord.cmp is.order is.shown_key held.shown g.met.K.Key.same_order is.key_of held.describes all i x
+          (all_put g.K.Ord.cmp c.loop-index.all.map.entries c.loop-index.all.waiting.items) here c.loop-index.invariant.0 entry.0 entry.1
+          (all_put g.K.Ord.cmp c.put.new.self.map.entries c.put.new.self.waiting.items) c.in_ok-entry.ensures.value.0 c.in_ok-entry.ensures.value.1
+          (search rules)),
+      left_after all left after i (enumerate_count c.next.new.self) x c.loop-index.invariant.1 steps.0.0 steps.2,
+      search rules,
+    )
+
+-- where one member describes nothing, all together describe nothing
+pub returns-in_err-entry-clause-value : goal.returns-in_err-entry-clause-value
+returns-in_err-entry-clause-value g c =
+    let is = g.K.Key in
+    let held = g.T.Taken in
+    let x : Held = c.in-Some.member in
+    let all = c.args.members.items in
+    let i = enumerate_count c.loop-index.index-iterator in
+    let left = into_iter_items (enumerate_source c.loop-index.index-iterator) in
+    let after = into_iter_items (enumerate_source c.next.new.self) in
+    let filled = all_put g.K.Ord.cmp c.loop-index.all.map.entries c.loop-index.all.waiting.items in
+    let here = left_here all left after i x c.loop-index.invariant.1 c.in-Some.ensures.steps.0.0 in
+    let p = err_from_is_err_and c.from_residual.result c.from_residual.ensures.1 in
+    rw (p.1, p.2) (λ other. elim (c.in_err-entry.ensures.value other) [
+      | inl unnamed ↦ no_key g.K.Ord.cmp is.order is.shown_key held.shown g.met.K.Key.same_order is.key_of held.describes all i x filled here
+          c.loop-index.invariant.0 unnamed
+      | inr nothing ↦ no_entry g.K.Ord.cmp is.order is.shown_key held.shown g.met.K.Key.same_order is.key_of held.describes all i x filled here
+          c.loop-index.invariant.0 nothing
+    ])
+
+-- where no member is left, all were read
+pub returns-clause-value : goal.returns-clause-value
+returns-clause-value g c =
+    let is = g.K.Key in
+    let held = g.T.Taken in
+    let left = enumerate_source c.loop-index.index-iterator in
+    let filled = all_put g.K.Ord.cmp c.loop-index.all.map.entries c.loop-index.all.waiting.items in
+    let end = c.loop-index.invariant.1 ∙ nil_from_length (into_iter_items left) (sym left.rest.ok.0 ∙ c.in-None.ensures.steps.0.0) in
+    let made : c.in_ok-map.map.entries ≡ filled = c.in_ok-map.ensures in
+    rw made (none_left g.K.Ord.cmp is.order is.shown_key held.shown g.met.K.Key.same_order is.key_of held.describes c.args.members.items
+    (enumerate_count c.loop-index.index-iterator) filled end c.loop-index.invariant.0)
