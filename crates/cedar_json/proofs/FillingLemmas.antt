@@ -79,3 +79,6 @@ module _ {K V : Type 0} (R : K → K → Ordering) where
         by false other =
             let here : n - 1 ≡ i = omega (arith, ltb-false i (n - 1) other, all, within) in
             subst (λ k. R (get_or pairs k d).0 key ≡ Less) here (subst (λ (pair : K × V). R pair.0 key ≡ Less) (sym same) less)
+
+-- what a pair behind others does to those that wait
+pub ruleset pushed = (all_put_push, ascending_push)

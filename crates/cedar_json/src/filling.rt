@@ -94,7 +94,7 @@ impl<K: Ord + Drop, V: Drop> Filling<K, V> {
     }
 
     /// Has a pair wait that comes behind all that do. Where too many wait, the first of them is put.
-    #[tactic(auto, using(crate::proofs::FillingLemmas::all_put_push, crate::proofs::FillingLemmas::ascending_push))]
+    #[tactic(auto, using(crate::proofs::FillingLemmas::pushed))]
     fn wait(&mut self, key: K, value: V) -> M<()>
         requires ascending { IsAscending K.cmp self.old.waiting.items }
         requires behind { All (λ pair. K.cmp pair.0 key ≡ Less) self.old.waiting.items }
