@@ -6,7 +6,7 @@ use Rattle.cedar_below.specs.LeadingBytes.{name_leading}
 use Rattle.cedar_below.specs.PlainName.{PlainName}
 use Rattle.cedar_below.specs.PlainUid.{PlainUid}
 
--- the number that a name begins with tells the name whole: its base name is short, and it has no path
+-- the number that a name begins with tells the name whole: a short base name without a path
 abbrev pub tells_whole : ℕ → Bool
 tells_whole leading = nat_lt (leading % 256) 16 && nat_eq (leading % 2) 0
 
@@ -15,7 +15,8 @@ tells_whole leading = nat_lt (leading % 256) 16 && nat_eq (leading % 2) 0
 abbrev pub name_input : PlainName → HashWrites
 name_input name =
     let leading = name_leading name.base name.path in
-    fed.u64 leading ++ cond (tells_whole leading) [] (fed.str name.base ++ fed.slice fed.str name.path)
+    fed.u64 leading
+    ++ cond (tells_whole leading) [] (fed.str name.base ++ fed.slice fed.str name.path)
 
 -- what a uid writes: what its type does, and the bytes of its id
 abbrev pub uid_input : PlainUid → HashWrites

@@ -6,6 +6,7 @@
 //! [`RestrictedExpr`] and [`Value`] are values, [`Entity`] and [`Entities`] are entities, and
 //! [`Extensions`] has the extension types and functions that a schema may name. A call that may
 //! need memory answers [`M`]: a value, or out of memory. A [`Loc`] is a place in a source text.
+//! By [`QuickHash`] names and uids tell themselves to tables.
 //! [`theorems`] has laws of how names and uids compare.
 #![tactic(auto)]
 
