@@ -1,6 +1,6 @@
 //! The check that no declared name would shadow another.
 
-ghost use Rattle.std.specs.Prelude.{◌≡◌, ◌⊎◌, IfOk, IfErr, OnOk, MatchOption, map, Contains, string_bytes};
+ghost use Rattle.std.specs.Prelude.{◌≡◌, ◌⊎◌, IfOk, IfErr, IsTrue, OnOk, MatchOption, map, Contains, string_bytes};
 ghost use Rattle.std.specs.List.{AllByRecursion};
 ghost use Rattle.cedar_fragments.specs.Words.{IsPlainAction, IsShadowing, IsUnqualified, NoActionShadows, NoTypeShadows, PlainName, PlainUid, ShadowsType, fault_of, held_names, name_of, out_of_memory, type_names, uid_of};
 
@@ -50,6 +50,19 @@ impl AllDefs {
         Ok(())
     }
 
+    /// Whether the types of all actions are unqualified.
+    fn are_actions_unqualified(&self) -> bool
+        ensures { IsTrue result → (uid : PlainUid)
+            → Contains (held_names self.now).actions uid → IsUnqualified uid.ty }
+    {
+        for uid in &self.action_defs {
+            if !uid.entity_type().name().is_unqualified() {
+                return false;
+            }
+        }
+        true
+    }
+
     /// The actions whose types are unqualified, by id.
     fn plain_actions(&self) -> M<BTreeMap<String, EntityUID>>
         ensures each { IfOk result (λ plain.
@@ -75,6 +88,9 @@ impl AllDefs {
         ensures fault { IfErr result (λ error. (fault_of error ≡ out_of_memory)
             ⊎ IsShadowing (held_names self.now) (fault_of error)) }
     {
+        if self.are_actions_unqualified() {
+            return Ok(());
+        }
         let plain = self.plain_actions()?;
         for uid in &self.action_defs {
             if uid.entity_type().name().is_unqualified() {

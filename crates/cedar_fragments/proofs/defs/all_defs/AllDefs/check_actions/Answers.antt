@@ -4,6 +4,12 @@ use Rattle.cedar_fragments.specs.Words.{IsPlainAction, IsUnqualified, PlainUid, 
 use Rattle.cedar_fragments.proofs.ShadowLemmas.{ids_of, PassedSoFar-more, passed_all, passed_next, looked_up, not_looked_up, unqualified_is_not_shadowed, not_shadowed}
 use Rattle.cedar_fragments.proofs.defs.all_defs.AllDefs.check_actions.Goals as goal
 
+-- where all actions have unqualified types none is shadowed
+pub returns-then-are_actions_unqualified-clause-none : goal.returns-then-are_actions_unqualified-clause-none
+returns-then-are_actions_unqualified-clause-none c = λ plain qualified here there.
+    unqualified_is_not_shadowed (held_names c.args.self.now).actions qualified
+    (c.are_actions_unqualified.ensures c.if-are_actions_unqualified.true qualified there) plain here
+
 -- an action of an unqualified type is shadowed by none
 pub loop-uid-preserved-then-is_unqualified : goal.loop-uid-preserved-then-is_unqualified
 loop-uid-preserved-then-is_unqualified c =
