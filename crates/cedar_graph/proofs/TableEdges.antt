@@ -1,16 +1,17 @@
 -- The edges of a table's nodes against the places of their targets.
-use Rattle.std.proofs.Common.{◌≡◌, ◌⊎◌, ◌++◌, ℕ, zero, suc, ◌≤◌, ◌<◌, Bool, IsTrue, IfSome, List, [], ◌∷◌, None, Some, Vec, length, slice_get, get_or, Contains, option_map, refl, sym, ◌∙◌, ap, subst, true, arith, inl, inr}
+use Rattle.std.proofs.Common.{◌≡◌, ◌≢◌, ◌⊎◌, ◌+◌, ℕ, zero, suc, ◌≤◌, ◌<◌, Bool, IsTrue, IfSome, List, [], ◌∷◌, None, Some, Vec, length, slice_get, get_or, Contains, option_map, refl, sym, ◌∙◌, ap, subst, true, false, ltb, ltb-true, ltb-false, arith, inl, inr}
 use Rattle.std.specs.BTreeMap.{is_at}
 use Rattle.std.specs.Cmp.{IsEquivalence}
 use Rattle.std.specs.List.{IsDistinct}
 use Rattle.std.specs.Map.{keys_of, lookup, values_of}
 use Rattle.std.specs.Ordering.{is_eq}
 use Rattle.std.specs.declared.cmp.Ordering.{Ordering}
+use Rattle.std.proofs.Math.ListN.{set}
 use Rattle.std.proofs.lemmas.Bool.{both_ways, cases_Bool, cases_eq, cases_lt, cond-false, cond-true}
-use Rattle.std.proofs.lemmas.List.{length-append, length-map}
+use Rattle.std.proofs.lemmas.List.{length-map}
 use Rattle.std.proofs.lemmas.Map.Keys.{apart_from_distinct}
 use Rattle.std.proofs.lemmas.Option.{get_or_from_slice_get, none-some, same_Some, slice_get-get_or, slice_get-map, slice_get_cases, slice_get_within}
-use Rattle.cedar_graph.specs.Words.{AreInTurn, AreNumbersOf, Chain, GrowsBy, HasCycle, HasEntry, IsGrown, IsLack, IsNumbered, IsTarget, Lacks, ListHas, Memory, StandsAt, StandsIn, StepsTo, TableFault, items_at}
+use Rattle.cedar_graph.specs.Words.{AreNumbersOf, Chain, GrowsBy, HasCycle, HasEntry, IsGrown, IsLack, IsNumbered, IsTarget, Lacks, ListHas, Memory, StandsAt, StandsIn, StepsTo, TableFault, items_at}
 use Rattle.cedar_graph.proofs.Growing.{grows_weaker}
 use Rattle.cedar_graph.proofs.KeyedEdges.{nothing_in_nil, some_with}
 use Rattle.cedar_graph.proofs.Lists.{items_at-past}
@@ -197,40 +198,35 @@ lack_of_table laws has_edge entries i node there (Lacks key) lack =
     ((it.0.0, (it.0, it.1, laws.refl it.0.0, ap (λ v. has_edge v key) it.2 ∙ lack.0)), lack.1)
 lack_of_table laws has_edge entries i node there Memory lack = tt
 
--- the item after others stands at the place after theirs
-pub item_after : {A : Type 0} (before : List A) (item : A) (rest : List A) → slice_get (before ++ item ∷ rest) (length before) ≡ Some item
-item_after [] item rest = refl
-item_after (first ∷ before) item rest = item_after before item rest
+-- what is put at a place stands there
+item_put : {A : Type 0} (items : List A) (place : ℕ) (item : A) → place < length items → slice_get (set items place item) place ≡ Some item
+item_put [] place item within = absurd (omega (arith, within))
+item_put (first ∷ items) zero item within = refl
+item_put (first ∷ items) (suc place) item within = item_put items place item (omega (arith, within))
 
--- the items at a place of a list that has one more at its end
-place_cases : {A : Type 0} (items : List A) (last : A) (i : ℕ) (item : A) → slice_get (items ++ last ∷ []) i ≡ Some item
-    → (slice_get items i ≡ Some item) ⊎ ((i ≡ length items) × (item ≡ last))
-place_cases [] last zero item there = inr (refl, sym (same_Some last item there))
-place_cases [] last (suc i) item there = absurd (none-some item there)
-place_cases (first ∷ items) last zero item there = inl there
-place_cases (first ∷ items) last (suc i) item there =
-    elim (place_cases items last i item there) [ inl before ↦ inl before | inr end ↦ inr (ap suc end.0, end.1) ]
+-- and at other places stands what stood there
+pub item_kept : {A : Type 0} (items : List A) (place i : ℕ) (item : A) → i ≢ place → slice_get (set items place item) i ≡ slice_get items i
+item_kept [] place i item apart = refl
+item_kept (first ∷ items) zero zero item apart = absurd (apart refl)
+item_kept (first ∷ items) zero (suc i) item apart = refl
+item_kept (first ∷ items) (suc place) zero item apart = refl
+item_kept (first ∷ items) (suc place) (suc i) item apart = item_kept items place i item (λ same. apart (ap suc same))
 
--- no items are in turn
-pub none_in_turn : {A B : Type 0} (R : ℕ → A → B → Type 0) → AreInTurn R [] []
-none_in_turn R = record { len = refl; each = λ i x y there also. absurd (none-some x there) }
-
--- one more item at the end of each list
-pub more_in_turn : {A B : Type 0} (R : ℕ → A → B → Type 0) (xs : List A) (ys : List B) (x : A) (y : B) → AreInTurn R xs ys
-    → R (length xs) x y → AreInTurn R (xs ++ x ∷ []) (ys ++ y ∷ [])
-more_in_turn {A = A} {B = B} R xs ys x y are holds = record {
-  len = let one = are.len in omega (arith, one, length-append xs (x ∷ []), length-append ys (y ∷ []));
-  each = λ i a b there also. elim (place_cases xs x i a there) [
-    | inl before ↦ elim (place_cases ys y i b also) [
-      | inl earlier ↦ are.each i a b before earlier
-      | inr end ↦ let within = slice_get_within xs i a before in let one = are.len in absurd (omega (arith, within, one, end.0))
-    ]
-    | inr end ↦ elim (place_cases ys y i b also) [
-      | inl earlier ↦ let within = slice_get_within ys i b earlier in let one = are.len in absurd (omega (arith, within, one, end.0))
-      | inr last ↦ rw (sym end.0, sym end.1, sym last.1) at holds
-    ]
-  ];
-}
+-- items in turn up to a place, and one more that is put there
+pub one_more_in_turn : {A B : Type 0} (R : ℕ → A → B → Type 0) (xs : List A) (ys : List B) (place : ℕ) (y : B) → place < length ys
+    → ((i : ℕ) (a : A) (b : B) → i < place → slice_get xs i ≡ Some a → slice_get ys i ≡ Some b → R i a b)
+    → ((a : A) → slice_get xs place ≡ Some a → R place a y)
+    → (i : ℕ) (a : A) (b : B) → i < place + 1 → slice_get xs i ≡ Some a → slice_get (set ys place y) i ≡ Some b → R i a b
+one_more_in_turn R xs ys place y within before here i a b below was is = by (ltb i place) refl
+  where
+    by : (lower : Bool) → ltb i place ≡ lower → R i a b
+    by true lower =
+        let under = ltb-true i place lower in
+        before i a b under was (sym (item_kept ys place i y (λ same. omega (arith, under, same))) ∙ is)
+    by false other =
+        let same : place ≡ i = omega (arith, ltb-false i place other, below) in
+        let put : y ≡ b = same_Some y b (sym (item_put ys place y within) ∙ subst (λ k. slice_get (set ys place y) k ≡ Some b) (sym same) is) in
+        subst (λ k. R k a b) same (subst (λ it. R place a it) put (here a (subst (λ k. slice_get xs k ≡ Some a) (sym same) was)))
 
 module _ {K V : Type 0} (eq : K → K → Bool) (has_edge : V → K → Bool) (is_alike : V → V → Type 0) (names : List K)
     (list known added : List ℕ) (only : (number : ℕ) → Contains added number → Contains list number)

@@ -29,7 +29,6 @@ fn numbers_after<'a>(list: &'a [usize], known: &[usize]) -> &'a [usize]
 /// The nodes in their order, each with an edge to each key whose place stands in the list of its
 /// own place. It has those to keys whose places are known there.
 fn linked_nodes<K: Eq + Hash + Drop, V: TCNode<K> + Drop>(
-    alloc: Global,
     nodes: Vec<V>,
     keys: &Vec<K>,
     lists: &Vec<Vec<usize>>,
@@ -44,12 +43,13 @@ fn linked_nodes<K: Eq + Hash + Drop, V: TCNode<K> + Drop>(
     ensures { IfOk result (λ linked. AreInTurn (λ i. IsGrown V.has_edge V.is_alike
         (StandsIn K.eq keys.now.items (items_at lists.now.items i))) nodes.items linked.items) }
 {
-    let mut linked = Vec::with_capacity(alloc, nodes.len())?;
-    for node in nodes {
-        let place = linked.len();
-        let mut node = node;
-        add_edges(&mut node, numbers_after(&lists[place], &known[place]), keys)?;
-        linked.push(node)?;
+    let mut linked = nodes;
+    for place in 0..linked.len() {
+        add_edges(
+            &mut linked[place],
+            numbers_after(&lists[place], &known[place]),
+            keys,
+        )?;
     }
     Ok(linked)
 }
@@ -85,7 +85,7 @@ pub(crate) fn closed_table<K: Ord + Hash + QuickHash + Drop, V: TCNode<K> + Drop
             return Err(TableFault::HasCycle(V::copy_key(&keys.as_vec()[place])?));
         }
     }
-    let linked = linked_nodes(alloc, values, keys.as_vec(), &lists, known)?;
+    let linked = linked_nodes(values, keys.as_vec(), &lists, known)?;
     Ok(Table::from_parts(alloc, keys, linked)?)
 }
 

@@ -1,10 +1,11 @@
-use Rattle.std.proofs.Common.{◌≡◌, ◌++◌}
-use Rattle.cedar_graph.specs.Words.{AreInTurn, IsGrown, StandsIn, items_at}
+use Rattle.std.proofs.Common.{◌≡◌, ◌<◌, ◌≤◌, ℕ, Some, length, slice_get}
+use Rattle.cedar_graph.specs.Words.{IsGrown, StandsIn, items_at}
 use Rattle.cedar_graph.proofs.table_closing.linked_nodes.Given as goal
 
-abbrev pub invariant-loop-node : goal.invariant-loop-node
-invariant-loop-node g l = record {
-  linked : AreInTurn (λ i. IsGrown g.V.TCNode.has_edge g.V.TCNode.is_alike
-      (StandsIn g.K.PartialEq.eq l.keys.items (items_at l.lists.items i))) l.yielded l.linked.items;
-  rest : l.yielded ++ l.node-iterator.rest.items ≡ l.fn.nodes.items;
+abbrev pub invariant-loop-place : goal.invariant-loop-place
+invariant-loop-place g l = record {
+  len : length l.linked.items ≡ length l.fn.nodes.items;
+  before : (i : ℕ) (x y : g.row.V.Denot) → i < l.place → slice_get l.fn.nodes.items i ≡ Some x → slice_get l.linked.items i ≡ Some y
+      → IsGrown g.V.TCNode.has_edge g.V.TCNode.is_alike (StandsIn g.K.PartialEq.eq l.keys.items (items_at l.lists.items i)) x y;
+  after : (i : ℕ) → l.place ≤ i → slice_get l.linked.items i ≡ slice_get l.fn.nodes.items i;
 }
