@@ -5,7 +5,7 @@ use Rattle.std.specs.Bool.{Decides}
 use Rattle.std.specs.HashSet.{hash_set_eq}
 use Rattle.cedar_below.proofs.Names.{entity_type_eq-same}
 use Rattle.cedar_below.proofs.Uids.{entity_uid_eq-same}
-use Rattle.cedar_schema_elements.specs.Words.{ConditionalName, EntityType, SameActionKind, SameItems, ValidatorActionId, ValidatorActionKind, ValidatorApplySpec, action_of, conditional_reference, principal_names, principal_references, resource_names, resource_references, type_name, uid_of}
+use Rattle.cedar_schema_elements.specs.Words.{ActionKind, ConditionalName, EntityType, SameActionKind, SameItems, ValidatorActionId, ValidatorActionKind, ValidatorApplySpec, action_of, conditional_reference, defined_action, external_action, principal_names, principal_references, resource_names, resource_references, type_name, uid_of}
 use Rattle.cedar_below.specs.contracts.entity_type.EntityTypeEq.TheImpl as entity_type_equal
 use Rattle.cedar_below.specs.contracts.entity_type.EntityTypePartialEq.TheImpl as entity_type_eq
 use Rattle.cedar_below.specs.contracts.entity_uid.EntityUIDEq.TheImpl as uid_equal
@@ -15,6 +15,7 @@ use Rattle.cedar_names.specs.contracts.json_schema.conditional_name.ConditionalN
 use Rattle.cedar_types.proofs.EqualityLaws.{none, types-Decides}
 use Rattle.cedar_schema_elements.proofs.SetLemmas.{reference-Decides, sets-Decides}
 use Rattle.cedar_schema_elements.specs.ActionKind.{plain_kind}
+use Rattle.cedar_schema_elements.specs.ValidatorActionId.{parts_of}
 use Rattle.cedar_schema_elements.specs.contracts.action_id.ValidatorActionIdPartialEq.TheImpl as action_eq
 use Rattle.cedar_schema_elements.specs.contracts.action_kind.ValidatorActionKindPartialEq.TheImpl as kind_eq
 use Rattle.cedar_schema_elements.specs.declared.action_kind.ValidatorActionKind.TheVariants as variant
@@ -37,6 +38,11 @@ reference_specs-Decides a b =
     let same = sets-Decides (reference_eq.ghosts).eq conditional_reference reference_equal.Laws.laws-law reference-Decides in
     Decides-and _ _ (same a.principals b.principals) (same a.resources b.resources)
 
+-- each kind is for the same requests as itself
+pub same_kind : (kind : ActionKind) → SameActionKind kind kind
+same_kind (defined_action principals resources context) = (λ it. (λ is. is, λ is. is), λ it. (λ is. is, λ is. is), refl)
+same_kind external_action = tt
+
 -- kinds of actions are equal exactly where they are for the same requests
 pub kinds-Decides : (a b : ValidatorActionKind)
     → Decides ((kind_eq.ghosts).eq a b) (SameActionKind (plain_kind a) (plain_kind b))
@@ -53,5 +59,5 @@ pub actions-Same : (a b : ValidatorActionId) → Decides ((action_eq.ghosts).eq 
     × SameItems (action_of a).descendants (action_of b).descendants)
 actions-Same a b =
     Decides-like _ (λ all. (all.0, all.1.0, all.1.1)) (λ all. (all.0, (all.1, all.2)))
-    (Decides-and _ _ (entity_uid_eq-same a.name b.name) (Decides-and _ _ (kinds-Decides a.kind b.kind)
-    (sets-Decides (uid_eq.ghosts).eq uid_of uid_equal.Laws.laws-law entity_uid_eq-same a.descendants b.descendants)))
+    (Decides-and _ _ (entity_uid_eq-same (parts_of a).name (parts_of b).name) (Decides-and _ _ (kinds-Decides (parts_of a).kind (parts_of b).kind)
+    (sets-Decides (uid_eq.ghosts).eq uid_of uid_equal.Laws.laws-law entity_uid_eq-same (parts_of a).descendants (parts_of b).descendants)))

@@ -1,5 +1,6 @@
 use Rattle.std.specs.Prelude.{◌≡◌, List, Option, None, Some, Contains, map}
 use Rattle.cedar_schema_elements.specs.ActionKind.{plain_kind}
+use Rattle.cedar_schema_elements.specs.declared.action_id.ActionParts.{ActionParts}
 use Rattle.cedar_schema_elements.specs.declared.action_id.ValidatorActionId.{ValidatorActionId}
 use Rattle.cedar_schema_elements.specs.declared.action_kind.ValidatorActionKind.{ValidatorActionKind}
 use Rattle.cedar_schema_elements.specs.declared.action_kind.ValidatorActionKind.TheVariants as variant
@@ -9,25 +10,29 @@ use Rattle.cedar_below.specs.declared.loc.Loc.{Loc}
 use Rattle.cedar_declarations.specs.PlainSchema.{SchemaAction}
 use Rattle.cedar_types.specs.declared.types.Type.{«Type»}
 
+-- the parts of an action
+abbrev pub parts_of : ValidatorActionId → ActionParts
+parts_of it = it.parts.value
+
 -- an action as plain data, but for its location
 abbrev pub action_of : ValidatorActionId → SchemaAction
 action_of it = record {
-  uid = uid_of it.name;
-  kind = plain_kind it.kind;
-  descendants = map uid_of it.descendants.keys;
+  uid = uid_of (parts_of it).name;
+  kind = plain_kind (parts_of it).kind;
+  descendants = map uid_of (parts_of it).descendants.keys;
 }
 
 -- where the action was declared
 abbrev pub action_loc : ValidatorActionId → Option Loc
-action_loc it = it.loc
+action_loc it = (parts_of it).loc
 
 -- where the uid of the action was written
 abbrev pub name_loc : ValidatorActionId → Option Loc
-name_loc it = uid_loc it.name
+name_loc it = uid_loc (parts_of it).name
 
 -- where the type in the uid of the action was written
 abbrev pub name_type_loc : ValidatorActionId → Option Loc
-name_type_loc it = uid_type_loc it.name
+name_type_loc it = uid_type_loc (parts_of it).name
 
 -- the type of the context of a kind
 abbrev pub borrowed_context : ValidatorActionKind → Option «Type»
@@ -36,7 +41,7 @@ borrowed_context variant.External = None
 
 -- the type of the context that the action lends: that of a defined one, else none
 abbrev pub context_of : ValidatorActionId → Option «Type»
-context_of it = borrowed_context it.kind
+context_of it = borrowed_context (parts_of it).kind
 
 -- an action of a schema under its uid, as plain data
 abbrev pub plain_action_entry : EntityUID × ValidatorActionId → PlainUid × SchemaAction

@@ -16,8 +16,17 @@ use std::rc::Rc;
 /// An action of a schema: it is for some requests, or it is external.
 ///
 /// Equality ignores the location.
-#[derive_where(Debug, PartialEq, Eq)]
+#[derive(Debug, PartialEq, Eq)]
 pub struct ValidatorActionId {
+    // Behind a pointer, so that maps and tables of actions are short, and move no more than that.
+    pub(crate) parts: Box<ActionParts>,
+}
+
+/// The parts of an action.
+///
+/// Equality ignores the location.
+#[derive_where(Debug, PartialEq, Eq)]
+pub(crate) struct ActionParts {
     pub(crate) name: EntityUID,
     pub(crate) kind: ValidatorActionKind,
     pub(crate) descendants: HashSet<EntityUID>,
@@ -32,7 +41,14 @@ pub struct ValidatorActionId {
 // Written out: proofs of what holds actions then see one call, and nothing of their parts.
 impl Drop for ValidatorActionId {
     fn drop(self) {
-        let ValidatorActionId {
+        let ValidatorActionId { parts: _parts } = self;
+    }
+}
+
+// Written out, as that of the action.
+impl Drop for ActionParts {
+    fn drop(self) {
+        let ActionParts {
             name: _name,
             kind: _kind,
             descendants: _descendants,
@@ -68,12 +84,15 @@ impl ValidatorActionId {
             (λ xs. SameItems (action_of action).descendants (map uid_of xs))) }
         ensures loc { IfOk result (λ action. action_loc action ≡ loc) }
     {
-        Ok(ValidatorActionId {
+        let parts = ActionParts {
             name,
             kind,
             descendants: uid_set(alloc, descendants)?,
             loc,
             no_types: HashSet::new(alloc),
+        };
+        Ok(ValidatorActionId {
+            parts: Box::new(alloc, parts)?,
         })
     }
 
@@ -153,14 +172,14 @@ impl ValidatorActionId {
         ensures loc { uid_loc result.now ≡ name_loc self.now }
         ensures type_loc { uid_type_loc result.now ≡ name_type_loc self.now }
     {
-        &self.name
+        &self.parts.name
     }
 
     /// Where the action was declared, if that is known.
     pub fn loc(&self) -> Option<Loc>
         ensures { result ≡ action_loc self.now }
     {
-        self.loc
+        self.parts.loc
     }
 
     /// The uids of the descendants of the action in the hierarchy, each once.
@@ -168,14 +187,14 @@ impl ValidatorActionId {
         ensures uids { map uid_of result ≡ (action_of self.now).descendants }
         ensures once { AllPairs (λ a b. a ≢ b) (action_of self.now).descendants }
     {
-        self.descendants.iter()
+        self.parts.descendants.iter()
     }
 
     /// Whether the action is declared elsewhere.
     pub fn is_external(&self) -> bool
         ensures { IsTrue result ↔ ((action_of self.now).kind ≡ external_action) }
     {
-        matches!(self.kind, ValidatorActionKind::External)
+        matches!(self.parts.kind, ValidatorActionKind::External)
     }
 
     /// The type of the context of the action's requests. External actions have none.
@@ -184,7 +203,7 @@ impl ValidatorActionId {
             ≡ kind_context (action_of self.now).kind }
         ensures borrowed { option_copied result ≡ context_of self.now }
     {
-        match &self.kind {
+        match &self.parts.kind {
             ValidatorActionKind::Defined { context, .. } => Some(context),
             ValidatorActionKind::External => None,
         }
@@ -204,11 +223,11 @@ impl ValidatorActionId {
         ensures names { map type_name result ≡ kind_principals (action_of self.now).kind }
         ensures once { AllPairs (λ a b. a ≢ b) (kind_principals (action_of self.now).kind) }
     {
-        match &self.kind {
+        match &self.parts.kind {
             ValidatorActionKind::Defined { applies_to, .. } => {
                 applies_to.applicable_principal_types()
             }
-            ValidatorActionKind::External => self.no_types.iter(),
+            ValidatorActionKind::External => self.parts.no_types.iter(),
         }
     }
 
@@ -217,11 +236,11 @@ impl ValidatorActionId {
         ensures names { map type_name result ≡ kind_resources (action_of self.now).kind }
         ensures once { AllPairs (λ a b. a ≢ b) (kind_resources (action_of self.now).kind) }
     {
-        match &self.kind {
+        match &self.parts.kind {
             ValidatorActionKind::Defined { applies_to, .. } => {
                 applies_to.applicable_resource_types()
             }
-            ValidatorActionKind::External => self.no_types.iter(),
+            ValidatorActionKind::External => self.parts.no_types.iter(),
         }
     }
 
@@ -246,7 +265,7 @@ impl ValidatorActionId {
         ensures { IsTrue result ↔ Contains (kind_principals (action_of self.now).kind)
             (type_name ty.now) }
     {
-        match &self.kind {
+        match &self.parts.kind {
             ValidatorActionKind::Defined { applies_to, .. } => {
                 applies_to.is_applicable_principal_type(ty)
             }
@@ -259,7 +278,7 @@ impl ValidatorActionId {
         ensures { IsTrue result ↔ Contains (kind_resources (action_of self.now).kind)
             (type_name ty.now) }
     {
-        match &self.kind {
+        match &self.parts.kind {
             ValidatorActionKind::Defined { applies_to, .. } => {
                 applies_to.is_applicable_resource_type(ty)
             }
@@ -280,12 +299,15 @@ impl ValidatorActionId {
             SameItems (action_of copy).descendants (action_of self.now).descendants) }
         ensures loc { IfOk result (λ copy. action_loc copy ≡ action_loc self.now) }
     {
+        let parts = ActionParts {
+            name: self.parts.name.clone()?,
+            kind: self.parts.kind.clone()?,
+            descendants: copied(&self.parts.descendants, EntityUID::clone)?,
+            loc: self.parts.loc,
+            no_types: HashSet::emptied(&self.parts.no_types)?,
+        };
         Ok(ValidatorActionId {
-            name: self.name.clone()?,
-            kind: self.kind.clone()?,
-            descendants: copied(&self.descendants, EntityUID::clone)?,
-            loc: self.loc,
-            no_types: HashSet::emptied(&self.no_types)?,
+            parts: Box::new(*Box::allocator(&self.parts), parts)?,
         })
     }
 }

@@ -7,7 +7,7 @@ ghost use Rattle.cedar_below.proofs.Lists.{Contains-preimage, list_any-Contains}
 ghost use Rattle.cedar_below.proofs.PlainNames.{uid_cmp-total};
 ghost use Rattle.cedar_below.proofs.Uids.{entity_uid_eq-same, entity_uid_ord-Equal, entity_uid_ord-uid_cmp, entity_uid_searches-respect_eq};
 ghost use Rattle.cedar_schema_elements.specs.ActionKind.{plain_kind};
-ghost use Rattle.cedar_schema_elements.specs.ValidatorActionId.{IsLocatedAsKey};
+ghost use Rattle.cedar_schema_elements.specs.ValidatorActionId.{IsLocatedAsKey, parts_of};
 
 use crate::action_id::ValidatorActionId;
 use crate::schema_node::SchemaNode;
@@ -17,11 +17,13 @@ use cedar_graph::TCNode;
 use std::collections::hash_set;
 
 impl TCNode<EntityUID> for ValidatorActionId {
-    ghost has_edge = { λ node. contains ⟦<EntityUID as PartialEq>⟧.eq node.descendants };
+    ghost has_edge = { λ node.
+        contains ⟦<EntityUID as PartialEq>⟧.eq (parts_of node).descendants };
 
-    ghost own_key = { λ node. node.name };
+    ghost own_key = { λ node. (parts_of node).name };
 
-    ghost is_alike = { λ a b. (a.name ≡ b.name) × (a.kind ≡ b.kind) × (a.loc ≡ b.loc) };
+    ghost is_alike = { λ a b. ((parts_of a).name ≡ (parts_of b).name)
+        × ((parts_of a).kind ≡ (parts_of b).kind) × ((parts_of a).loc ≡ (parts_of b).loc) };
 
     // Shared, so that each further copy costs a count.
     fn copy_key(key: &EntityUID) -> M<EntityUID> {
@@ -29,26 +31,26 @@ impl TCNode<EntityUID> for ValidatorActionId {
     }
 
     fn get_key(&self) -> &EntityUID {
-        &self.name
+        &self.parts.name
     }
 
     fn add_edge_to(&mut self, key: EntityUID) -> M<()> {
-        self.descendants.insert(key)?;
+        self.parts.descendants.insert(key)?;
         Ok(())
     }
 
     fn out_edges(&self) -> hash_set::Iter<'_, EntityUID> {
-        self.descendants.iter()
+        self.parts.descendants.iter()
     }
 
     fn has_edge_to(&self, key: &EntityUID) -> bool {
-        self.descendants.contains(key)
+        self.parts.descendants.contains(key)
     }
 
     fn reset_edges(&mut self) {}
 
     ghost edges_respect_eq = { λ node a b same.
-        entity_uid_searches-respect_eq node.descendants.keys a b same };
+        entity_uid_searches-respect_eq (parts_of node).descendants.keys a b same };
 
     ghost alike_itself = { λ node. (refl, refl, refl) };
 
@@ -102,7 +104,7 @@ impl SchemaNode<EntityUID> for ValidatorActionId {
     ghost key_order = { entity_uid_ord-uid_cmp };
 
     ghost below_key = { λ node name among.
-        let key = Contains-preimage uid_of node.descendants.keys name among in (key.0, key.2) };
+        let key = Contains-preimage uid_of (parts_of node).descendants.keys name among in (key.0, key.2) };
 
     ghost edge_below = { λ node key. list_any-Contains uid_of (uid_of key) _
         (λ each. (
@@ -110,7 +112,7 @@ impl SchemaNode<EntityUID> for ValidatorActionId {
           λ same.
               (entity_uid_eq-same key each).1 (sym same),
         ))
-        node.descendants.keys };
+        (parts_of node).descendants.keys };
 
     ghost alike_named = { λ a b alike. ap uid_of alike.0 };
 
