@@ -6,6 +6,7 @@ use Rattle.std.proofs.lemmas.Simd.{map-map}
 use Rattle.cedar_table.specs.Entries.{Entries as TableEntries}
 use Rattle.std.specs.List.{flat_map}
 use Rattle.cedar_schema_elements.proofs.SetLemmas.{list_any-uids}
+use Rattle.cedar_schema_elements.specs.ValidatorActionId.{parts_of}
 use Rattle.cedar_builder.specs.Words.{ActionBody, ActionFragment, ActionKind, ActionRequests, ActionSays, ActionsAreSound, AreActionsOf, AreNamed, AreReady, AreSoundRequests, Bag, CountsInRequests, Covers, Entity, EntityType, EntityUID, Expr, Extensions, Fault, InternalName, IsActionType, IsAtEntityTypePosition, IsCollected, IsCollectedAt, IsCollectingFault, IsCounted, IsDeclaredAction, IsDeclaredActionKind, IsDefined, IsDescendantAction, IsElaboratedAction, IsElaboratedKind, IsFault, IsNameFault, IsNamedBy, IsPrincipalOrResource, IsRequestsFault, PlainName, PlainUid, Reference, Requests, ResolvesTo, SameAction, SaysTogether, Twice, TypeScope, ValidatorActionId, ValidatorEntityType, action_definition_in, action_of, action_uids, context_not_record, declared_actions, declared_entities, defined_action, defined_actions, defined_in, defined_names, definition_in, definitions, duplicate_action, elsewhere, extensions_in_scope, external_action, fragment_requests, is_action_definition, name_of, names_in, names_of, out_of_memory, plain_action_entry, reference_to_one, requests, requests_in, resolved_reference, uid_of}
 use Rattle.cedar_below.proofs.Lists.{Contains-preimage}
 use Rattle.cedar_below.specs.contracts.entity_uid.EntityUIDPartialEq.TheImpl as uid_eq
@@ -271,7 +272,7 @@ module _ (bag : Bag) (extensions : Extensions) (declared : List (EntityUID × Ac
     -- the nodes and the edges are ready to be linked
     pub ready_to_link : AreReady (uid_eq.ghosts).eq has_descendant edges before
     ready_to_link = record {
-      apart = collected_apart (uid_eq.ghosts).eq uid_of has_descendant (λ it. it.descendants.keys) (λ it key. list_any-uids key it.descendants.keys)
+      apart = collected_apart (uid_eq.ghosts).eq uid_of has_descendant (λ it. (parts_of it).descendants.keys) (λ it key. list_any-uids key (parts_of it).descendants.keys)
           is_action_definition IsExternal uid_in (GivesAction scope) (λ body it given. given.no_descendants) Entries before collected;
       uppers = λ upper lower above.
           stands upper (edge_declared bag extensions declared types scope ready edges are upper lower above);
@@ -299,8 +300,8 @@ module _ (bag : Bag) (extensions : Extensions) (declared : List (EntityUID × Ac
             says = said_in_bag (uid_of key) is.body is.says;
             uid = sym old.2.0 ∙ is.name;
             kind = rw old.2.1 at (said_kind (uid_of key) is.body (action_of old.0).kind is.says is.given.kind);
-            descendants = descendants (uid_eq.ghosts).eq uid_of has_descendant (λ each. each.descendants.keys)
-                (λ each other. list_any-uids other each.descendants.keys) edges (IsDescendantAction bag)
+            descendants = descendants (uid_eq.ghosts).eq uid_of has_descendant (λ each. (parts_of each).descendants.keys)
+                (λ each other. list_any-uids other (parts_of each).descendants.keys) edges (IsDescendantAction bag)
                 (λ upper lower. chain_descends bag extensions declared types scope ready edges are)
                 (λ lower upper. descends_by_chain bag extensions declared types scope ready edges are) after linked.linked key it found;
           }

@@ -1,9 +1,10 @@
 -- What stands in a map once a node is put under its name.
-use Rattle.std.proofs.Common.{◌≡◌, ◌↔◌, Bool, IsTrue, cond, Option, None, Some, List, BTreeMap, sym, subst, ◌∙◌, refl, inl, inr}
+use Rattle.std.proofs.Common.{◌≡◌, ◌↔◌, Bool, true, false, IsTrue, cond, Option, None, Some, List, [], ◌∷◌, BTreeMap, ap, sym, subst, ◌∙◌, refl, inl, inr}
 use Rattle.std.proofs.lemmas.Bool.{cond-true, cond-false, false_from_ne_true}
+use Rattle.std.proofs.lemmas.Option.{none-some}
 use Rattle.std.specs.Cmp.{IsEquivalence}
 use Rattle.std.specs.BTreeMap.{get, insert_entry}
-use Rattle.std.specs.Map.{remove_entry}
+use Rattle.std.specs.Map.{lookup, remove_entry}
 use Rattle.std.specs.declared.cmp.Ordering.{Ordering}
 use Rattle.cedar_graph.proofs.MovingLemmas.{put_again, replaced_in_order}
 use Rattle.cedar_builder.proofs.AtKeys.{at_equal_keys}
@@ -49,6 +50,24 @@ module _ {K Name Node : Type 0} {eq : K → K → Bool} (laws : IsEquivalence eq
     pub at_its_own : (key : K) → key_name key ≡ node_name it → at_key eq after key ≡ Some it
     at_its_own key same =
         updated key ∙ cond-true (eq name key) (Some it) (at_key eq before key) ((same_key name key).1 (named ∙ sym same))
+
+-- nothing stands at the keys that are equal to one at which nothing stands
+pub nothing_taken : {K Node : Type 0} {eq : K → K → Bool} (laws : IsEquivalence eq) (before : List (K × Node)) (name : K)
+    → at_key eq before name ≡ None → (key : K) → at_key eq before key ≡ cond (eq name key) None (at_key eq before key)
+nothing_taken {eq = eq} laws before name none key = by (eq name key) refl
+  where
+    by : (b : Bool) → eq name key ≡ b → at_key eq before key ≡ cond (eq name key) None (at_key eq before key)
+    by true is = rw is (sym (at_equal_keys laws before name key is) ∙ none)
+    by false is = rw is refl
+
+-- where no key passes, no entry is taken out
+pub nothing_to_take : {K X : Type 0} (test : K → Bool) (es : List (K × X)) → lookup test es ≡ None → remove_entry test es ≡ es
+nothing_to_take test [] none = refl
+nothing_to_take test (e ∷ es) none = by (test e.0) refl (nothing_to_take test es)
+  where
+    by : (b : Bool) → test e.0 ≡ b → (lookup test es ≡ None → remove_entry test es ≡ es) → remove_entry test (e ∷ es) ≡ e ∷ es
+    by true is later = absurd (none-some e.1 (sym none ∙ cond-true (test e.0) (Some e.1) (lookup test es) is))
+    by false is later = rw is (ap (λ rest. e ∷ rest) (later (sym (cond-false (test e.0) (Some e.1) (lookup test es) is) ∙ none)))
 
 -- what stands under a name and isn't external is defined
 pub defined_at : {Node : Type 0} (IsExternal : Node → Type 0) (o : Option Node) (old : Node) → o ≡ Some old → ¬ IsExternal old

@@ -1,7 +1,7 @@
 -- What the private steps promise of actions as nodes of a graph, which stand under their uids.
 use Rattle.std.specs.Prelude.{◌≡◌, ◌⊎◌, ◌↔◌, Bool, List, [], Option}
 use Rattle.std.specs.HashSet.{contains}
-use Rattle.cedar_schema_elements.specs.ValidatorActionId.{action_of}
+use Rattle.cedar_schema_elements.specs.ValidatorActionId.{action_of, parts_of}
 use Rattle.cedar_schema_elements.specs.declared.action_id.ValidatorActionId.{ValidatorActionId}
 use Rattle.cedar_below.specs.Words.{Chain, PlainUid, uid_of}
 use Rattle.cedar_below.specs.contracts.entity_uid.EntityUIDPartialEq.TheImpl as uid_eq
@@ -22,7 +22,7 @@ pub record IsElaboratedAction (scope : TypeScope) (stated : PlainUid) (applies_t
 
 -- whether the one action is among the descendants of the other
 abbrev pub has_descendant : ValidatorActionId → EntityUID → Bool
-has_descendant it lower = contains (uid_eq.ghosts).eq it.descendants lower
+has_descendant it lower = contains (uid_eq.ghosts).eq (parts_of it).descendants lower
 
 -- what stands at a key among entries
 abbrev pub node_at : List (EntityUID × ValidatorActionId) → EntityUID → Option ValidatorActionId

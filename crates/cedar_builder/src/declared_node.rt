@@ -64,17 +64,17 @@ fn put_node<K: Ord + Hash + Drop, V: SchemaNode<K> + Drop>(
         × ((key : K) × (V.key_name key ≡ V.node_name node)
         × IsDefinedAt V.IsExternal (at_key K.eq nodes.old.entries key)))) }
 {
-    if let Some(old) = nodes.get(node.name()) {
+    let name = V::copy_name(node.name())?;
+    if let Some(old) = nodes.get(&name) {
         if node.is_external() {
             return Ok(());
         }
         if !old.is_external() {
-            return Err(V::duplicate(V::copy_name(node.name())?));
+            return Err(V::duplicate(name));
         }
+        // A map keeps the key that it has, so that of an external declaration goes first.
+        let _external = nodes.remove(&name);
     }
-    let name = V::copy_name(node.name())?;
-    // A map keeps the key that it has, so that of an external declaration goes first.
-    let _external = nodes.remove(&name);
     nodes.insert(name, node)?;
     Ok(())
 }

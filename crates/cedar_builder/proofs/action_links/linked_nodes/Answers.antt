@@ -2,12 +2,14 @@ use Rattle.std.proofs.Common.{◌≡◌, refl, inr, ap}
 use Rattle.cedar_builder.specs.Words.{SameAction, ValidatorActionId, uid_of}
 use Rattle.cedar_graph.proofs.Growing.{alike_weaker}
 use Rattle.cedar_schema_elements.specs.ActionKind.{plain_kind}
+use Rattle.cedar_schema_elements.specs.ValidatorActionId.{parts_of}
 use Rattle.cedar_builder.specs.ActionNodes.{node_at}
 use Rattle.cedar_builder.proofs.action_links.linked_nodes.Goals as goal
 
 pub returns-in-Ok-clause-linked : goal.returns-in-Ok-clause-linked
 returns-in-Ok-clause-linked c = λ ready.
-    let Alike : ValidatorActionId → ValidatorActionId → Type 0 = λ a b. (a.name ≡ b.name) × (a.kind ≡ b.kind) × (a.loc ≡ b.loc) in
+    let Alike : ValidatorActionId → ValidatorActionId → Type 0 = λ a b.
+    ((parts_of a).name ≡ (parts_of b).name) × ((parts_of a).kind ≡ (parts_of b).kind) × ((parts_of a).loc ≡ (parts_of b).loc) in
     let same : (a b : ValidatorActionId) → Alike a b → SameAction a b = λ a b alike. (ap uid_of alike.0, ap plain_kind alike.1) in
     let before = c.args.nodes.entries in
     let after = c.in-Ok.linked.entries in
