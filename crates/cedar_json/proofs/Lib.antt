@@ -8,5 +8,6 @@ pub mod ListLemmas
 pub mod MapLemmas
 pub mod NameLemmas
 pub mod NumberLemmas
+pub mod TakenLemmas
 pub mod TypeLemmas
 pub mod ValueLemmas
