@@ -4,7 +4,7 @@ ghost use Rattle.std.specs.Prelude.{◌≡◌, ◌≢◌, Some, None, false, Mat
 ghost use Rattle.std.specs.Str.{bytes_eq};
 ghost use Rattle.json.specs.Find.{get};
 ghost use Rattle.json.specs.Value.{value_view};
-ghost use Rattle.cedar_json.specs.Words.{IsTrueOf, Requests, Text, Tree, WrittenAction, WrittenParent, action_by, action_of, flag_or, optional, pairs_in, parent_of, parents_of, requests_of, tree_of, value_expr, value_of, written_action, written_pairs, written_parent, written_requests};
+ghost use Rattle.cedar_json.specs.Words.{IsTrueOf, Requests, Text, Tree, WrittenAction, WrittenParent, action_of, optional, pairs_in, parent_of, requests_of, tree_of, value_expr, value_of, written_action, written_pairs, written_parent, written_requests};
 
 use crate::annotations::check_annotations;
 use crate::described::{Described, described_field, optional_field};
@@ -77,8 +77,12 @@ impl Taken for CedarValue {
     ghost shown = { λ it. tree_of (value_expr it) };
 
     /// The value of an attribute that a JSON value describes.
-    fn take(alloc: Global, value: Value<'_>, _cursor: Cursor<'_>) -> Result<CedarValue, Fault> {
-        let expr = read_expr(alloc, &value)?;
+    fn take(
+        alloc: Global,
+        value: &mut Value<'_>,
+        _cursor: Cursor<'_>,
+    ) -> Result<CedarValue, Fault> {
+        let expr = read_expr(alloc, value)?;
         Ok(CedarValue::new(expr))
     }
 }
@@ -101,39 +105,6 @@ fn attributes_field(
     taken_unless_null(alloc, value, "attributes", cursor)
 }
 
-/// The declaration of an action, whose fields and annotations were checked, that a value describes.
-fn take_checked(
-    alloc: Global,
-    mut value: Value<'_>,
-    cursor: Cursor<'_>,
-) -> Result<ActionType<RawName>, Fault>
-    ensures value { MatchResult result
-        (λ it. action_by (optional pairs_in (get (codes "attributes") (value_view value.entry)))
-        (optional requests_of (get (codes "appliesTo") (value_view value.entry)))
-        (optional parents_of (get (codes "memberOf") (value_view value.entry)))
-        (flag_or false (get (codes "external") (value_view value.entry)))
-        ≡ Some (written_action it))
-        (λ fault. fault ≢ Fault.Memory
-        → action_by (optional pairs_in (get (codes "attributes") (value_view value.entry)))
-        (optional requests_of (get (codes "appliesTo") (value_view value.entry)))
-        (optional parents_of (get (codes "memberOf") (value_view value.entry)))
-        (flag_or false (get (codes "external") (value_view value.entry))) ≡ None) }
-    ensures place { IfErr result (λ fault. IsTrueOf fault (value_view value.entry)) }
-{
-    let external = flag_field(alloc, &value, "external", false)?;
-    let attributes = attributes_field(alloc, &mut value, cursor)?;
-    let member_of = optional_field(alloc, &value, "memberOf", cursor)?;
-    let applies_to = optional_field(alloc, &value, "appliesTo", cursor)?;
-    Ok(ActionType {
-        attributes,
-        applies_to,
-        member_of,
-        external,
-        loc: cursor.key_loc(),
-        defn_loc: cursor.loc(),
-    })
-}
-
 impl Taken for ActionType<RawName> {
     ghost Plain = { WrittenAction };
 
@@ -144,11 +115,22 @@ impl Taken for ActionType<RawName> {
     /// The declaration of an action that a value describes.
     fn take(
         alloc: Global,
-        value: Value<'_>,
+        value: &mut Value<'_>,
         cursor: Cursor<'_>,
     ) -> Result<ActionType<RawName>, Fault> {
-        check_fields(alloc, &value, Row::OfAction)?;
-        check_annotations(alloc, &value)?;
-        take_checked(alloc, value, cursor)
+        check_fields(alloc, value, Row::OfAction)?;
+        check_annotations(alloc, value)?;
+        let external = flag_field(alloc, value, "external", false)?;
+        let attributes = attributes_field(alloc, value, cursor)?;
+        let member_of = optional_field(alloc, value, "memberOf", cursor)?;
+        let applies_to = optional_field(alloc, value, "appliesTo", cursor)?;
+        Ok(ActionType {
+            attributes,
+            applies_to,
+            member_of,
+            external,
+            loc: cursor.key_loc(),
+            defn_loc: cursor.loc(),
+        })
     }
 }

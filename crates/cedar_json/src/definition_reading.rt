@@ -1,11 +1,9 @@
 //! Reading definitions of namespaces, and fragments.
 
 ghost use Rattle.std.proofs.Common.{refl};
-ghost use Rattle.std.specs.Prelude.{◌≡◌, ◌≢◌, [], Option, Some, None, MatchResult, IfErr, codes, option_and_then, option_map, string_bytes};
+ghost use Rattle.std.specs.Prelude.{◌≡◌, Option, Some, None, option_map, string_bytes};
 ghost use Rattle.std.specs.Option.{option_cmp};
-ghost use Rattle.json.specs.Find.{get};
-ghost use Rattle.json.specs.Value.{value_view};
-ghost use Rattle.cedar_json.specs.Words.{Expr, IsTrueOf, PlainName, Text, WrittenDefinition, actions_in, common_key, common_type_of, common_type_text, common_types_in, definition_by, definition_of, entity_types_in, field_or, id_key, name_cmp, namespace_key, plain_name, raw_expr, text_cmp, unreserved_id_text, written_definition};
+ghost use Rattle.cedar_json.specs.Words.{Expr, PlainName, Text, WrittenDefinition, common_key, common_type_of, common_type_text, definition_of, id_key, name_cmp, namespace_key, plain_name, raw_expr, text_cmp, unreserved_id_text, written_definition};
 ghost use Rattle.cedar_below.proofs.Names.{name_ord-name_cmp};
 
 use crate::annotations::check_annotations;
@@ -31,11 +29,11 @@ impl Taken for CommonType<RawName> {
     /// The common type that a value describes.
     fn take(
         alloc: Global,
-        value: Value<'_>,
+        value: &mut Value<'_>,
         cursor: Cursor<'_>,
     ) -> Result<CommonType<RawName>, Fault> {
-        check_annotations(alloc, &value)?;
-        let ty = read_type_of(alloc, &value, Row::OfCommonType, cursor)?;
+        check_annotations(alloc, value)?;
+        let ty = read_type_of(alloc, value, Row::OfCommonType, cursor)?;
         let loc = cursor.key_loc();
         Ok(CommonType { ty, loc })
     }
@@ -126,37 +124,6 @@ impl Key for String {
     }
 }
 
-/// The definition of a namespace, whose fields and annotations were checked, that a value
-/// describes.
-fn take_checked(
-    alloc: Global,
-    mut value: Value<'_>,
-    cursor: Cursor<'_>,
-) -> Result<NamespaceDefinition<RawName>, Fault>
-    ensures value { MatchResult result
-        (λ it. definition_by
-        (field_or [] common_types_in (get (codes "commonTypes") (value_view value.entry)))
-        (option_and_then entity_types_in (get (codes "entityTypes") (value_view value.entry)))
-        (option_and_then actions_in (get (codes "actions") (value_view value.entry)))
-        ≡ Some (written_definition it))
-        (λ fault. fault ≢ Fault.Memory → definition_by
-        (field_or [] common_types_in (get (codes "commonTypes") (value_view value.entry)))
-        (option_and_then entity_types_in (get (codes "entityTypes") (value_view value.entry)))
-        (option_and_then actions_in (get (codes "actions") (value_view value.entry))) ≡ None) }
-    ensures place { IfErr result (λ fault. IsTrueOf fault (value_view value.entry)) }
-{
-    let absent = BTreeMap::new(alloc);
-    let common_types = taken_or_else(alloc, &mut value, "commonTypes", absent, cursor)?;
-    let entity_types = taken_field(alloc, &mut value, "entityTypes", cursor)?;
-    let actions = taken_field(alloc, &mut value, "actions", cursor)?;
-    Ok(NamespaceDefinition {
-        common_types,
-        entity_types,
-        actions,
-        loc: cursor.loc(),
-    })
-}
-
 impl Taken for NamespaceDefinition<RawName> {
     ghost Plain = { WrittenDefinition };
 
@@ -167,12 +134,21 @@ impl Taken for NamespaceDefinition<RawName> {
     /// The definition of a namespace that a value describes.
     fn take(
         alloc: Global,
-        value: Value<'_>,
+        value: &mut Value<'_>,
         cursor: Cursor<'_>,
     ) -> Result<NamespaceDefinition<RawName>, Fault> {
-        check_fields(alloc, &value, Row::OfDefinition)?;
-        check_annotations(alloc, &value)?;
-        take_checked(alloc, value, cursor)
+        check_fields(alloc, value, Row::OfDefinition)?;
+        check_annotations(alloc, value)?;
+        let absent = BTreeMap::new(alloc);
+        let common_types = taken_or_else(alloc, value, "commonTypes", absent, cursor)?;
+        let entity_types = taken_field(alloc, value, "entityTypes", cursor)?;
+        let actions = taken_field(alloc, value, "actions", cursor)?;
+        Ok(NamespaceDefinition {
+            common_types,
+            entity_types,
+            actions,
+            loc: cursor.loc(),
+        })
     }
 }
 

@@ -180,12 +180,12 @@ impl Taken for EntityType<RawName> {
     /// The declaration of an entity type that a value describes.
     fn take(
         alloc: Global,
-        value: Value<'_>,
+        value: &mut Value<'_>,
         cursor: Cursor<'_>,
     ) -> Result<EntityType<RawName>, Fault> {
-        let external = flag_field(alloc, &value, "external", false)?;
-        check_annotations(alloc, &value)?;
-        let kind = read_kind(alloc, &value, cursor)?;
+        let external = flag_field(alloc, value, "external", false)?;
+        check_annotations(alloc, value)?;
+        let kind = read_kind(alloc, value, cursor)?;
         Ok(EntityType {
             kind,
             external,

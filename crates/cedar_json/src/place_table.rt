@@ -51,16 +51,6 @@ fn in_32_bits(number: usize) -> u32 {
     u32::try_from(number).unwrap_or(u32::MAX)
 }
 
-impl Span {
-    /// The bytes from a number up to another.
-    fn between(start: usize, stop: usize) -> Span {
-        Span {
-            start: in_32_bits(start),
-            stop: in_32_bits(stop),
-        }
-    }
-}
-
 /// Where a token ends that begins at `start` and is followed by one at `next`. Behind the token
 /// stand blanks and a comma or colon at most, and no token ends with one of these.
 fn stop_before(text: &[u8], start: usize, next: usize) -> usize {
@@ -72,15 +62,6 @@ fn stop_before(text: &[u8], start: usize, next: usize) -> usize {
 }
 
 impl Listing {
-    /// No places yet, with room for about as many as a text has.
-    fn new(alloc: Global, text: &str) -> M<Listing> {
-        Ok(Listing {
-            entries: Vec::with_capacity(alloc, text.len() / BYTES_A_VALUE)?,
-            open: Vec::new(alloc),
-            key: None,
-        })
-    }
-
     /// Lists a value that begins with some bytes, and gives its number.
     fn begin(&mut self, value: Span) -> M<usize> {
         let number = self.entries.len();
@@ -129,12 +110,19 @@ impl Places {
     pub(crate) fn of(alloc: Global, text: &str, source: u32) -> M<Places> {
         let mut scratch = Scratch::new(alloc);
         let mut reader = Reader::new(text, &mut scratch)?;
-        let mut listing = Listing::new(alloc, text)?;
+        let mut listing = Listing {
+            entries: Vec::with_capacity(alloc, text.len() / BYTES_A_VALUE)?,
+            open: Vec::new(alloc),
+            key: None,
+        };
         let mut start = reader.offset();
         while let Some(token) = reader.next() {
             let next = reader.offset();
-            let stop = stop_before(text.as_bytes(), start, next);
-            listing.take(token, Span::between(start, stop))?;
+            let place = Span {
+                start: in_32_bits(start),
+                stop: in_32_bits(stop_before(text.as_bytes(), start, next)),
+            };
+            listing.take(token, place)?;
             start = next;
         }
         Ok(Places {

@@ -27,12 +27,12 @@ pub(crate) trait Taken: Sized {
 
     ghost shown: { Self → Plain };
 
-    /// What the value describes.
-    fn take(alloc: Global, value: Value<'_>, cursor: Cursor<'_>) -> Result<Self, Fault>
+    /// What the value describes, of which anything may be left.
+    fn take(alloc: Global, value: &mut Value<'_>, cursor: Cursor<'_>) -> Result<Self, Fault>
         ensures value { MatchResult result
-            (λ it. describes (value_view value.entry) ≡ Some (shown it))
-            (λ fault. fault ≢ Fault.Memory → describes (value_view value.entry) ≡ None) }
-        ensures place { IfErr result (λ fault. IsTrueOf fault (value_view value.entry)) };
+            (λ it. describes (value_view value.old) ≡ Some (shown it))
+            (λ fault. fault ≢ Fault.Memory → describes (value_view value.old) ≡ None) }
+        ensures place { IfErr result (λ fault. IsTrueOf fault (value_view value.old)) };
 }
 
 /// What the member at an index describes, under what its key stands for.
@@ -51,9 +51,11 @@ fn take_entry<K: Key + Drop, T: Taken + Drop>(
         ≡ Some (member.entry.0.now, value_view member.entry.1)
         → IsTrueOf fault j) }
 {
-    let (name, value) = member;
+    let (name, mut value) = member;
     let key = K::read_key(alloc, name, index, cursor)?;
-    match T::take(alloc, value, cursor) {
+    let taken = T::take(alloc, &mut value, cursor);
+    drop(value);
+    match taken {
         Ok(it) => Ok((key, it)),
         Err(fault) => Err(fault.in_member(index)),
     }
@@ -91,8 +93,12 @@ impl<K: Key + Drop, T: Taken + Drop> Taken for BTreeMap<K, T> {
 
     ghost shown = { λ all. map (λ entry. (K.shown_key entry.0, T.shown entry.1)) all.entries };
 
-    fn take(alloc: Global, value: Value<'_>, cursor: Cursor<'_>) -> Result<BTreeMap<K, T>, Fault> {
-        match value {
+    fn take(
+        alloc: Global,
+        value: &mut Value<'_>,
+        cursor: Cursor<'_>,
+    ) -> Result<BTreeMap<K, T>, Fault> {
+        match mem::replace(value, Value::Null) {
             Value::Object(members) => take_entries::<K, T>(alloc, members, cursor),
             _ => Err(Fault::here(alloc, FaultKind::Wants(Wanted::Object))),
         }
@@ -156,7 +162,7 @@ pub(crate) fn taken_field<T: Taken + Drop>(
 {
     let at = cursor.field(value, name);
     match take_held(value, name) {
-        Some(held) => match T::take(alloc, held, at) {
+        Some(mut held) => match T::take(alloc, &mut held, at) {
             Ok(it) => Ok(it),
             Err(fault) => Err(fault.within(name)),
         },

@@ -134,7 +134,7 @@ fn fragment_in(
     alloc: Global,
     text: &str,
     source: u32,
-    value: Value<'_>,
+    mut value: Value<'_>,
 ) -> Result<Fragment<RawName>, JsonSchemaFault>
     requires { document text.now ≡ Some (value_view value) }
     ensures fragment { IfOk result
@@ -146,7 +146,7 @@ fn fragment_in(
     let Ok(places) = Places::of(alloc, text, source) else {
         return Err(JsonSchemaFault::Memory);
     };
-    match Taken::take(alloc, value, places.cursor()) {
+    match Taken::take(alloc, &mut value, places.cursor()) {
         Ok(namespaces) => Ok(Fragment(namespaces)),
         Err(Fault::At(steps, fault)) => Err(out_of_shape(alloc, text, &places, steps, fault)),
         Err(Fault::Memory) => Err(JsonSchemaFault::Memory),
