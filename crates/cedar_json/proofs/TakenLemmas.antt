@@ -1,5 +1,5 @@
 -- Members of which some are taken out.
-use Rattle.std.proofs.Common.{◌≡◌, ℕ, zero, suc, ◌+◌, ◌<◌, List, [], ◌∷◌, ◌++◌, length, Bool, true, false, cond, drop, get_or, take, Some, None, Bor, Global, add-one, arith, ap, refl, sym, ◌∙◌}
+use Rattle.std.proofs.Common.{◌≡◌, ℕ, zero, suc, ◌+◌, ◌<◌, List, [], ◌∷◌, ◌++◌, length, Bool, false, cond, drop, get_or, take, Some, None, Bor, Global, add-one, arith, ap, refl, sym, ◌∙◌}
 use Rattle.std.proofs.Math.ListN.{set}
 use Rattle.std.proofs.lemmas.List.{drop-set-lt, drop_more}
 use Rattle.std.specs.Str.{bytes_eq}

@@ -1,17 +1,16 @@
 //! Reading definitions of namespaces, and fragments.
 
 ghost use Rattle.std.proofs.Common.{refl};
-ghost use Rattle.std.specs.Prelude.{◌≡◌, Option, Some, None, option_map, string_bytes};
+ghost use Rattle.std.specs.Prelude.{Option, Some, None, option_map, string_bytes};
 ghost use Rattle.std.specs.Option.{option_cmp};
 ghost use Rattle.cedar_json.specs.Words.{Expr, PlainName, Text, WrittenDefinition, common_key, common_type_of, common_type_text, definition_of, id_key, name_cmp, namespace_key, plain_name, raw_expr, text_cmp, unreserved_id_text, written_definition};
 ghost use Rattle.cedar_below.proofs.Names.{name_ord-name_cmp};
 
 use crate::annotations::check_annotations;
-use crate::described::Key;
 use crate::fault::{Fault, FaultKind, Row};
 use crate::fields::check_fields;
 use crate::place_table::Cursor;
-use crate::taken::{Taken, taken_field, taken_or_else};
+use crate::taken::{Key, Taken, taken_field, taken_or_else};
 use crate::type_reading::read_type_of;
 use cedar_below::{Name, NameFault, UnreservedId};
 use cedar_names::json_schema::{CommonType, CommonTypeId, NamespaceDefinition, RawName};

@@ -1,11 +1,10 @@
-//! What JSON values describe, read by one trait for each kind of declaration.
+//! What JSON values describe that are read by reference: the parts of a declaration.
 
 ghost use Rattle.std.specs.Prelude.{◌≡◌, ◌≢◌, List, Option, Some, None, MatchResult, IfErr, map, option_and_then, option_map};
-ghost use Rattle.std.specs.declared.cmp.Ordering.{Ordering};
 ghost use Rattle.json.specs.Find.{as_array, get};
 ghost use Rattle.json.specs.Json.{Json, array};
 ghost use Rattle.json.specs.Value.{items_view, value_view};
-ghost use Rattle.cedar_json.specs.Words.{IsTrueOf, Text, all_of, field_or, member_at, optional, unless_null};
+ghost use Rattle.cedar_json.specs.Words.{IsTrueOf, all_of, field_or, optional, unless_null};
 
 use crate::fault::{Fault, FaultKind, Wanted};
 use crate::fields::lack;
@@ -30,33 +29,6 @@ pub(crate) trait Described: Sized {
             (λ it. describes (value_view value.now) ≡ Some (shown it))
             (λ fault. fault ≢ Fault.Memory → describes (value_view value.now) ≡ None) }
         ensures place { IfErr result (λ fault. IsTrueOf fault (value_view value.now)) };
-}
-
-/// What a key of an object stands for, under which a map holds what the member describes.
-///
-/// The ghost members are the plain data of keys with their order, what a text stands for, and what
-/// a key does.
-pub(crate) trait Key: Ord {
-    ghost PlainKey: { Type 0 };
-
-    ghost order: { PlainKey → PlainKey → Ordering };
-
-    ghost key_of: { Text → Option PlainKey };
-
-    ghost shown_key: { Self → PlainKey };
-
-    /// What the key of the member at an index stands for.
-    fn read_key(alloc: Global, key: &str, index: usize, cursor: Cursor<'_>) -> Result<Self, Fault>
-    where
-        Self: Sized,
-        ensures value { MatchResult result
-            (λ it. key_of key.now ≡ Some (shown_key it))
-            (λ fault. fault ≢ Fault.Memory → key_of key.now ≡ None) }
-        ensures place { IfErr result (λ fault. (j held : Json) → member_at index j
-            ≡ Some (key.now, held)
-            → IsTrueOf fault j) };
-
-    ghost same_order: { (a b : Self) → Self.cmp a b ≡ order (shown_key a) (shown_key b) };
 }
 
 /// What some items describe.

@@ -1,4 +1,4 @@
-use Rattle.std.proofs.Common.{◌≡◌, Bool, false, drop, take, option_map}
+use Rattle.std.proofs.Common.{◌≡◌, false, drop, take, option_map}
 use Rattle.std.specs.Str.{bytes_eq}
 use Rattle.json.specs.Find.{get_member}
 use Rattle.json.specs.Value.{members_view, value_view}

@@ -1,4 +1,4 @@
-use Rattle.std.proofs.Common.{[], ◌∷◌, ◌++◌, subst, ap, sym, ◌∙◌}
+use Rattle.std.proofs.Common.{subst, ap, sym, ◌∙◌}
 use Rattle.std.proofs.lemmas.Result.{on_ok_weaker}
 use Rattle.std.specs.BTreeMap.{insert_entry}
 use Rattle.cedar_json.proofs.FillingLemmas.{all_put_past, all_put_push, ascending_push}
