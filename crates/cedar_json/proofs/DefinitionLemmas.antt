@@ -1,7 +1,6 @@
 -- Members that are read one after another into a map.
-use Rattle.std.proofs.Common.{◌≡◌, ◌≢◌, ℕ, ◌+◌, ◌≤◌, ◌++◌, List, [], ◌∷◌, length, Bool, true, false, cond, drop, drop_of_length-le, map, Option, Some, None, option_and_then, Bor, Global, refl, ap, sym, ◌∙◌}
+use Rattle.std.proofs.Common.{◌≡◌, ℕ, ◌+◌, ◌++◌, List, [], ◌∷◌, Bool, true, false, cond, drop, map, Option, Some, None, option_and_then, Bor, Global, refl, ap, sym, ◌∙◌}
 use Rattle.std.proofs.lemmas.List.{drop-drop}
-use Rattle.std.proofs.lemmas.Slice.Eq.{bytes_eq-Decides}
 use Rattle.std.specs.BTreeMap.{insert_entry}
 use Rattle.std.specs.Str.{bytes_eq}
 use Rattle.std.specs.declared.cmp.Ordering.{Ordering}
@@ -44,28 +43,6 @@ get_member-push name (m ∷ members) x =
     by true = refl
     by false = refl
 
--- a member that has the name is the last of them
-pub pushed_same : (name : Text) (members : List Held) (x : Held) → x.0.now ≡ name
-    → get_member name (members_view (members ++ x ∷ [])) ≡ Some (value_view x.1)
-pushed_same name members x is =
-    get_member-push name members x
-    ∙ ap (λ b. cond b (Some (value_view x.1)) (get_member name (members_view members))) ((bytes_eq-Decides x.0.now name).1 is)
-
--- one that has another name changes nothing
-pub pushed_other : (name : Text) (members : List Held) (x : Held) → x.0.now ≢ name
-    → get_member name (members_view (members ++ x ∷ [])) ≡ get_member name (members_view members)
-pushed_other name members x differs =
-    get_member-push name members x
-    ∙ ap (λ b. cond b (Some (value_view x.1)) (get_member name (members_view members))) (by (bytes_eq x.0.now name) refl)
-  where
-    by : (b : Bool) → bytes_eq x.0.now name ≡ b → bytes_eq x.0.now name ≡ false
-    by true same = absurd (differs ((bytes_eq-Decides x.0.now name).0 same))
-    by false same = same
-
--- a text that is one of two that differ isn't the other
-pub other_name : (text one other : Text) → text ≡ one → bytes_eq one other ≡ false → text ≢ other
-other_name text one other is differ e = let same = (bytes_eq-Decides one other).1 (sym is ∙ e) in absurd (cc)
-
 module _ {K X L Y : Type 0} (R : K → K → Ordering) (S : L → L → Ordering) (shown_key : K → L) (shown : X → Y)
     (same_order : (a b : K) → R a b ≡ S (shown_key a) (shown_key b)) (key : Text → Option L) (describes : Json → Option Y) where
   abbrev plain : List (K × X) → List (L × Y)
@@ -76,14 +53,6 @@ module _ {K X L Y : Type 0} (R : K → K → Ordering) (S : L → L → Ordering
       → entries_of S key describes (members_view all) [] ≡ entries_of S key describes (members_view (drop index all)) (plain entries)
       → entries_of S key describes (members_view all) [] ≡ Some (plain entries)
   none_left all index entries end so_far = so_far ∙ ap (λ ys. entries_of S key describes (members_view ys) (plain entries)) end
-
-  -- where no member is left, all were read
-  pub all_entries : (xs all : List Held) (index : ℕ) (entries : List (K × X)) → xs ≡ all → length xs ≤ index
-      → entries_of S key describes (members_view all) [] ≡ entries_of S key describes (members_view (drop index all)) (plain entries)
-      → entries_of S key describes (members_view all) [] ≡ Some (plain entries)
-  all_entries xs all index entries same end so_far =
-      so_far ∙ ap (λ ys. entries_of S key describes (members_view (drop index ys)) (plain entries)) (sym same)
-      ∙ ap (λ ys. entries_of S key describes (members_view ys) (plain entries)) (drop_of_length-le xs end)
 
   -- at a member
   module _ (all : List Held) (index : ℕ) (x : Held) (entries : List (K × X)) (here : drop index all ≡ x ∷ drop (index + 1) all)

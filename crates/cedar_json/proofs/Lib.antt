@@ -3,10 +3,13 @@ pub mod DefinitionLemmas
 pub mod ExtensionLemmas
 pub mod FieldLemmas
 pub mod FillingLemmas
+pub mod InTurn
 pub mod KeyLemmas
 pub mod ListLemmas
 pub mod MapLemmas
 pub mod NameLemmas
 pub mod NumberLemmas
+pub mod TakenLemmas
 pub mod TypeLemmas
+pub mod TypeMarkLemmas
 pub mod ValueLemmas

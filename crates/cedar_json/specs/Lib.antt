@@ -6,11 +6,15 @@ pub mod ExtensionRows
 pub mod Fields
 pub mod Filling
 pub mod Lists
+pub mod Mark
 pub mod Nesting
 pub mod Place
+pub mod RefusalPlace
 pub mod Repeats
+pub mod Table
 pub mod TextFormat
 pub mod TypeFormat
+pub mod TypeMarks
 pub mod ValueFormat
 pub mod WholeNumber
 pub mod Words

@@ -1,5 +1,5 @@
 -- The words of clauses, from one place.
-pub use Rattle.cedar_below.specs.Words.{IsIdentifier, IsNameFault, IsNameText, IsOfIdentifiers, IsReserved, IsReservedNameText, PlainName, Text, Tree, Trees, TypeNamesFit, begins_identifier, call_value, core_ty_of, eid_text, extension_types, function_named, is_identifier_byte, is_identifier_start, is_identifier_text, items_of, joined, name_cmp, name_of, name_text, no_tree, number_value, plain_name, reserved_word, set_value, text_cmp, text_value, tree, tree_of, tree_step, trees_of, truth_value, uid_of, uid_value, unreserved_id_text, value_expr}
+pub use Rattle.cedar_below.specs.Words.{IsIdentifier, IsNameFault, IsNameText, IsOfIdentifiers, IsReserved, IsReservedNameText, PlainName, Text, Tree, Trees, TypeNamesFit, begins_identifier, call_value, core_ty_of, eid_text, extension_types, function_named, id_text, is_identifier_byte, is_identifier_start, is_identifier_text, items_of, joined, name_cmp, name_loc, name_of, name_text, no_tree, number_value, plain_name, reserved_word, set_value, text_cmp, text_value, tree, tree_of, tree_step, trees_of, truth_value, type_loc, type_name, uid_loc, uid_of, uid_value, unreserved_id_text, value_expr}
 pub use Rattle.cedar_below.specs.declared.extension.ExtensionFunction.{ExtensionFunction}
 pub use Rattle.cedar_below.specs.declared.internal_name.InternalName.{InternalName}
 pub use Rattle.cedar_below.specs.declared.loc.Loc.{Loc}
@@ -12,9 +12,10 @@ pub use Rattle.cedar_names.specs.Words.{Expr, Reference, Requests, attribute_ste
 pub use Rattle.cedar_names.specs.declared.json_schema.common_type_id.CommonTypeId.{CommonTypeId}
 pub use Rattle.cedar_names.specs.declared.json_schema.raw_name.RawName.{RawName}
 pub use Rattle.cedar_names.specs.declared.json_schema.reference_type.ReferenceType.TheVariants.{Common, Entity}
-pub use Rattle.cedar_names.specs.declared.json_schema.type_of.RecordType.{roll-RecordType}
+pub use Rattle.cedar_names.specs.declared.json_schema.type_of.RecordType.{RecordType, fold_out-RecordType, out-RecordType, roll-RecordType}
 pub use Rattle.cedar_names.specs.declared.json_schema.type_of.Type.{«Type»}
-pub use Rattle.cedar_names.specs.declared.json_schema.type_of.TypeOfAttribute.{TypeOfAttribute, fold-roll-TypeOfAttribute, roll-TypeOfAttribute}
+pub use Rattle.cedar_names.specs.declared.json_schema.type_of.TypeOfAttribute.{TypeOfAttribute, fold-roll-TypeOfAttribute, fold_out-TypeOfAttribute, out-TypeOfAttribute, roll-TypeOfAttribute}
+pub use Rattle.cedar_declarations.specs.declared.schema_error.SchemaError.{SchemaError}
 pub use Rattle.cedar_json.specs.ActionFormat.{WrittenAction, WrittenParent, action_by, action_of, optional, pairs_in, parent_by, parent_of, parents_of, requests_by, requests_of, unless_null, written_action, written_pairs, written_parent, written_requests}
 pub use Rattle.cedar_json.specs.CedarExtensions.{Signature, cedar_function, cedar_type_names, signature, signatures, unqualified}
 pub use Rattle.cedar_json.specs.DefinitionFormat.{WrittenDefinition, WrittenFragment, actions_in, common_key, common_type_of, common_types_in, definition_by, definition_of, entity_types_in, entries_in, entries_of, fragment_of, id_key, namespace_key, written_actions, written_common_types, written_definition, written_entity_types, written_fragment, written_namespaces}
@@ -23,11 +24,15 @@ pub use Rattle.cedar_json.specs.ExtensionRows.{AreKinds, AreNames, AreRows, IsKi
 pub use Rattle.cedar_json.specs.Fields.{IsOther, annotations_fit, are_annotations, flag_or, further_fields, has_only, is_among, is_text_or_null, keys_among, known_fields, nth_member, own_fields, text_held, texts_of, type_fields, type_word}
 pub use Rattle.cedar_json.specs.Filling.{IsAscending, all_put}
 pub use Rattle.cedar_json.specs.Lists.{all_of, field_or}
+pub use Rattle.cedar_json.specs.Mark.{Mark, Marks, mark_of, marked, open_record}
 pub use Rattle.cedar_json.specs.Place.{IsFault, IsTrueOf, member_at, step_into}
+pub use Rattle.cedar_json.specs.RefusalPlace.{IsAttributedAction, IsAttributedPlace, IsExtensionType, IsFirstPlace, IsPlaceOf, IsSecondPlaceOf, IsShadowedPlace, IsSought}
 pub use Rattle.cedar_json.specs.Repeats.{IsRepeatIn, IsRepeated}
+pub use Rattle.cedar_json.specs.Table.{action_marks, common_type_marks, definition_marks, entity_type_marks, fragment_marks, full_name, kind_marks, namespace_of, requests_marks}
 pub use Rattle.cedar_json.specs.TextFormat.{Describes, IsFaultOf, too_long}
 pub use Rattle.cedar_json.specs.TypeFormat.{Attributes, additional_field, attribute_by, attributes_field, element_field, extension_in, if_so, later_field, record_of, reference_in, type_by, type_by_word, type_with}
 unfoldable pub use Rattle.cedar_json.specs.TypeFormat.{attribute_of, attributes_held, attributes_in, attributes_of, element_of, type_of}
+pub use Rattle.cedar_json.specs.TypeMarks.{MarksAt, attribute_marks, attribute_marks_step, record_marks, record_marks_step, type_marks, type_marks_step, variant_marks, variant_marks_step}
 pub use Rattle.cedar_json.specs.ValueFormat.{Pairs, call_by, call_of, object_by, record_of_pairs, sole_held, uid_by, uid_in, written_exprs}
 unfoldable pub use Rattle.cedar_json.specs.ValueFormat.{argument_of, call_in, first_call, pairs_of, value_of, values_of}
 pub use Rattle.cedar_json.specs.WholeNumber.{are_digits, is_digit, is_long, whole_number}
@@ -36,3 +41,4 @@ pub use Rattle.cedar_json.specs.declared.extensions.Kind.TheVariants.{Truth}
 pub use Rattle.cedar_json.specs.declared.extensions.Row.{Row}
 pub use Rattle.cedar_json.specs.declared.fault.Fault.{Fault}
 pub use Rattle.cedar_json.specs.declared.fault.Row.TheVariants.{OfAttribute, OfCall, OfType}
+pub use Rattle.cedar_json.specs.declared.places.written.WrittenAt.{WrittenAt}

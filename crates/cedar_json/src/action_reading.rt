@@ -1,9 +1,10 @@
 //! Reading declarations of actions.
 
-ghost use Rattle.std.specs.Prelude.{◌≡◌, ◌≢◌, Some, None, MatchResult, IfErr, codes, option_map};
+ghost use Rattle.std.specs.Prelude.{◌≡◌, ◌≢◌, Some, None, false, MatchResult, IfErr, codes, option_map};
+ghost use Rattle.std.specs.Str.{bytes_eq};
 ghost use Rattle.json.specs.Find.{get};
 ghost use Rattle.json.specs.Value.{value_view};
-ghost use Rattle.cedar_json.specs.Words.{IsTrueOf, Requests, Tree, WrittenAction, WrittenParent, action_of, optional, pairs_in, parent_of, requests_of, tree_of, value_expr, value_of, written_action, written_pairs, written_parent, written_requests};
+ghost use Rattle.cedar_json.specs.Words.{IsTrueOf, Requests, Text, Tree, WrittenAction, WrittenParent, action_of, optional, pairs_in, parent_of, requests_of, tree_of, value_expr, value_of, written_action, written_pairs, written_parent, written_requests};
 
 use crate::annotations::check_annotations;
 use crate::described::{Described, described_field, optional_field};
@@ -11,6 +12,7 @@ use crate::entity_reading::shape_field;
 use crate::fault::{Fault, Row};
 use crate::fields::{check_fields, flag_field, text_field};
 use crate::place_table::Cursor;
+use crate::taken::{Taken, taken_unless_null};
 use crate::value_reading::read_expr;
 use cedar_below::Value as CedarValue;
 use cedar_names::json_schema::{ActionEntityUID, ActionType, ApplySpec, RawName};
@@ -67,7 +69,7 @@ impl Described for ApplySpec<RawName> {
     }
 }
 
-impl Described for CedarValue {
+impl Taken for CedarValue {
     ghost Plain = { Tree };
 
     ghost describes = { value_of };
@@ -75,29 +77,35 @@ impl Described for CedarValue {
     ghost shown = { λ it. tree_of (value_expr it) };
 
     /// The value of an attribute that a JSON value describes.
-    fn read(alloc: Global, value: &Value<'_>, _cursor: Cursor<'_>) -> Result<CedarValue, Fault> {
+    fn take(
+        alloc: Global,
+        value: &mut Value<'_>,
+        _cursor: Cursor<'_>,
+    ) -> Result<CedarValue, Fault> {
         let expr = read_expr(alloc, value)?;
         Ok(CedarValue::new(expr))
     }
 }
 
-/// The attributes that the field `attributes` describes, or None where it is absent.
+/// The attributes that the field `attributes` describes, or None where it is absent or `null`.
 fn attributes_field(
     alloc: Global,
-    value: &Value<'_>,
+    value: &mut Value<'_>,
     cursor: Cursor<'_>,
 ) -> Result<Option<BTreeMap<String, CedarValue>>, Fault>
     ensures value { MatchResult result
-        (λ all. optional pairs_in (get (codes "attributes") (value_view value.now))
+        (λ all. optional pairs_in (get (codes "attributes") (value_view value.old))
         ≡ Some (option_map written_pairs all))
         (λ fault. fault ≢ Fault.Memory
-        → optional pairs_in (get (codes "attributes") (value_view value.now)) ≡ None) }
-    ensures place { IfErr result (λ fault. IsTrueOf fault (value_view value.now)) }
+        → optional pairs_in (get (codes "attributes") (value_view value.old)) ≡ None) }
+    ensures place { IfErr result (λ fault. IsTrueOf fault (value_view value.old)) }
+    ensures others { (other : Text) → bytes_eq (codes "attributes") other ≡ false
+        → get other (value_view value.new) ≡ get other (value_view value.old) }
 {
-    optional_field(alloc, value, "attributes", cursor)
+    taken_unless_null(alloc, value, "attributes", cursor)
 }
 
-impl Described for ActionType<RawName> {
+impl Taken for ActionType<RawName> {
     ghost Plain = { WrittenAction };
 
     ghost describes = { action_of };
@@ -105,9 +113,9 @@ impl Described for ActionType<RawName> {
     ghost shown = { written_action };
 
     /// The declaration of an action that a value describes.
-    fn read(
+    fn take(
         alloc: Global,
-        value: &Value<'_>,
+        value: &mut Value<'_>,
         cursor: Cursor<'_>,
     ) -> Result<ActionType<RawName>, Fault> {
         check_fields(alloc, value, Row::OfAction)?;

@@ -1,19 +1,16 @@
-//! What JSON values describe, read by one trait for each kind of declaration.
+//! What JSON values describe that are read by reference: the parts of a declaration.
 
-ghost use Rattle.std.specs.Prelude.{◌≡◌, ◌≢◌, [], List, Option, Some, None, MatchResult, IfErr, map, option_and_then, option_map};
-ghost use Rattle.std.specs.declared.cmp.Ordering.{Ordering};
+ghost use Rattle.std.specs.Prelude.{◌≡◌, ◌≢◌, List, Option, Some, None, MatchResult, IfErr, map, option_and_then, option_map};
 ghost use Rattle.json.specs.Find.{as_array, get};
-ghost use Rattle.json.specs.Json.{Json, array, object};
-ghost use Rattle.json.specs.Value.{items_view, members_view, value_view};
-ghost use Rattle.cedar_json.specs.Words.{IsTrueOf, Text, all_of, entries_in, entries_of, field_or, member_at, optional, unless_null};
+ghost use Rattle.json.specs.Json.{Json, array};
+ghost use Rattle.json.specs.Value.{items_view, value_view};
+ghost use Rattle.cedar_json.specs.Words.{IsTrueOf, all_of, field_or, optional, unless_null};
 
 use crate::fault::{Fault, FaultKind, Wanted};
-use crate::fields::{array_items, field, members_of};
+use crate::fields::lack;
 use crate::place_table::Cursor;
-use cedar_below::put;
 use json::Value;
 use std::alloc::Global;
-use std::collections::BTreeMap;
 
 /// What a JSON value describes.
 ///
@@ -32,60 +29,6 @@ pub(crate) trait Described: Sized {
             (λ it. describes (value_view value.now) ≡ Some (shown it))
             (λ fault. fault ≢ Fault.Memory → describes (value_view value.now) ≡ None) }
         ensures place { IfErr result (λ fault. IsTrueOf fault (value_view value.now)) };
-}
-
-/// What a key of an object stands for, under which a map holds what the member describes.
-///
-/// The ghost members are the plain data of keys with their order, what a text stands for, and what
-/// a key does.
-pub(crate) trait Key: Ord {
-    ghost PlainKey: { Type 0 };
-
-    ghost order: { PlainKey → PlainKey → Ordering };
-
-    ghost key_of: { Text → Option PlainKey };
-
-    ghost shown_key: { Self → PlainKey };
-
-    /// What the key of the member at an index stands for.
-    fn read_key(alloc: Global, key: &str, index: usize, cursor: Cursor<'_>) -> Result<Self, Fault>
-    where
-        Self: Sized,
-        ensures value { MatchResult result
-            (λ it. key_of key.now ≡ Some (shown_key it))
-            (λ fault. fault ≢ Fault.Memory → key_of key.now ≡ None) }
-        ensures place { IfErr result (λ fault. (j held : Json) → member_at index j
-            ≡ Some (key.now, held)
-            → IsTrueOf fault j) };
-
-    ghost same_order: { (a b : Self) → Self.cmp a b ≡ order (shown_key a) (shown_key b) };
-}
-
-/// What some members describe.
-fn read_entries<K: Key + Drop, T: Described + Drop>(
-    alloc: Global,
-    members: &Vec<(&str, Value<'_>)>,
-    cursor: Cursor<'_>,
-) -> Result<BTreeMap<K, T>, Fault>
-    ensures value { MatchResult result
-        (λ all. entries_of K.order K.key_of T.describes (members_view members.now.items) []
-        ≡ Some (map (λ entry. (K.shown_key entry.0, T.shown entry.1)) all.entries))
-        (λ fault. fault ≢ Fault.Memory
-        → entries_of K.order K.key_of T.describes (members_view members.now.items) [] ≡ None) }
-    ensures place { IfErr result
-        (λ fault. IsTrueOf fault (object (members_view members.now.items))) }
-{
-    let mut all = BTreeMap::new(alloc);
-    let mut at = cursor.first();
-    for (index, member) in members.iter().enumerate() {
-        let key = K::read_key(alloc, member.0, index, at)?;
-        match T::read(alloc, &member.1, at) {
-            Ok(it) => put(&mut all, key, it)?,
-            Err(fault) => return Err(fault.in_member(index)),
-        }
-        at = at.next();
-    }
-    Ok(all)
 }
 
 /// What some items describe.
@@ -119,22 +62,9 @@ impl<T: Described + Drop> Described for Vec<T> {
     ghost shown = { λ all. map T.shown all.items };
 
     fn read(alloc: Global, value: &Value<'_>, cursor: Cursor<'_>) -> Result<Vec<T>, Fault> {
-        let items = array_items(alloc, value)?;
-        read_items::<T>(alloc, items, cursor)
-    }
-}
-
-impl<K: Key + Drop, T: Described + Drop> Described for BTreeMap<K, T> {
-    ghost Plain = { List (K.PlainKey × T.Plain) };
-
-    ghost describes = { entries_in K.order K.key_of T.describes };
-
-    ghost shown = { λ all. map (λ entry. (K.shown_key entry.0, T.shown entry.1)) all.entries };
-
-    fn read(alloc: Global, value: &Value<'_>, cursor: Cursor<'_>) -> Result<BTreeMap<K, T>, Fault> {
-        match members_of(value) {
-            Some(members) => read_entries::<K, T>(alloc, members, cursor),
-            None => Err(Fault::here(alloc, FaultKind::Wants(Wanted::Object))),
+        match value {
+            Value::Array(items) => read_items::<T>(alloc, items, cursor),
+            _ => Err(Fault::here(alloc, FaultKind::Wants(Wanted::Array))),
         }
     }
 }
@@ -153,10 +83,12 @@ pub(crate) fn described_field<T: Described + Drop>(
         → option_and_then T.describes (get name.now (value_view value.now)) ≡ None) }
     ensures place { IfErr result (λ fault. IsTrueOf fault (value_view value.now)) }
 {
-    let held = field(alloc, value, name)?;
-    match T::read(alloc, held, cursor.field(value, name)) {
-        Ok(it) => Ok(it),
-        Err(fault) => Err(fault.within(name)),
+    match value.get(name) {
+        Some(held) => match T::read(alloc, held, cursor.field(value, name)) {
+            Ok(it) => Ok(it),
+            Err(fault) => Err(fault.within(name)),
+        },
+        None => Err(lack(alloc, value, name)),
     }
 }
 
@@ -185,7 +117,7 @@ pub(crate) fn field_or_else<T: Described + Drop>(
 }
 
 /// What a field holds, where `null` stands for absence.
-fn written<'v, 'a>(value: &'v Value<'a>, name: &str) -> Option<&'v Value<'a>>
+pub(crate) fn written<'v, 'a>(value: &'v Value<'a>, name: &str) -> Option<&'v Value<'a>>
     ensures { option_map (λ held. value_view held.now) result
         ≡ unless_null (get name.now (value_view value.now)) }
 {
@@ -207,7 +139,9 @@ pub(crate) fn optional_field<T: Described + Drop>(
         ≡ Some (option_map T.shown it))
         (λ fault. fault ≢ Fault.Memory
         → optional T.describes (get name.now (value_view value.now)) ≡ None) }
-    ensures place { IfErr result (λ fault. IsTrueOf fault (value_view value.now)) }
+    ensures place { IfErr result (λ fault. (j : Json)
+        → get name.now j ≡ get name.now (value_view value.now)
+        → IsTrueOf fault j) }
 {
     match written(value, name) {
         None => Ok(None),

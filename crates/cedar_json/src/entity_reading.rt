@@ -8,10 +8,11 @@ ghost use Rattle.cedar_names.specs.declared.json_schema.entity_type.EntityTypeKi
 
 use crate::annotations::check_annotations;
 use crate::described::{Described, field_or_else};
-use crate::fault::{Fault, FaultKind, Row};
-use crate::fields::{check_fields, flag_field, text};
+use crate::fault::{Fault, FaultKind, Row, Wanted};
+use crate::fields::{check_fields, flag_field};
 use crate::place_table::Cursor;
 use crate::spelling::read_name;
+use crate::taken::Taken;
 use crate::type_reading::plain_type;
 use cedar_below::{Eid, NonEmpty};
 use cedar_names::json_schema::{
@@ -31,8 +32,10 @@ impl Described for RawName {
 
     /// The name of an entity type that a value spells.
     fn read(alloc: Global, value: &Value<'_>, cursor: Cursor<'_>) -> Result<RawName, Fault> {
-        let text = text(alloc, value)?;
-        read_name(alloc, text, cursor.loc())
+        match value.as_str() {
+            Some(text) => read_name(alloc, text, cursor.loc()),
+            None => Err(Fault::here(alloc, FaultKind::Wants(Wanted::Text))),
+        }
     }
 }
 
@@ -45,8 +48,10 @@ impl Described for Eid {
 
     /// The id that a value is.
     fn read(alloc: Global, value: &Value<'_>, _cursor: Cursor<'_>) -> Result<Eid, Fault> {
-        let id = text(alloc, value)?;
-        Ok(Eid(String::from_str(alloc, id)?))
+        match value.as_str() {
+            Some(id) => Ok(Eid(String::from_str(alloc, id)?)),
+            None => Err(Fault::here(alloc, FaultKind::Wants(Wanted::Text))),
+        }
     }
 }
 
@@ -165,7 +170,7 @@ fn read_kind(
     }
 }
 
-impl Described for EntityType<RawName> {
+impl Taken for EntityType<RawName> {
     ghost Plain = { WrittenEntity };
 
     ghost describes = { entity_of };
@@ -173,9 +178,9 @@ impl Described for EntityType<RawName> {
     ghost shown = { written_entity };
 
     /// The declaration of an entity type that a value describes.
-    fn read(
+    fn take(
         alloc: Global,
-        value: &Value<'_>,
+        value: &mut Value<'_>,
         cursor: Cursor<'_>,
     ) -> Result<EntityType<RawName>, Fault> {
         let external = flag_field(alloc, value, "external", false)?;

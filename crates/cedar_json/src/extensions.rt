@@ -136,8 +136,8 @@ fn functions_of(alloc: Global, rows: &[Row]) -> M<BTreeMap<Name, ExtensionFuncti
 {
     let mut all = BTreeMap::new(alloc);
     for row in rows {
-        let function = function_of(alloc, *row)?;
-        put(&mut all, spelled(alloc, row.name)?, function)?;
+        let name = spelled(alloc, row.name)?;
+        put(&mut all, name, function_of(alloc, *row)?)?;
     }
     Ok(all)
 }

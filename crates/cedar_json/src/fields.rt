@@ -1,8 +1,8 @@
 //! The fields of JSON objects.
 
 ghost use Rattle.std.specs.Prelude.{◌≡◌, ◌++◌, true, false, Some, None, MatchOption, MatchResult, IfErr, option_map, option_and_then};
-ghost use Rattle.json.specs.Find.{get, as_array, as_object, as_str};
-ghost use Rattle.json.specs.Value.{items_view, members_view, value_view};
+ghost use Rattle.json.specs.Find.{get, as_object, as_str};
+ghost use Rattle.json.specs.Value.{members_view, value_view};
 ghost use Rattle.cedar_json.specs.Words.{IsOther, IsTrueOf, flag_or, further_fields, has_only, is_among, keys_among, known_fields, own_fields, texts_of, type_fields, type_word};
 
 use crate::fault::{Fault, FaultKind, Row, Wanted};
@@ -22,7 +22,7 @@ pub(crate) fn members_of<'v, 'a>(value: &'v Value<'a>) -> Option<&'v Vec<(&'a st
 }
 
 /// Why a value lacks a field.
-fn lack(alloc: Global, value: &Value<'_>, name: &'static str) -> Fault
+pub(crate) fn lack(alloc: Global, value: &Value<'_>, name: &'static str) -> Fault
     ensures { get name.now (value_view value.now) ≡ None → IsTrueOf result (value_view value.now) }
 {
     match members_of(value) {
@@ -59,40 +59,12 @@ pub(crate) fn text_field<'a>(
         (λ _. option_and_then as_str (get name.now (value_view value.now)) ≡ None) }
     ensures place { IfErr result (λ fault. IsTrueOf fault (value_view value.now)) }
 {
-    let held = field(alloc, value, name)?;
-    match held.as_str() {
-        Some(text) => Ok(text),
-        None => Err(Fault::here(alloc, FaultKind::Wants(Wanted::Text)).within(name)),
-    }
-}
-
-/// The text that a value is.
-pub(crate) fn text<'a>(alloc: Global, value: &Value<'a>) -> Result<&'a str, Fault>
-    ensures value { MatchResult result
-        (λ text. as_str (value_view value.now) ≡ Some text.now)
-        (λ _. as_str (value_view value.now) ≡ None) }
-    ensures place { IfErr result (λ fault. IsTrueOf fault (value_view value.now)) }
-{
-    match value.as_str() {
-        Some(text) => Ok(text),
-        None => Err(Fault::here(alloc, FaultKind::Wants(Wanted::Text))),
-    }
-}
-
-/// The items of the array that a value is.
-pub(crate) fn array_items<'v, 'a>(
-    alloc: Global,
-    value: &'v Value<'a>,
-) -> Result<&'v Vec<Value<'a>>, Fault>
-    ensures value { MatchResult result
-        (λ items. as_array (value_view value.now) ≡ Some (items_view items.now.items))
-        (λ _. as_array (value_view value.now) ≡ None) }
-    ensures place { IfErr result (λ fault. IsTrueOf fault (value_view value.now)) }
-{
-    if let Value::Array(items) = value {
-        Ok(items)
-    } else {
-        Err(Fault::here(alloc, FaultKind::Wants(Wanted::Array)))
+    match value.get(name) {
+        Some(held) => match held.as_str() {
+            Some(text) => Ok(text),
+            None => Err(Fault::here(alloc, FaultKind::Wants(Wanted::Text)).within(name)),
+        },
+        None => Err(lack(alloc, value, name)),
     }
 }
 
@@ -108,10 +80,12 @@ pub(crate) fn object_field<'v, 'a>(
         (λ _. option_and_then as_object (get name.now (value_view value.now)) ≡ None) }
     ensures place { IfErr result (λ fault. IsTrueOf fault (value_view value.now)) }
 {
-    let held = field(alloc, value, name)?;
-    match members_of(held) {
-        Some(members) => Ok(members),
-        None => Err(Fault::here(alloc, FaultKind::Wants(Wanted::Object)).within(name)),
+    match value.get(name) {
+        Some(held) => match members_of(held) {
+            Some(members) => Ok(members),
+            None => Err(Fault::here(alloc, FaultKind::Wants(Wanted::Object)).within(name)),
+        },
+        None => Err(lack(alloc, value, name)),
     }
 }
 

@@ -1,6 +1,6 @@
 //! Maps that ascending keys fill.
 
-ghost use Rattle.std.specs.Prelude.{◌≡◌, [], true, IfOk, OnOk};
+ghost use Rattle.std.specs.Prelude.{◌≡◌, ◌≤◌, [], List, length, true, IfOk, OnOk};
 ghost use Rattle.std.specs.BTreeMap.{insert_entry};
 ghost use Rattle.std.specs.List.{All};
 ghost use Rattle.std.specs.declared.cmp.Ordering.TheVariants.{Less};
@@ -10,6 +10,7 @@ use cedar_below::{M, put};
 use std::alloc::Global;
 use std::cmp::Ordering;
 use std::collections::{BTreeMap, VecDeque};
+use std::marker::Model;
 
 /// How many pairs wait at most: one more than a node of a map holds.
 const MOST_WAITING: usize = 16;
@@ -27,11 +28,69 @@ pub(crate) struct Filling<K: Ord, V> {
     has_waited: bool,
 }
 
+impl<K: Ord, V> Model for Filling<K, V> {
+    ghost Value = { List (K × V) };
+
+    ghost view = { λ it. all_put K.cmp it.map.entries it.waiting.items };
+
+    ghost invariant = { λ it. IsAscending K.cmp it.waiting.items };
+}
+
+/// Whether a key is greater than those of all pairs that wait.
+fn is_behind<K: Ord, V>(waiting: &VecDeque<(K, V)>, key: &K) -> bool
+    ensures { result ≡ true → IsAscending K.cmp waiting.now.items
+        → All (λ pair. K.cmp pair.0 key.now ≡ Less) waiting.now.items }
+{
+    match waiting.back() {
+        None => true,
+        Some(pair) => matches!(pair.0.cmp(key), Ordering::Less),
+    }
+}
+
+/// Puts the first of the pairs that wait into a map, until at most some are kept.
+fn put_all_but<K: Ord + Drop, V: Drop>(
+    kept: usize,
+    map: &mut BTreeMap<K, V>,
+    waiting: &mut VecDeque<(K, V)>,
+) -> M<()>
+    ensures entries { OnOk result (all_put K.cmp map.new.entries waiting.new.items
+        ≡ all_put K.cmp map.old.entries waiting.old.items) }
+    ensures kept { OnOk result (length waiting.new.items ≤ kept) }
+    ensures ascending { IsAscending K.cmp waiting.old.items
+        → IsAscending K.cmp waiting.new.items }
+{
+    while waiting.len() > kept {
+        let Some((key, value)) = waiting.pop_front() else {
+            return Ok(());
+        };
+        put(map, key, value)?;
+    }
+    Ok(())
+}
+
+/// Puts the pairs that wait into a map, unless a key is greater than those of all of them.
+fn make_way<K: Ord + Drop, V: Drop>(
+    key: &K,
+    map: &mut BTreeMap<K, V>,
+    waiting: &mut VecDeque<(K, V)>,
+) -> M<()>
+    ensures entries { OnOk result (all_put K.cmp map.new.entries waiting.new.items
+        ≡ all_put K.cmp map.old.entries waiting.old.items) }
+    ensures behind { OnOk result (IsAscending K.cmp waiting.old.items
+        → All (λ pair. K.cmp pair.0 key.now ≡ Less) waiting.new.items) }
+    ensures ascending { IsAscending K.cmp waiting.old.items
+        → IsAscending K.cmp waiting.new.items }
+{
+    if is_behind(waiting, key) {
+        return Ok(());
+    }
+    put_all_but(0, map, waiting)
+}
+
 impl<K: Ord + Drop, V: Drop> Filling<K, V> {
     /// An empty map.
     pub(crate) fn new(alloc: Global) -> Filling<K, V>
-        ensures entries { all_put K.cmp result.map.entries result.waiting.items ≡ [] }
-        ensures ascending { IsAscending K.cmp result.waiting.items }
+        ensures { result ≡ [] }
     {
         Filling {
             map: BTreeMap::new(alloc),
@@ -40,99 +99,24 @@ impl<K: Ord + Drop, V: Drop> Filling<K, V> {
         }
     }
 
-    /// Whether a key is greater than those of all pairs that wait.
-    fn is_behind(&self, key: &K) -> bool
-        requires { IsAscending K.cmp self.now.waiting.items }
-        ensures { result ≡ true → All (λ pair. K.cmp pair.0 key.now ≡ Less) self.now.waiting.items }
-    {
-        match self.waiting.back() {
-            None => true,
-            Some(pair) => matches!(pair.0.cmp(key), Ordering::Less),
-        }
-    }
-
-    /// Puts all pairs that wait.
-    fn put_waiting(&mut self) -> M<()>
-        ensures entries { OnOk result (self.new.map.entries
-            ≡ all_put K.cmp self.old.map.entries self.old.waiting.items) }
-        ensures none_waits { OnOk result (self.new.waiting.items ≡ []) }
-    {
-        while let Some((key, value)) = self.waiting.pop_front() {
-            put(&mut self.map, key, value)?;
-        }
-        Ok(())
-    }
-
-    /// Puts the pairs that wait, unless a key is greater than those of all of them.
-    fn make_way(&mut self, key: &K) -> M<()>
-        requires { IsAscending K.cmp self.old.waiting.items }
-        ensures entries { OnOk result (all_put K.cmp self.new.map.entries self.new.waiting.items
-            ≡ all_put K.cmp self.old.map.entries self.old.waiting.items) }
-        ensures ascending { OnOk result (IsAscending K.cmp self.new.waiting.items) }
-        ensures behind { OnOk result
-            (All (λ pair. K.cmp pair.0 key.now ≡ Less) self.new.waiting.items) }
-    {
-        if self.is_behind(key) {
-            return Ok(());
-        }
-        self.put_waiting()?;
-        Ok(())
-    }
-
-    /// Puts the first of the pairs that wait.
-    fn put_first(&mut self) -> M<()>
-        requires { IsAscending K.cmp self.old.waiting.items }
-        ensures entries { OnOk result (all_put K.cmp self.new.map.entries self.new.waiting.items
-            ≡ all_put K.cmp self.old.map.entries self.old.waiting.items) }
-        ensures ascending { OnOk result (IsAscending K.cmp self.new.waiting.items) }
-    {
-        let Some((key, value)) = self.waiting.pop_front() else {
-            return Ok(());
-        };
-        put(&mut self.map, key, value)?;
-        Ok(())
-    }
-
-    /// Has a pair wait that comes behind all that do. Where too many wait, the first of them is put.
-    #[tactic(auto, using(crate::proofs::FillingLemmas::pushed))]
-    fn wait(&mut self, key: K, value: V) -> M<()>
-        requires ascending { IsAscending K.cmp self.old.waiting.items }
-        requires behind { All (λ pair. K.cmp pair.0 key ≡ Less) self.old.waiting.items }
-        ensures entries { OnOk result (all_put K.cmp self.new.map.entries self.new.waiting.items
-            ≡ insert_entry K.cmp (all_put K.cmp self.old.map.entries self.old.waiting.items)
-            key value) }
-        ensures ascending { OnOk result (IsAscending K.cmp self.new.waiting.items) }
-    {
-        self.waiting.push_back((key, value))?;
-        if self.waiting.len() > MOST_WAITING {
-            self.put_first()?;
-        }
-        Ok(())
-    }
-
     /// Puts a pair, at once or later.
     pub(crate) fn put(&mut self, key: K, value: V) -> M<()>
-        requires { IsAscending K.cmp self.old.waiting.items }
-        ensures entries { OnOk result (all_put K.cmp self.new.map.entries self.new.waiting.items
-            ≡ insert_entry K.cmp (all_put K.cmp self.old.map.entries self.old.waiting.items)
-            key value) }
-        ensures ascending { OnOk result (IsAscending K.cmp self.new.waiting.items) }
+        ensures { OnOk result (self.new ≡ insert_entry K.cmp self.old key value) }
     {
-        self.make_way(&key)?;
+        make_way(&key, &mut self.map, &mut self.waiting)?;
         self.has_waited = !self.has_waited;
-        if self.has_waited {
-            return self.wait(key, value);
+        if !self.has_waited {
+            return put(&mut self.map, key, value);
         }
-        put(&mut self.map, key, value)?;
-        Ok(())
+        self.waiting.push_back((key, value))?;
+        put_all_but(MOST_WAITING, &mut self.map, &mut self.waiting)
     }
 
     /// The map of all pairs.
     pub(crate) fn finish(mut self) -> M<BTreeMap<K, V>>
-        ensures { IfOk result (λ map. map.entries
-            ≡ all_put K.cmp self.map.entries self.waiting.items) }
+        ensures { IfOk result (λ map. map.entries ≡ self) }
     {
-        self.put_waiting()?;
+        put_all_but(0, &mut self.map, &mut self.waiting)?;
         Ok(self.map)
     }
 }

@@ -3,7 +3,8 @@
 //! [`fragment_from_json`] reads a text, and [`fragment_from_slice`] its bytes. Each declaration
 //! keeps where it stands in the text. A refusal ([`JsonSchemaFault`]) says what is wrong and where
 //! ([`Place`], [`FaultKind`]). [`cedar_extensions`] gives Cedar's own extension types and
-//! functions.
+//! functions. [`place_of`] and [`second_place_of`] say where to point in the text for a refusal of
+//! the builder, by a table of what is written in it ([`Places`]).
 #![tactic(auto)]
 
 mod action_reading;
@@ -16,6 +17,7 @@ mod fault;
 mod fields;
 mod filling;
 mod place_table;
+mod places;
 mod repeated_keys;
 mod spelling;
 mod stop;
@@ -27,5 +29,6 @@ mod value_reading;
 
 pub use extensions::cedar_extensions;
 pub use fault::{FaultKind, Row, Step, Wanted};
+pub use places::{Places, Written, WrittenAt, place_of, second_place_of};
 pub use text_reading::{JsonSchemaFault, fragment_from_json, fragment_from_slice};
 pub use value_place::Place;

@@ -20,7 +20,7 @@ pub(crate) struct Stop {
 }
 
 /// The kinds of value that hold others.
-#[derive(Clone, Copy, Drop, PartialEq, Eq)]
+#[derive(Clone, Copy)]
 enum Part {
     Array,
     Object,
@@ -53,9 +53,10 @@ impl Nesting {
     /// Whether a token may stand at the place.
     fn fits(&self, token: &Token<'_>) -> bool {
         match token {
-            Token::Key(_) => !self.has_key && self.innermost() == Some(Part::Object),
-            Token::EndObject => !self.has_key && self.innermost() == Some(Part::Object),
-            Token::EndArray => self.innermost() == Some(Part::Array),
+            Token::Key(_) | Token::EndObject => {
+                !self.has_key && matches!(self.innermost(), Some(Part::Object))
+            }
+            Token::EndArray => matches!(self.innermost(), Some(Part::Array)),
             Token::BeginArray
             | Token::BeginObject
             | Token::String(_)

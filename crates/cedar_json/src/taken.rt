@@ -1,19 +1,22 @@
 //! What JSON values describe that go while they are read: where much is declared, the value of a
 //! text and what it describes don't take memory at one time.
 
-ghost use Rattle.std.specs.Prelude.{◌≡◌, ◌≢◌, ◌⊎◌, [], List, Option, Some, None, MatchResult, IfErr, map, option_and_then, option_map};
-ghost use Rattle.json.specs.Find.{get};
+ghost use Rattle.std.specs.Prelude.{◌≡◌, ◌≢◌, ◌⊎◌, [], List, Option, Some, None, false, MatchResult, IfErr, map, option_and_then, option_map};
+ghost use Rattle.std.specs.Str.{bytes_eq};
+ghost use Rattle.std.specs.declared.cmp.Ordering.{Ordering};
+ghost use Rattle.json.specs.Find.{get, get_member};
 ghost use Rattle.json.specs.Json.{Json, object};
 ghost use Rattle.json.specs.Value.{members_view, value_view};
-ghost use Rattle.cedar_json.specs.Words.{IsTrueOf, entries_in, entries_of, field_or, member_at};
+ghost use Rattle.cedar_json.specs.Words.{IsTrueOf, Text, entries_in, entries_of, field_or, member_at, optional};
 
-use crate::described::Key;
+use crate::described::written;
 use crate::fault::{Fault, FaultKind, Wanted};
 use crate::filling::Filling;
 use crate::place_table::Cursor;
 use json::Value;
 use std::alloc::Global;
 use std::collections::BTreeMap;
+use std::mem;
 
 /// What a JSON value describes that goes while it is read.
 ///
@@ -25,12 +28,39 @@ pub(crate) trait Taken: Sized {
 
     ghost shown: { Self → Plain };
 
-    /// What the value describes.
-    fn take(alloc: Global, value: Value<'_>, cursor: Cursor<'_>) -> Result<Self, Fault>
+    /// What the value describes, of which anything may be left.
+    fn take(alloc: Global, value: &mut Value<'_>, cursor: Cursor<'_>) -> Result<Self, Fault>
         ensures value { MatchResult result
-            (λ it. describes (value_view value.entry) ≡ Some (shown it))
-            (λ fault. fault ≢ Fault.Memory → describes (value_view value.entry) ≡ None) }
-        ensures place { IfErr result (λ fault. IsTrueOf fault (value_view value.entry)) };
+            (λ it. describes (value_view value.old) ≡ Some (shown it))
+            (λ fault. fault ≢ Fault.Memory → describes (value_view value.old) ≡ None) }
+        ensures place { IfErr result (λ fault. IsTrueOf fault (value_view value.old)) };
+}
+
+/// What a key of an object stands for, under which a map holds what the member describes.
+///
+/// The ghost members are the plain data of keys with their order, what a text stands for, and what
+/// a key does.
+pub(crate) trait Key: Ord {
+    ghost PlainKey: { Type 0 };
+
+    ghost order: { PlainKey → PlainKey → Ordering };
+
+    ghost key_of: { Text → Option PlainKey };
+
+    ghost shown_key: { Self → PlainKey };
+
+    /// What the key of the member at an index stands for.
+    fn read_key(alloc: Global, key: &str, index: usize, cursor: Cursor<'_>) -> Result<Self, Fault>
+    where
+        Self: Sized,
+        ensures value { MatchResult result
+            (λ it. key_of key.now ≡ Some (shown_key it))
+            (λ fault. fault ≢ Fault.Memory → key_of key.now ≡ None) }
+        ensures place { IfErr result (λ fault. (j held : Json) → member_at index j
+            ≡ Some (key.now, held)
+            → IsTrueOf fault j) };
+
+    ghost same_order: { (a b : Self) → Self.cmp a b ≡ order (shown_key a) (shown_key b) };
 }
 
 /// What the member at an index describes, under what its key stands for.
@@ -49,9 +79,11 @@ fn take_entry<K: Key + Drop, T: Taken + Drop>(
         ≡ Some (member.entry.0.now, value_view member.entry.1)
         → IsTrueOf fault j) }
 {
-    let (name, value) = member;
+    let (name, mut value) = member;
     let key = K::read_key(alloc, name, index, cursor)?;
-    match T::take(alloc, value, cursor) {
+    let taken = T::take(alloc, &mut value, cursor);
+    drop(value);
+    match taken {
         Ok(it) => Ok((key, it)),
         Err(fault) => Err(fault.in_member(index)),
     }
@@ -89,57 +121,131 @@ impl<K: Key + Drop, T: Taken + Drop> Taken for BTreeMap<K, T> {
 
     ghost shown = { λ all. map (λ entry. (K.shown_key entry.0, T.shown entry.1)) all.entries };
 
-    fn take(alloc: Global, value: Value<'_>, cursor: Cursor<'_>) -> Result<BTreeMap<K, T>, Fault> {
-        match value {
+    fn take(
+        alloc: Global,
+        value: &mut Value<'_>,
+        cursor: Cursor<'_>,
+    ) -> Result<BTreeMap<K, T>, Fault> {
+        match mem::replace(value, Value::Null) {
             Value::Object(members) => take_entries::<K, T>(alloc, members, cursor),
             _ => Err(Fault::here(alloc, FaultKind::Wants(Wanted::Object))),
         }
     }
 }
 
-/// What a field describes, of which the value is given.
+/// Takes what the members of a name hold, which hold `null` from then on: that of the last of them.
+fn take_member<'a>(members: &mut Vec<(&'a str, Value<'a>)>, name: &str) -> Option<Value<'a>>
+    ensures held { option_map value_view result
+        ≡ get_member name.now (members_view members.old.items) }
+    ensures others { (other : Text) → bytes_eq name.now other ≡ false
+        → get_member other (members_view members.new.items)
+        ≡ get_member other (members_view members.old.items) }
+{
+    let mut held = None;
+    for member in members.iter_mut() {
+        if member.0 != name {
+            continue;
+        }
+        held = Some(mem::replace(&mut member.1, Value::Null));
+    }
+    held
+}
+
+/// Takes what a field holds, which holds `null` from then on.
+fn take_held<'a>(value: &mut Value<'a>, name: &str) -> Option<Value<'a>>
+    ensures held { option_map value_view result ≡ get name.now (value_view value.old) }
+    ensures others { (other : Text) → bytes_eq name.now other ≡ false
+        → get other (value_view value.new) ≡ get other (value_view value.old) }
+{
+    match mem::replace(value, Value::Null) {
+        Value::Object(mut members) => {
+            let held = take_member(&mut members, name);
+            *value = Value::Object(members);
+            held
+        }
+        other => {
+            *value = other;
+            None
+        }
+    }
+}
+
+/// What a field describes, which is taken out of its object.
 pub(crate) fn taken_field<T: Taken + Drop>(
     alloc: Global,
-    held: Option<Value<'_>>,
+    value: &mut Value<'_>,
     name: &'static str,
     cursor: Cursor<'_>,
 ) -> Result<T, Fault>
     ensures value { MatchResult result
-        (λ it. option_and_then T.describes (option_map value_view held.entry) ≡ Some (T.shown it))
+        (λ it. option_and_then T.describes (get name.now (value_view value.old))
+        ≡ Some (T.shown it))
         (λ fault. fault ≢ Fault.Memory
-        → option_and_then T.describes (option_map value_view held.entry) ≡ None) }
+        → option_and_then T.describes (get name.now (value_view value.old)) ≡ None) }
     ensures place { IfErr result (λ fault. (j : Json)
-        → get name.now j ≡ option_map value_view held.entry
+        → get name.now j ≡ get name.now (value_view value.old)
         → IsTrueOf fault j) }
+    ensures others { (other : Text) → bytes_eq name.now other ≡ false
+        → get other (value_view value.new) ≡ get other (value_view value.old) }
 {
-    let Some(value) = held else {
-        return Err(Fault::here(alloc, FaultKind::Missing(name)));
-    };
-    match T::take(alloc, value, cursor) {
-        Ok(it) => Ok(it),
-        Err(fault) => Err(fault.within(name)),
+    let at = cursor.field(value, name);
+    match take_held(value, name) {
+        Some(mut held) => match T::take(alloc, &mut held, at) {
+            Ok(it) => Ok(it),
+            Err(fault) => Err(fault.within(name)),
+        },
+        None => Err(Fault::here(alloc, FaultKind::Missing(name))),
     }
 }
 
 /// The same of a field that may be absent, with what its absence means.
 pub(crate) fn taken_or_else<T: Taken + Drop>(
     alloc: Global,
-    held: Option<Value<'_>>,
+    value: &mut Value<'_>,
     name: &'static str,
     absent: T,
     cursor: Cursor<'_>,
 ) -> Result<T, Fault>
     ensures value { MatchResult result
-        (λ it. field_or (T.shown absent) T.describes (option_map value_view held.entry)
+        (λ it. field_or (T.shown absent) T.describes (get name.now (value_view value.old))
         ≡ Some (T.shown it))
         (λ fault. fault ≢ Fault.Memory
-        → field_or (T.shown absent) T.describes (option_map value_view held.entry) ≡ None) }
+        → field_or (T.shown absent) T.describes (get name.now (value_view value.old)) ≡ None) }
     ensures place { IfErr result (λ fault. (j : Json)
-        → get name.now j ≡ option_map value_view held.entry
+        → get name.now j ≡ get name.now (value_view value.old)
         → IsTrueOf fault j) }
+    ensures others { (other : Text) → bytes_eq name.now other ≡ false
+        → get other (value_view value.new) ≡ get other (value_view value.old) }
 {
-    match held {
+    match value.get(name) {
         None => Ok(absent),
-        held => taken_field(alloc, held, name, cursor),
+        Some(_) => taken_field(alloc, value, name, cursor),
+    }
+}
+
+/// The same of a field that may be absent or `null`, or None there.
+pub(crate) fn taken_unless_null<T: Taken + Drop>(
+    alloc: Global,
+    value: &mut Value<'_>,
+    name: &'static str,
+    cursor: Cursor<'_>,
+) -> Result<Option<T>, Fault>
+    ensures value { MatchResult result
+        (λ it. optional T.describes (get name.now (value_view value.old))
+        ≡ Some (option_map T.shown it))
+        (λ fault. fault ≢ Fault.Memory
+        → optional T.describes (get name.now (value_view value.old)) ≡ None) }
+    ensures place { IfErr result (λ fault. (j : Json)
+        → get name.now j ≡ get name.now (value_view value.old)
+        → IsTrueOf fault j) }
+    ensures others { (other : Text) → bytes_eq name.now other ≡ false
+        → get other (value_view value.new) ≡ get other (value_view value.old) }
+{
+    match written(value, name) {
+        None => Ok(None),
+        Some(_) => match taken_field(alloc, value, name, cursor) {
+            Ok(it) => Ok(Some(it)),
+            Err(fault) => Err(fault),
+        },
     }
 }

@@ -4,7 +4,7 @@ ghost use Rattle.std.specs.Prelude.{◌≡◌, ◌≢◌, Some, IfErr, IfOk, IsS
 ghost use Rattle.json.specs.Json.{document};
 ghost use Rattle.json.specs.Strict.{HasUniqueKeys};
 ghost use Rattle.json.specs.Value.{value_view};
-ghost use Rattle.cedar_json.specs.Words.{Describes, IsFaultOf, IsTrueOf, WrittenFragment, fragment_of, written_fragment};
+ghost use Rattle.cedar_json.specs.Words.{Describes, IsFaultOf, IsRepeatIn, IsTrueOf, WrittenFragment, fragment_of, written_fragment};
 
 use crate::fault::{Fault, FaultKind, Step};
 use crate::place_table::Places;
@@ -66,6 +66,29 @@ fn not_json(alloc: Global, text: &str) -> JsonSchemaFault
     }
 }
 
+/// The refusal of a text with this value, in which the object to which the steps lead has the key
+/// of the member twice.
+fn repeat_at(
+    alloc: Global,
+    text: &str,
+    source: u32,
+    value: &Value<'_>,
+    steps: Vec<Step>,
+    member: usize,
+) -> JsonSchemaFault
+    requires { IsSomeAnd (document text.now) (λ j.
+        (¬ HasUniqueKeys j) × IsRepeatIn (Repeat.At steps member) j) }
+    ensures { IsFaultOf text.now result }
+{
+    let Ok(places) = Places::of(alloc, text, source) else {
+        return JsonSchemaFault::Memory;
+    };
+    match place_at(alloc, value, places.cursor(), steps, Some(member)) {
+        Ok(at) => JsonSchemaFault::TwiceInObject { at, member },
+        Err(_) => JsonSchemaFault::Memory,
+    }
+}
+
 /// The refusal of a text in which an object has a key twice.
 fn twice_in_object(alloc: Global, text: &str, source: u32) -> JsonSchemaFault
     requires { IsSomeAnd (document text.now) (λ j. ¬ HasUniqueKeys j) }
@@ -75,17 +98,9 @@ fn twice_in_object(alloc: Global, text: &str, source: u32) -> JsonSchemaFault
     let Ok(value) = Value::parse(alloc, text, &mut scratch) else {
         return JsonSchemaFault::Memory;
     };
-    let Ok(places) = Places::of(alloc, text, source) else {
-        return JsonSchemaFault::Memory;
-    };
     match check_keys(alloc, &value) {
         Ok(()) => unreachable!(),
-        Err(Repeat::At(steps, member)) => {
-            match place_at(alloc, &value, places.cursor(), steps, Some(member)) {
-                Ok(at) => JsonSchemaFault::TwiceInObject { at, member },
-                Err(_) => JsonSchemaFault::Memory,
-            }
-        }
+        Err(Repeat::At(steps, member)) => repeat_at(alloc, text, source, &value, steps, member),
         Err(Repeat::Memory) => JsonSchemaFault::Memory,
     }
 }
@@ -119,7 +134,7 @@ fn fragment_in(
     alloc: Global,
     text: &str,
     source: u32,
-    value: Value<'_>,
+    mut value: Value<'_>,
 ) -> Result<Fragment<RawName>, JsonSchemaFault>
     requires { document text.now ≡ Some (value_view value) }
     ensures fragment { IfOk result
@@ -131,7 +146,7 @@ fn fragment_in(
     let Ok(places) = Places::of(alloc, text, source) else {
         return Err(JsonSchemaFault::Memory);
     };
-    match Taken::take(alloc, value, places.cursor()) {
+    match Taken::take(alloc, &mut value, places.cursor()) {
         Ok(namespaces) => Ok(Fragment(namespaces)),
         Err(Fault::At(steps, fault)) => Err(out_of_shape(alloc, text, &places, steps, fault)),
         Err(Fault::Memory) => Err(JsonSchemaFault::Memory),

@@ -2,8 +2,7 @@
 
 use cedar_below::{EntityType, EntityUID, InternalName, Loc, Name};
 use cedar_declarations::{SchemaError, UnsupportedFeature};
-use cedar_json::fragment_from_json;
-use cedar_json_places::{Places, Written, WrittenAt, place_of, second_place_of};
+use cedar_json::{Places, Written, WrittenAt, fragment_from_json, place_of, second_place_of};
 use std::alloc::{AllocError, Global};
 use std::fmt::Write;
 use std::test::Fail;

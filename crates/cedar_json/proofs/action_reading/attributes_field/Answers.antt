@@ -8,5 +8,5 @@ use Rattle.cedar_json.proofs.action_reading.attributes_field.Goals as goal
 
 pub returns-clause-value : goal.returns-clause-value
 returns-clause-value c =
-    subst (λ held. MatchResult c.optional_field.result (λ all. held ≡ Some (option_map written_pairs all)) (λ fault. fault ≢ Memory → held ≡ None))
-    (optional-pairs (get (codes "attributes") (value_view c.args.value.now))) c.optional_field.ensures.value
+    subst (λ held. MatchResult c.taken_unless_null.result (λ all. held ≡ Some (option_map written_pairs all)) (λ fault. fault ≢ Memory → held ≡ None))
+    (optional-pairs (get (codes "attributes") (value_view c.args.value.now))) c.taken_unless_null.ensures.value

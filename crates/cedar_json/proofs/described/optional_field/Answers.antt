@@ -1,4 +1,4 @@
-use Rattle.std.proofs.Common.{sym}
+use Rattle.std.proofs.Common.{sym, ◌∙◌}
 use Rattle.json.specs.Find.{get}
 use Rattle.json.specs.Value.{value_view}
 use Rattle.cedar_json.proofs.ActionLemmas.{unless_null-held}
@@ -6,6 +6,6 @@ use Rattle.cedar_json.proofs.described.optional_field.Goals as goal
 
 pub returns-in-Err-clause-place : goal.returns-in-Err-clause-place
 returns-in-Err-clause-place g c =
-    let j = value_view c.args.value.now in
+    let held = get c.args.name.now (value_view c.args.value.now) in
     let k = value_view c.in-Some.held.now in
-    c.within.ensures.place j k (unless_null-held (get c.args.name.now j) k (sym c.in-Some.ensures)) c.in-Err.ensures.place
+    λ j same. c.within.ensures.place j k (same ∙ unless_null-held held k (sym c.in-Some.ensures)) c.in-Err.ensures.place

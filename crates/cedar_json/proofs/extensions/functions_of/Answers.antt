@@ -14,8 +14,8 @@ spelled-requires c = (row_at c.args.rows.now c.loop-row.row-index blank c.loop-r
 
 pub loop-row-preserved : goal.loop-row-preserved
 loop-row-preserved c = record {
-  made = row_more c.args.rows.now c.loop-row.row-index blank c.loop-row.all.entries c.put.new.map.entries c.in_ok-spelled.field-0
-      c.in_ok-function.function c.loop-row-test.true c.loop-row.invariant.made c.in_ok-spelled.ensures c.in_ok-function.ensures (search rules);
+  made = row_more c.args.rows.now c.loop-row.row-index blank c.loop-row.all.entries c.put.new.map.entries c.in_ok-name.name
+      c.in_ok-function_of.field-0 c.loop-row-test.true c.loop-row.invariant.made c.in_ok-name.ensures c.in_ok-function_of.ensures (search rules);
   left = (row_at c.args.rows.now c.loop-row.row-index blank c.loop-row-test.true c.loop-row.invariant.left).1;
 }
 

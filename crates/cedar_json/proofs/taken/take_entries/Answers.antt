@@ -8,7 +8,7 @@ use Rattle.json.specs.Value.{members_view}
 use Rattle.json.specs.declared.value.Value.{Value}
 use Rattle.cedar_json.proofs.DefinitionLemmas.{entry_more, left_after, left_here, no_entry, no_key, none_left}
 use Rattle.cedar_json.proofs.FieldLemmas.{nth_member-left}
-use Rattle.cedar_json.specs.Words.{Text, all_put, nth_member}
+use Rattle.cedar_json.specs.Words.{Text, nth_member}
 use Rattle.cedar_json.proofs.taken.take_entries.Goals as goal
 
 abbrev Held : Type 0
@@ -41,11 +41,10 @@ loop-index-preserved g c =
     let here = left_here all left after i x c.loop-index.invariant.1 steps.0.0 in
     let entry = c.in_ok-entry.entry in (
       rw steps.2 (entry_more g.K.Ord.cmp is.order is.shown_key held.shown g.met.K.Key.same_order is.key_of held.describes all i x
-          (all_put g.K.Ord.cmp c.loop-index.all.map.entries c.loop-index.all.waiting.items) here c.loop-index.invariant.0 entry.0 entry.1
-          (all_put g.K.Ord.cmp c.put.new.self.map.entries c.put.new.self.waiting.items) c.in_ok-entry.ensures.value.0 c.in_ok-entry.ensures.value.1
+          c.loop-index.all here c.loop-index.invariant.0 entry.0 entry.1
+          c.put.new.self c.in_ok-entry.ensures.value.0 c.in_ok-entry.ensures.value.1
           (search rules)),
       left_after all left after i (enumerate_count c.next.new.self) x c.loop-index.invariant.1 steps.0.0 steps.2,
-      search rules,
     )
 
 -- where one member describes nothing, all together describe nothing
@@ -58,7 +57,7 @@ returns-in_err-entry-clause-value g c =
     let i = enumerate_count c.loop-index.index-iterator in
     let left = into_iter_items (enumerate_source c.loop-index.index-iterator) in
     let after = into_iter_items (enumerate_source c.next.new.self) in
-    let filled = all_put g.K.Ord.cmp c.loop-index.all.map.entries c.loop-index.all.waiting.items in
+    let filled = c.loop-index.all in
     let here = left_here all left after i x c.loop-index.invariant.1 c.in-Some.ensures.steps.0.0 in
     let p = err_from_is_err_and c.from_residual.result c.from_residual.ensures.1 in
     rw (p.1, p.2) (λ other. elim (c.in_err-entry.ensures.value other) [
@@ -74,7 +73,7 @@ returns-clause-value g c =
     let is = g.K.Key in
     let held = g.T.Taken in
     let left = enumerate_source c.loop-index.index-iterator in
-    let filled = all_put g.K.Ord.cmp c.loop-index.all.map.entries c.loop-index.all.waiting.items in
+    let filled = c.loop-index.all in
     let end = c.loop-index.invariant.1 ∙ nil_from_length (into_iter_items left) (sym left.rest.ok.0 ∙ c.in-None.ensures.steps.0.0) in
     let made : c.in_ok-map.map.entries ≡ filled = c.in_ok-map.ensures in
     rw made (none_left g.K.Ord.cmp is.order is.shown_key held.shown g.met.K.Key.same_order is.key_of held.describes c.args.members.items

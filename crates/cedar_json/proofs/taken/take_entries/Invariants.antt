@@ -2,7 +2,7 @@ use Rattle.std.proofs.Common.{◌≡◌, [], drop, map}
 use Rattle.std.specs.Iterator.Adapters.{enumerate_count, enumerate_source}
 use Rattle.std.specs.Vec.Iter.{into_iter_items}
 use Rattle.json.specs.Value.{members_view}
-use Rattle.cedar_json.specs.Words.{IsAscending, all_put, entries_of}
+use Rattle.cedar_json.specs.Words.{entries_of}
 use Rattle.cedar_json.proofs.taken.take_entries.Given as goal
 
 abbrev pub invariant-loop-index : goal.invariant-loop-index
@@ -13,6 +13,5 @@ invariant-loop-index g l =
     let left = drop (enumerate_count l.index-iterator) all in
     (entries_of is.order is.key_of held.describes (members_view all) []
     ≡ entries_of is.order is.key_of held.describes (members_view left)
-    (map (λ entry. (is.shown_key entry.0, held.shown entry.1)) (all_put g.K.Ord.cmp l.all.map.entries l.all.waiting.items)))
+    (map (λ entry. (is.shown_key entry.0, held.shown entry.1)) l.all))
     × (left ≡ into_iter_items (enumerate_source l.index-iterator))
-    × IsAscending g.K.Ord.cmp l.all.waiting.items

@@ -1,2 +1,0 @@
-mod InTurn
-mod TypeMarkLemmas
