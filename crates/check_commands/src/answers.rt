@@ -158,9 +158,5 @@ pub(crate) fn environment_lines(
 ) -> M<String> {
     let mut lines = lines_of(alloc, schema, wanted)?;
     lines.sort()?;
-    let mut text = String::new(alloc);
-    for line in &lines {
-        text.push_str(line.as_str())?;
-    }
-    Ok(text)
+    Ok(lines.concat(alloc)?)
 }

@@ -3,9 +3,11 @@
 use crate::files::FileAccess;
 use crate::finding::{Finding, Source, file_of};
 use crate::outcome::{Manner, Stop, refused};
-use crate::reading::{ReadFiles, fragment_of, well_formed};
-use cedar_below::{Loc, M};
-use cedar_json::{Places, cedar_extensions, place_of, second_place_of};
+use crate::reading::{ReadFiles, source_number, well_formed};
+use cedar_below::{Loc, M, Memory};
+use cedar_json::{
+    JsonSchemaFault, Places, cedar_extensions, fragment_from_json, place_of, second_place_of,
+};
 use cedar_names::json_schema::{Fragment, RawName};
 use cedar_schema::{SchemaError, ValidatorSchema};
 use std::alloc::Global;
@@ -28,17 +30,21 @@ struct TwoPlaces {
     second: Option<Loc>,
 }
 
-/// The places of a refusal that a file has.
+/// The places of a refusal that a fragment has.
+fn places_of(alloc: Global, fragment: &Fragment<RawName>, error: &SchemaError) -> M<TwoPlaces> {
+    let places = Places::of(alloc, fragment)?;
+    Ok(TwoPlaces {
+        first: place_of(&places, error),
+        second: second_place_of(&places, error),
+    })
+}
+
+/// The places of a refusal that a file has, of which the text is read once more.
 fn places_in(alloc: Global, file: usize, source: &Source, error: &SchemaError) -> M<TwoPlaces> {
-    match fragment_of(alloc, file, source)? {
-        Some(fragment) => {
-            let places = Places::of(alloc, &fragment)?;
-            Ok(TwoPlaces {
-                first: place_of(&places, error),
-                second: second_place_of(&places, error),
-            })
-        }
-        None => Ok(TwoPlaces {
+    match fragment_from_json(alloc, source.text.as_str(), source_number(file)) {
+        Ok(fragment) => places_of(alloc, &fragment, error),
+        Err(JsonSchemaFault::Memory) => Err(Memory),
+        Err(_) => Ok(TwoPlaces {
             first: None,
             second: None,
         }),

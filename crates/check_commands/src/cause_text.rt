@@ -1,11 +1,11 @@
 //! Why one version of a schema lacks what another admits, in words.
 
 use crate::sides::Sides;
-use crate::steps::{attribute_path, parting_text, path_from};
+use crate::steps::{Part, attribute_path, parting_text, path_from};
 use cedar_below::{EntityType, EntityUID, M};
 use cedar_compare::{Cause, Difference};
 use cedar_counterexample::Step;
-use cedar_schema::{TCNode, Type, ValidatorEntityType, ValidatorSchema};
+use cedar_schema::{TCNode, ValidatorSchema};
 use std::alloc::Global;
 
 /// The cause of a difference.
@@ -14,15 +14,6 @@ fn cause_of(difference: &Difference) -> &Cause {
         Difference::EntityType { cause, .. } => cause,
         Difference::Action { cause, .. } => cause,
         Difference::Environment { cause, .. } => cause,
-    }
-}
-
-/// The entity type of the entity that a difference names, or of the principal of its request.
-fn type_of(difference: &Difference) -> &EntityType {
-    match difference {
-        Difference::EntityType { witness, .. } => witness.uid().entity_type(),
-        Difference::Action { witness, .. } => witness.uid().entity_type(),
-        Difference::Environment { witness, .. } => witness.principal.entity_type(),
     }
 }
 
@@ -51,7 +42,7 @@ fn gone_text(alloc: Global, sides: &Sides<'_>, difference: &Difference) -> M<Str
         Difference::Action { .. } => "has no such action",
         Difference::Environment { .. } => "has no such environment",
     };
-    Ok(format!(in alloc; "{} {words}", sides.other_name)?)
+    sides.said(alloc, words)
 }
 
 /// Whether a schema lists an action below another.
@@ -70,74 +61,35 @@ fn upper_text(alloc: Global, sides: &Sides<'_>, lower: &EntityUID, upper: &Entit
     Ok(format!(in alloc; "{upper} is above it in {} alone", sides.other_name)?)
 }
 
-/// The record of the attributes of an entity type.
-fn record_of(declared: &ValidatorEntityType) -> M<Type> {
-    Ok(Type::Record {
-        attrs: declared.attributes().clone()?,
-        open_attributes: declared.open_attributes(),
-    })
-}
-
-/// What is said of the attributes of an entity type.
-fn attributes_words(
-    alloc: Global,
-    sides: &Sides<'_>,
-    name: &EntityType,
-    steps: &[Step],
-) -> M<String> {
-    let Some(own) = sides.own.get_entity_type(name) else {
-        return gone_type(alloc, sides);
-    };
-    let Some(other) = sides.other.get_entity_type(name) else {
-        return gone_type(alloc, sides);
-    };
-    parting_text(alloc, sides, &record_of(own)?, &record_of(other)?, steps)
-}
-
-/// That the other version has no such entity type.
-fn gone_type(alloc: Global, sides: &Sides<'_>) -> M<String> {
-    Ok(format!(in alloc; "{} has no such entity type", sides.other_name)?)
+/// The attributes of an entity type, if there is one.
+fn attributes_of<'a>(schema: &'a ValidatorSchema, name: &EntityType) -> Option<Part<'a>> {
+    let declared = schema.get_entity_type(name)?;
+    Some(Part::Attributes(declared.attributes()))
 }
 
 /// The type of the tags of an entity type, if it has some.
-fn tags_of<'a>(schema: &'a ValidatorSchema, name: &EntityType) -> Option<&'a Type> {
-    schema.get_entity_type(name)?.tag_type()
+fn tags_of<'a>(schema: &'a ValidatorSchema, name: &EntityType) -> Option<Part<'a>> {
+    let tags = schema.get_entity_type(name)?.tag_type()?;
+    Some(Part::Type(tags))
 }
 
-/// What is said of two types that a schema may lack, and of the other version where it lacks one.
-fn types_words(
+/// The type of the context of an action, if there is one.
+fn context_of<'a>(schema: &'a ValidatorSchema, uid: &EntityUID) -> Option<Part<'a>> {
+    Some(Part::Type(schema.context_type(uid)?))
+}
+
+/// What is said of two parts that a schema may lack, and of the other version where it lacks one.
+fn parts_words(
     alloc: Global,
     sides: &Sides<'_>,
-    own: Option<&Type>,
-    other: Option<&Type>,
+    parts: (Option<Part<'_>>, Option<Part<'_>>),
     steps: &[Step],
     lacking: &str,
 ) -> M<String> {
-    match (own, other) {
+    match parts {
         (Some(own), Some(other)) => parting_text(alloc, sides, own, other, steps),
-        _ => Ok(format!(in alloc; "{} {lacking}", sides.other_name)?),
+        _ => sides.said(alloc, lacking),
     }
-}
-
-/// A path, and what is said of the types at its end.
-fn with_path(alloc: Global, path: String, words: String) -> M<String> {
-    Ok(format!(in alloc; "{path}: {words}")?)
-}
-
-/// What is said of the tags of an entity type, with the path.
-fn tags_text(alloc: Global, sides: &Sides<'_>, name: &EntityType, steps: &[Step]) -> M<String> {
-    let own = tags_of(sides.own, name);
-    let other = tags_of(sides.other, name);
-    let words = types_words(alloc, sides, own, other, steps, "has no tags")?;
-    with_path(alloc, path_from(alloc, "tags", steps)?, words)
-}
-
-/// What is said of the context of an action, with the path.
-fn context_text(alloc: Global, sides: &Sides<'_>, uid: &EntityUID, steps: &[Step]) -> M<String> {
-    let own = sides.own.context_type(uid);
-    let other = sides.other.context_type(uid);
-    let words = types_words(alloc, sides, own, other, steps, "has no such action")?;
-    with_path(alloc, path_from(alloc, "context", steps)?, words)
 }
 
 /// What is said of the attributes of an entity type, with the path.
@@ -147,13 +99,49 @@ fn attributes_text(
     name: &EntityType,
     steps: &[Step],
 ) -> M<String> {
-    let words = attributes_words(alloc, sides, name, steps)?;
-    with_path(alloc, attribute_path(alloc, steps)?, words)
+    let parts = (
+        attributes_of(sides.own, name),
+        attributes_of(sides.other, name),
+    );
+    let words = parts_words(alloc, sides, parts, steps, "has no such entity type")?;
+    let path = attribute_path(alloc, steps)?;
+    Ok(format!(in alloc; "{path}: {words}")?)
+}
+
+/// What is said of two types that a schema may lack, with the path from what a word names.
+fn types_text(
+    alloc: Global,
+    sides: &Sides<'_>,
+    parts: (Option<Part<'_>>, Option<Part<'_>>),
+    steps: &[Step],
+    (word, lacking): (&str, &str),
+) -> M<String> {
+    let words = parts_words(alloc, sides, parts, steps, lacking)?;
+    let path = path_from(alloc, word, steps)?;
+    Ok(format!(in alloc; "{path}: {words}")?)
+}
+
+/// What is said of the tags of an entity type, with the path.
+fn tags_text(alloc: Global, sides: &Sides<'_>, name: &EntityType, steps: &[Step]) -> M<String> {
+    let parts = (tags_of(sides.own, name), tags_of(sides.other, name));
+    types_text(alloc, sides, parts, steps, ("tags", "has no tags"))
+}
+
+/// What is said of the context of an action, with the path.
+fn context_text(alloc: Global, sides: &Sides<'_>, uid: &EntityUID, steps: &[Step]) -> M<String> {
+    let parts = (context_of(sides.own, uid), context_of(sides.other, uid));
+    types_text(
+        alloc,
+        sides,
+        parts,
+        steps,
+        ("context", "has no such action"),
+    )
 }
 
 /// Why the other version lacks what a difference names.
 pub(crate) fn cause_text(alloc: Global, sides: &Sides<'_>, difference: &Difference) -> M<String> {
-    let (name, uid) = (type_of(difference), uid_of(difference));
+    let uid = uid_of(difference);
     match cause_of(difference) {
         Cause::Gone => gone_text(alloc, sides, difference),
         Cause::Choice(choice) => {
@@ -163,8 +151,8 @@ pub(crate) fn cause_text(alloc: Global, sides: &Sides<'_>, difference: &Differen
             Ok(format!(in alloc; "{upper} isn't above it in {}", sides.other_name)?)
         }
         Cause::AncestorAction(upper) => upper_text(alloc, sides, uid, upper),
-        Cause::Attributes(steps) => attributes_text(alloc, sides, name, steps),
-        Cause::Tags(steps) => tags_text(alloc, sides, name, steps),
+        Cause::Attributes(steps) => attributes_text(alloc, sides, uid.entity_type(), steps),
+        Cause::Tags(steps) => tags_text(alloc, sides, uid.entity_type(), steps),
         Cause::Context(steps) => context_text(alloc, sides, uid, steps),
     }
 }

@@ -1,5 +1,6 @@
 //! What is found to be at fault in files, and how it is told.
 
+use crate::json_lines::{Members, write_text};
 use crate::position::{line_with_caret, position_of};
 use cedar_below::{Loc, M};
 use json::Writer;
@@ -128,29 +129,26 @@ pub(crate) fn push_finding(
     Ok(())
 }
 
-/// Writes a position as an object: `{"line": .., "column": ..}`.
-fn write_position(writer: &mut Writer, text: &str, at: usize) -> M<()> {
-    let position = position_of(text, at);
+/// Writes a member whose value is a position: `{"line": .., "column": ..}`.
+fn write_position(writer: &mut Writer, key: &str, text: &str, at: u32) -> M<()> {
+    let position = position_of(text, at as usize);
+    writer.key(key)?;
     writer.begin_object()?;
     writer.key("line")?;
     writer.u64(position.line as u64)?;
     writer.key("column")?;
     writer.u64(position.column as u64)?;
-    writer.end_object()?;
-    Ok(())
+    Ok(writer.end_object()?)
 }
 
 /// Writes the members that say where something is.
 fn write_place(writer: &mut Writer, source: &Source, loc: Option<Loc>) -> M<()> {
-    writer.key("file")?;
-    writer.string(source.name.as_str())?;
-    if let Some(loc) = loc {
-        writer.key("start")?;
-        write_position(writer, source.text.as_str(), loc.start as usize)?;
-        writer.key("end")?;
-        write_position(writer, source.text.as_str(), loc.stop as usize)?;
-    }
-    Ok(())
+    write_text(writer, "file", source.name.as_str())?;
+    let Some(loc) = loc else {
+        return Ok(());
+    };
+    write_position(writer, "start", source.text.as_str(), loc.start)?;
+    write_position(writer, "end", source.text.as_str(), loc.stop)
 }
 
 /// Writes the other place of a finding as an object, if there is one.
@@ -161,32 +159,31 @@ fn write_other(writer: &mut Writer, sources: &[Source], other: Option<Loc>) -> M
     if let Some(source) = source_at(sources, Some(loc.source as usize)) {
         writer.begin_object()?;
         write_place(writer, source, other)?;
-        writer.end_object()?;
+        return Ok(writer.end_object()?);
     }
     Ok(())
 }
 
-/// Writes the members that say what is at fault.
-fn write_fault(writer: &mut Writer, sources: &[Source], finding: &Finding) -> M<()> {
-    if let Some(source) = source_at(sources, finding.file) {
-        write_place(writer, source, finding.loc)?;
-    }
-    writer.key("kind")?;
-    writer.string(finding.kind)?;
-    writer.key("message")?;
-    writer.string(finding.message.as_str())?;
-    writer.key("related")?;
-    writer.begin_array()?;
-    write_other(writer, sources, finding.other)?;
-    writer.end_array()?;
-    Ok(())
+/// A finding, with the files that are told of.
+#[derive(Clone, Copy, Drop)]
+pub(crate) struct FindingIn<'a> {
+    /// The files.
+    pub(crate) sources: &'a [Source],
+    /// The finding.
+    pub(crate) finding: &'a Finding,
 }
 
-/// A finding as one object of JSON, without a line end.
-pub(crate) fn finding_json(alloc: Global, sources: &[Source], finding: &Finding) -> M<Vec<u8>> {
-    let mut writer = Writer::new(Vec::new(alloc));
-    writer.begin_object()?;
-    write_fault(&mut writer, sources, finding)?;
-    writer.end_object()?;
-    Ok(writer.into_inner())
+impl Members for FindingIn<'_> {
+    fn write(&self, writer: &mut Writer) -> M<()> {
+        let finding = self.finding;
+        if let Some(source) = source_at(self.sources, finding.file) {
+            write_place(writer, source, finding.loc)?;
+        }
+        write_text(writer, "kind", finding.kind)?;
+        write_text(writer, "message", finding.message.as_str())?;
+        writer.key("related")?;
+        writer.begin_array()?;
+        write_other(writer, self.sources, finding.other)?;
+        Ok(writer.end_array()?)
+    }
 }

@@ -1,31 +1,15 @@
 //! Files, laid out.
 
-ghost use Rattle.std.specs.Prelude.{◌≡◌, IfOk, IfSome, string_bytes};
-ghost use Rattle.check_commands.specs.LaidOut.{IsLayoutFile};
+ghost use Rattle.std.specs.Prelude.{◌≡◌, IfOk};
 
 use crate::files::FileAccess;
 use crate::finding::{Finding, Source};
+use crate::layout::laid_out;
 use crate::outcome::{Manner, Outcome, Stop, refused};
 use crate::reading::well_formed;
 use crate::status::Status;
-use cedar_below::{M, Memory};
-use schema_layout::{LayoutFault, laid_out};
+use cedar_below::M;
 use std::alloc::Global;
-
-/// The document of a text, laid out and ended by a line end, or None where it is no JSON.
-fn laid_out_file(alloc: Global, text: &str) -> M<Option<String>>
-    ensures { IfOk result (λ given. IfSome given (λ file.
-        IsLayoutFile text.now (string_bytes file))) }
-{
-    match laid_out(alloc, text) {
-        Ok(mut layout) => {
-            layout.push('\n')?;
-            Ok(Some(layout))
-        }
-        Err(LayoutFault::NotJson) => Ok(None),
-        Err(LayoutFault::Memory) => Err(Memory),
-    }
-}
 
 /// That a file isn't laid out.
 fn differs(alloc: Global, manner: Manner, sources: &[Source]) -> M<Outcome>
@@ -46,7 +30,7 @@ fn told_layout(
     source: &Source,
     is_test: bool,
 ) -> M<Outcome> {
-    match laid_out_file(alloc, source.text.as_str())? {
+    match laid_out(alloc, source.text.as_str())? {
         Some(text) if !is_test => Ok(Outcome::done(alloc, text)),
         Some(text) if text.as_str() == source.text.as_str() => {
             Ok(Outcome::done(alloc, String::new(alloc)))

@@ -2,7 +2,7 @@
 
 ghost use Rattle.std.specs.Prelude.{◌≡◌, ◌≢◌, ◌++◌, IfOk, string_bytes};
 
-use crate::finding::{Finding, Source, finding_json, push_finding};
+use crate::finding::{Finding, FindingIn, Source, push_finding};
 use crate::json_lines::push_object;
 use crate::status::Status;
 use cedar_below::{M, Memory};
@@ -89,19 +89,13 @@ pub(crate) enum Manner {
     Json,
 }
 
-/// Adds one object and a line end.
-fn push_json(alloc: Global, text: &mut String, sources: &[Source], finding: &Finding) -> M<()> {
-    let object = finding_json(alloc, sources, finding)?;
-    push_object(alloc, text, &object)
-}
-
 /// Each finding, told in a manner.
 fn told(alloc: Global, manner: Manner, sources: &[Source], findings: &[Finding]) -> M<String> {
     let mut text = String::new(alloc);
     for finding in findings {
         match manner {
             Manner::Lines => push_finding(alloc, &mut text, sources, finding)?,
-            Manner::Json => push_json(alloc, &mut text, sources, finding)?,
+            Manner::Json => push_object(alloc, &mut text, &FindingIn { sources, finding })?,
         }
     }
     Ok(text)

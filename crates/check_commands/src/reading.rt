@@ -39,12 +39,15 @@ impl ReadFiles {
 }
 
 /// The number of a file in places.
-fn source_number(file: usize) -> u32 {
+pub(crate) fn source_number(file: usize) -> u32 {
     u32::try_from(file).unwrap_or(u32::MAX)
 }
 
 /// Why the text of a file isn't read as a fragment.
 fn fault_finding(alloc: Global, file: usize, text: &str, fault: &JsonSchemaFault) -> M<Finding> {
+    if let JsonSchemaFault::Memory = fault {
+        return Err(Memory);
+    }
     let other = first_key(alloc, text, fault)?;
     Ok(Finding {
         file: Some(file),
@@ -55,43 +58,53 @@ fn fault_finding(alloc: Global, file: usize, text: &str, fault: &JsonSchemaFault
     })
 }
 
-/// The fragment that the text of a file is, or why it is none.
-fn fragment_in(alloc: Global, file: usize, text: &str) -> M<Result<Fragment<RawName>, Finding>> {
-    match fragment_from_json(alloc, text, source_number(file)) {
-        Ok(fragment) => Ok(Ok(fragment)),
-        Err(JsonSchemaFault::Memory) => Err(Memory),
-        Err(fault) => Ok(Err(fault_finding(alloc, file, text, &fault)?)),
-    }
-}
-
-/// Adds a file with its text.
-fn push_text(alloc: Global, read: &mut ReadFiles, source: Source) -> M<()> {
-    match fragment_in(alloc, read.sources.len(), source.text.as_str())? {
-        Ok(fragment) => read.fragments.push(fragment)?,
-        Err(finding) => read.findings.push(finding)?,
-    }
-    Ok(read.sources.push(source)?)
-}
-
-/// Adds a file of which only so many bytes are text.
-fn push_no_text(alloc: Global, read: &mut ReadFiles, source: Source, valid_up_to: usize) -> M<()> {
-    let file = read.sources.len();
-    let fault = JsonSchemaFault::NotUtf8 { valid_up_to };
-    let finding = fault_finding(alloc, file, source.text.as_str(), &fault)?;
+/// Adds a file that is at fault.
+fn push_fault(read: &mut ReadFiles, source: Source, finding: Finding) -> M<()> {
     read.findings.push(finding)?;
     Ok(read.sources.push(source)?)
 }
 
+/// Adds a file whose text is no fragment.
+fn push_no_fragment(
+    alloc: Global,
+    read: &mut ReadFiles,
+    source: Source,
+    fault: &JsonSchemaFault,
+) -> M<()> {
+    let finding = fault_finding(alloc, read.sources.len(), source.text.as_str(), fault)?;
+    push_fault(read, source, finding)
+}
+
+/// Adds a file with its text.
+fn push_text(alloc: Global, read: &mut ReadFiles, source: Source) -> M<()> {
+    let number = source_number(read.sources.len());
+    match fragment_from_json(alloc, source.text.as_str(), number) {
+        Ok(fragment) => {
+            read.fragments.push(fragment)?;
+            Ok(read.sources.push(source)?)
+        }
+        Err(fault) => push_no_fragment(alloc, read, source, &fault),
+    }
+}
+
+/// Adds a file without its text, and says why.
+fn push_no_text(
+    alloc: Global,
+    read: &mut ReadFiles,
+    name: String,
+    kind: &'static str,
+    why: String,
+) -> M<()> {
+    let finding = Finding::in_file(read.sources.len(), None, kind, why);
+    let text = String::new(alloc);
+    push_fault(read, Source { name, text }, finding)
+}
+
 /// Adds a file in UTF-16, as its first bytes say.
 fn push_wide(alloc: Global, read: &mut ReadFiles, name: String) -> M<()> {
-    let file = read.sources.len();
-    let text = String::new(alloc);
-    read.sources.push(Source { name, text })?;
     let why = "the file begins with a byte order mark of UTF-16, and has to be UTF-8";
-    let message = String::from_str(alloc, why)?;
-    read.findings
-        .push(Finding::in_file(file, None, "NotUtf8", message))?;
-    Ok(())
+    let why = String::from_str(alloc, why)?;
+    push_no_text(alloc, read, name, "NotUtf8", why)
 }
 
 /// Whether bytes begin with a byte order mark of UTF-16.
@@ -105,22 +118,12 @@ fn push_bytes(alloc: Global, read: &mut ReadFiles, name: String, bytes: Vec<u8>)
         Ok(text) => push_text(alloc, read, Source { name, text }),
         Err(error) if is_wide(error.as_bytes()) => push_wide(alloc, read, name),
         Err(error) => {
-            let valid = error.utf8_error().valid_up_to();
+            let valid_up_to = error.utf8_error().valid_up_to();
             let text = String::from_utf8_lossy(alloc, error.as_bytes())?;
-            push_no_text(alloc, read, Source { name, text }, valid)
+            let fault = JsonSchemaFault::NotUtf8 { valid_up_to };
+            push_no_fragment(alloc, read, Source { name, text }, &fault)
         }
     }
-}
-
-/// Adds a file that couldn't be read, with what the system says.
-fn push_unread(alloc: Global, read: &mut ReadFiles, name: String, why: String) -> M<()> {
-    let file = read.sources.len();
-    let text = String::new(alloc);
-    read.sources.push(Source { name, text })?;
-    read.is_unread = true;
-    read.findings
-        .push(Finding::in_file(file, None, "Unread", why))?;
-    Ok(())
 }
 
 /// Reads a file.
@@ -134,7 +137,10 @@ fn push_file<F: FileAccess>(
     match files.read(alloc, name) {
         Ok(bytes) => push_bytes(alloc, read, owned, bytes),
         Err(FileFault::Memory) => Err(Memory),
-        Err(FileFault::Refused(why)) => push_unread(alloc, read, owned, why),
+        Err(FileFault::Refused(why)) => {
+            read.is_unread = true;
+            push_no_text(alloc, read, owned, "Unread", why)
+        }
     }
 }
 
@@ -174,17 +180,4 @@ pub(crate) fn well_formed<F: FileAccess>(
         return Ok(read);
     }
     Err(Stop::Told(told_faults(alloc, manner, &read)?))
-}
-
-/// The fragment of a source that is well formed, read once more.
-pub(crate) fn fragment_of(
-    alloc: Global,
-    file: usize,
-    source: &Source,
-) -> M<Option<Fragment<RawName>>> {
-    match fragment_from_json(alloc, source.text.as_str(), source_number(file)) {
-        Ok(fragment) => Ok(Some(fragment)),
-        Err(JsonSchemaFault::Memory) => Err(Memory),
-        Err(_) => Ok(None),
-    }
 }

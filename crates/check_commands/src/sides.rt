@@ -1,6 +1,8 @@
 //! The two versions of a schema that a difference parts.
 
+use cedar_below::M;
 use cedar_schema::ValidatorSchema;
+use std::alloc::Global;
 
 /// Two versions of a schema: one that admits something, and one that doesn't.
 #[derive(Clone, Copy, Drop)]
@@ -16,6 +18,11 @@ pub(crate) struct Sides<'a> {
 }
 
 impl<'a> Sides<'a> {
+    /// What is said of the version that doesn't admit it, with its name.
+    pub(crate) fn said(&self, alloc: Global, words: &str) -> M<String> {
+        Ok(format!(in alloc; "{} {words}", self.other_name)?)
+    }
+
     /// The versions for what is lost.
     pub(crate) fn of_lost(old: &'a ValidatorSchema, new: &'a ValidatorSchema) -> Self {
         Sides {

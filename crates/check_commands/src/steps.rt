@@ -3,7 +3,7 @@
 use crate::sides::Sides;
 use cedar_below::M;
 use cedar_counterexample::Step;
-use cedar_schema::Type;
+use cedar_schema::{Attributes, Type};
 use schema_lines::escaped;
 use std::alloc::Global;
 
@@ -39,76 +39,74 @@ pub(crate) fn attribute_path(alloc: Global, steps: &[Step]) -> M<String> {
     Ok(text)
 }
 
-/// The part of a type one step down, if it has one there.
-fn part_below<'a>(ty: &'a Type, step: &Step) -> Option<&'a Type> {
-    match (ty, step) {
-        (Type::Record { attrs, .. }, Step::Attribute(name)) => {
-            match attrs.get_attr(name.as_str()) {
-                Some(attribute) => Some(&attribute.attr_type),
-                None => None,
-            }
+/// What a step leads to, or what steps begin at: a type, or the attributes of an entity type.
+#[derive(Clone, Copy, Drop)]
+pub(crate) enum Part<'a> {
+    /// A type.
+    Type(&'a Type),
+    /// The attributes of an entity type.
+    Attributes(&'a Attributes),
+}
+
+impl<'a> Part<'a> {
+    /// Its attributes, if it is of a record.
+    fn attributes(self) -> Option<&'a Attributes> {
+        match self {
+            Part::Attributes(attributes) => Some(attributes),
+            Part::Type(Type::Record { attrs, .. }) => Some(attrs),
+            Part::Type(_) => None,
         }
-        (
-            Type::Set {
-                element_type: Some(element),
-            },
-            Step::Element,
-        ) => Some(element),
+    }
+
+    /// The part one step down, if there is one.
+    fn below(self, step: &Step) -> Option<Part<'a>> {
+        match (self, step) {
+            (_, Step::Attribute(name)) => {
+                let attribute = self.attributes()?.get_attr(name.as_str())?;
+                Some(Part::Type(&attribute.attr_type))
+            }
+            (
+                Part::Type(
+                    Type::Set {
+                        element_type: Some(element),
+                    },
+                ),
+                Step::Element,
+            ) => Some(Part::Type(element)),
+            _ => None,
+        }
+    }
+
+    /// The part at the end of some steps, if there is one.
+    fn at(self, steps: &[Step]) -> Option<Part<'a>> {
+        let mut part = self;
+        for step in steps {
+            part = part.below(step)?;
+        }
+        Some(part)
+    }
+}
+
+/// What is said of the second of two records where one alone has an attribute or requires it, or
+/// where none has it and the first admits further ones, if that is so.
+fn attribute_words(own: &Attributes, other: &Attributes, name: &str) -> Option<&'static str> {
+    match (own.get_attr(name), other.get_attr(name)) {
+        (None, None) => Some("admits no further attributes"),
+        (Some(_), None) => Some("doesn't have it"),
+        (Some(own), Some(_)) if own.is_required() => None,
+        (_, Some(other)) if other.is_required() => Some("requires it"),
         _ => None,
     }
 }
 
-/// The part of a type at the end of some steps, if it has one there.
-fn part_at<'a>(ty: &'a Type, steps: &[Step]) -> Option<&'a Type> {
-    let mut part = ty;
-    for step in steps {
-        part = part_below(part, step)?;
-    }
-    Some(part)
-}
-
-/// Whether a record has an attribute that has to be there.
-fn is_required_in(ty: &Type, name: &str) -> bool {
-    let Type::Record { attrs, .. } = ty else {
-        return false;
-    };
-    match attrs.get_attr(name) {
-        Some(attribute) => attribute.is_required(),
-        None => false,
-    }
-}
-
-/// Whether a record has no attribute of a name.
-fn is_lacking_in(ty: &Type, name: &str) -> bool {
-    let Type::Record { attrs, .. } = ty else {
-        return false;
-    };
-    attrs.get_attr(name).is_none()
-}
-
-/// What is said of the second of two types where one alone has an attribute or requires it, or
-/// where none has it and the first admits further ones, if that is so.
-fn attribute_words(own: &Type, other: &Type, name: &str) -> Option<&'static str> {
-    if is_lacking_in(own, name) && is_lacking_in(other, name) {
-        return Some("admits no further attributes");
-    }
-    if is_lacking_in(other, name) {
-        return Some("doesn't have it");
-    }
-    if is_required_in(other, name) && !is_required_in(own, name) {
-        return Some("requires it");
-    }
-    None
-}
-
-/// What is said of the second of two types at the end of steps, the last of which leads to an
+/// What is said of the second of two parts at the end of steps, the last of which leads to an
 /// attribute that one of two records alone has or requires, if that is so.
-fn last_words(own: &Type, other: &Type, steps: &[Step]) -> Option<&'static str> {
+fn last_words(own: Part<'_>, other: Part<'_>, steps: &[Step]) -> Option<&'static str> {
     let Some((Step::Attribute(name), before)) = steps.split_last() else {
         return None;
     };
-    let own = part_at(own, before)?;
-    let other = part_at(other, before)?;
+    let own = own.at(before)?.attributes()?;
+    let other = other.at(before)?.attributes()?;
     attribute_words(own, other, name.as_str())
 }
 
@@ -118,22 +116,30 @@ fn types_text(alloc: Global, own: &Type, other: &Type) -> M<String> {
     escaped(alloc, text.as_str())
 }
 
-/// What is said of two types that part at the end of some steps.
+/// What is said of two parts, one of which has values that the other hasn't.
+fn parts_text(alloc: Global, sides: &Sides<'_>, own: Part<'_>, other: Part<'_>) -> M<String> {
+    if own.attributes().is_some() && other.attributes().is_some() {
+        return sides.said(alloc, "admits no further attributes");
+    }
+    match (own, other) {
+        (Part::Type(own), Part::Type(other)) => types_text(alloc, own, other),
+        _ => sides.said(alloc, "admits less there"),
+    }
+}
+
+/// What is said of two types, or of attributes, that part at the end of some steps.
 pub(crate) fn parting_text(
     alloc: Global,
     sides: &Sides<'_>,
-    own: &Type,
-    other: &Type,
+    own: Part<'_>,
+    other: Part<'_>,
     steps: &[Step],
 ) -> M<String> {
     if let Some(words) = last_words(own, other, steps) {
-        return Ok(format!(in alloc; "{} {words}", sides.other_name)?);
+        return sides.said(alloc, words);
     }
-    match (part_at(own, steps), part_at(other, steps)) {
-        (Some(Type::Record { .. }), Some(Type::Record { .. })) => {
-            Ok(format!(in alloc; "{} admits no further attributes", sides.other_name)?)
-        }
-        (Some(own), Some(other)) => types_text(alloc, own, other),
-        _ => Ok(format!(in alloc; "{} admits less there", sides.other_name)?),
+    match (own.at(steps), other.at(steps)) {
+        (Some(own), Some(other)) => parts_text(alloc, sides, own, other),
+        _ => sides.said(alloc, "admits less there"),
     }
 }

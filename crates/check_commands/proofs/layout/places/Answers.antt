@@ -1,7 +1,7 @@
 use Rattle.std.proofs.Common.{◌∙◌, rules}
 use Rattle.std.proofs.lemmas.List.{take_all}
-use Rattle.schema_layout.proofs.Places.{indexed_more}
-use Rattle.schema_layout.proofs.layout.places.Goals as goal
+use Rattle.check_commands.proofs.Places.{indexed_more}
+use Rattle.check_commands.proofs.layout.places.Goals as goal
 
 pub loop-index-preserved : goal.loop-index-preserved
 loop-index-preserved c =

@@ -27,6 +27,8 @@ pub(crate) enum Shape {
     Type,
     /// The attributes of a record type by name.
     Attributes,
+    /// Annotations by key.
+    Annotations,
     /// Anything else, with members in the order of their keys.
     Other,
 }
@@ -36,7 +38,7 @@ const DEFINITION: &[(&str, Shape)] = &[
     ("entityTypes", Shape::EntityTypes),
     ("actions", Shape::Actions),
     ("commonTypes", Shape::CommonTypes),
-    ("annotations", Shape::Other),
+    ("annotations", Shape::Annotations),
 ];
 
 /// The fields of the declaration of an entity type.
@@ -46,7 +48,7 @@ const ENTITY_TYPE: &[(&str, Shape)] = &[
     ("shape", Shape::Type),
     ("tags", Shape::Type),
     ("external", Shape::Other),
-    ("annotations", Shape::Other),
+    ("annotations", Shape::Annotations),
 ];
 
 /// The fields of the declaration of an action.
@@ -55,7 +57,7 @@ const ACTION: &[(&str, Shape)] = &[
     ("memberOf", Shape::Parents),
     ("attributes", Shape::Other),
     ("external", Shape::Other),
-    ("annotations", Shape::Other),
+    ("annotations", Shape::Annotations),
 ];
 
 /// The fields of what an action applies to.
@@ -76,7 +78,7 @@ const TYPE: &[(&str, Shape)] = &[
     ("additionalAttributes", Shape::Other),
     ("name", Shape::Other),
     ("required", Shape::Other),
-    ("annotations", Shape::Other),
+    ("annotations", Shape::Annotations),
 ];
 
 impl Shape {
@@ -96,10 +98,12 @@ impl Shape {
     /// The place of a field among those of the shape; behind all of them where it is none.
     fn rank(self, key: &str) -> usize {
         let fields = self.fields();
-        match fields.iter().position(|field| field.0 == key) {
-            Some(rank) => rank,
-            None => fields.len(),
+        for (rank, field) in fields.iter().enumerate() {
+            if field.0 == key {
+                return rank;
+            }
         }
+        fields.len()
     }
 
     /// The shape of the member that has this key.

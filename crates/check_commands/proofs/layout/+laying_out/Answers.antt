@@ -3,8 +3,8 @@ use Rattle.std.proofs.lemmas.Result.{on_ok_weaker}
 use Rattle.json.proofs.Trees.{item_smaller, member_smaller}
 use Rattle.json.specs.Tree.{HasNumbers, items_tokens, json_tokens, members_tokens}
 use Rattle.json.specs.Value.{items_view, members_view, value_view}
-use Rattle.schema_layout.proofs.Weights.{all_weighed, index_weight, item_has, item_weight, items_written, member_has, members_written}
-use Rattle.schema_layout.proofs.layout.+laying_out.Goals as goal
+use Rattle.check_commands.proofs.Weights.{all_weighed, index_weight, item_has, item_weight, items_written, member_has, members_written}
+use Rattle.check_commands.proofs.layout.+laying_out.Goals as goal
 
 -- one item has fewer tokens than all items, so the writing ends, and its number texts are numbers
 pub write_items-write-requires : goal.write_items-write-requires

@@ -1,12 +1,12 @@
 //! Documents, laid out.
 
-ghost use Rattle.std.specs.Prelude.{◌≡◌, ◌++◌, ◌<◌, Err, IfOk, None, OnOk, ◌∷◌, All, get_or, length, map, string_bytes};
-ghost use Rattle.schema_layout.specs.Words.{Bor, Global, HasNumbers, IsLayoutOf, IsPermutation, ItemsHaveNumbers, MembersHaveNumbers, SameTokens, Text, begin_array, begin_object, items_tokens, items_view, json_tokens, members_tokens, members_view, tokens, value_view};
+ghost use Rattle.std.specs.Prelude.{◌≡◌, ◌++◌, ◌<◌, IfOk, IfSome, None, Ok, OnOk, ◌∷◌, All, get_or, length, map, string_bytes};
+ghost use Rattle.check_commands.specs.Words.{Bor, Global, HasNumbers, IsLayoutFile, IsPermutation, ItemsHaveNumbers, MembersHaveNumbers, SameTokens, Text, begin_array, begin_object, items_tokens, items_view, json_tokens, members_tokens, members_view, tokens, value_view};
 ghost use Rattle.json.specs.declared.value.Value.{Value as Tree};
 ghost use Rattle.json.specs.Json.{document as document_of};
 
-use crate::fault::LayoutFault;
 use crate::shape::Shape;
+use cedar_below::{M, Memory};
 use json::{Error, Pretty, Scratch, Token, Value};
 use std::alloc::{AllocError, Global};
 
@@ -112,22 +112,22 @@ fn text_of(alloc: Global, document: &Value<'_>) -> Result<String, AllocError>
     }
 }
 
-/// A schema's text, laid out: two blanks a level, each item and each member on a line of its own,
-/// the fields of each object in the order of the format, and other members in the order of their
-/// keys. Nothing is left out, and no line end follows.
-///
-/// # Errors
-///
-/// [`LayoutFault::NotJson`] where the text is no JSON, and [`LayoutFault::Memory`] where memory
-/// runs out.
-pub fn laid_out(alloc: Global, text: &str) -> Result<String, LayoutFault>
-    ensures layout { IfOk result (λ layout. IsLayoutOf text.now (string_bytes layout)) }
-    ensures not_json { result ≡ Err LayoutFault.NotJson → document_of text.now ≡ None }
+/// A schema's text, laid out and ended by a line end, or None where it is no JSON: two blanks a
+/// level, each item and each member on a line of its own, the fields of each object in the order of
+/// the format, and other members in the order of their keys. Nothing is left out.
+pub(crate) fn laid_out(alloc: Global, text: &str) -> M<Option<String>>
+    ensures layout { IfOk result (λ given. IfSome given (λ file.
+        IsLayoutFile text.now (string_bytes file))) }
+    ensures not_json { result ≡ Ok None → document_of text.now ≡ None }
 {
     let mut scratch = Scratch::new(alloc);
     match Value::parse(alloc, text, &mut scratch) {
-        Ok(document) => Ok(text_of(alloc, &document)?),
-        Err(Error::Invalid) => Err(LayoutFault::NotJson),
-        Err(_) => Err(LayoutFault::Memory),
+        Ok(document) => {
+            let mut layout = text_of(alloc, &document)?;
+            layout.push('\n')?;
+            Ok(Some(layout))
+        }
+        Err(Error::Invalid) => Ok(None),
+        Err(_) => Err(Memory),
     }
 }

@@ -3,8 +3,8 @@ use Rattle.std.specs.List.{sum_by}
 use Rattle.json.specs.Token.{Token}
 use Rattle.json.specs.Tree.{items_tokens, json_tokens, members_tokens}
 use Rattle.json.specs.Value.{items_view, members_view, value_view}
-use Rattle.schema_layout.proofs.Weights.{index_weight, item_weight}
-use Rattle.schema_layout.proofs.layout.+laying_out.Given as goal
+use Rattle.check_commands.proofs.Weights.{index_weight, item_weight}
+use Rattle.check_commands.proofs.layout.+laying_out.Given as goal
 
 abbrev pub decreases-write : goal.decreases-write
 decreases-write l = length (json_tokens (value_view l.value.now))

@@ -1,7 +1,7 @@
 use Rattle.std.proofs.Common.{◌≡◌, ◌∙◌, ap, rules}
 use Rattle.std.proofs.lemmas.List.{take_all}
-use Rattle.schema_layout.proofs.Places.{indices, sorted_order, sorted_within}
-use Rattle.schema_layout.proofs.layout.in_order.Goals as goal
+use Rattle.check_commands.proofs.Places.{indices, sorted_order, sorted_within}
+use Rattle.check_commands.proofs.layout.in_order.Goals as goal
 
 pub returns-clause-order : goal.returns-clause-order
 returns-clause-order c =

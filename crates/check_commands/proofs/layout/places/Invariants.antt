@@ -2,8 +2,8 @@ use Rattle.std.proofs.Common.{◌≡◌, ◌<◌, All, get_or, length, map, take
 use Rattle.std.specs.Borrow.{Bor}
 use Rattle.std.specs.declared.alloc.Global.{Global}
 use Rattle.json.specs.declared.value.Value.{Value as Tree}
-use Rattle.schema_layout.specs.SameTokens.{Text}
-use Rattle.schema_layout.proofs.layout.places.Given as goal
+use Rattle.check_commands.specs.SameTokens.{Text}
+use Rattle.check_commands.proofs.layout.places.Given as goal
 
 abbrev pub invariant-loop-index : goal.invariant-loop-index
 invariant-loop-index l =

@@ -1,3 +1,0 @@
-pub mod LaidOut
-pub mod SameTokens
-pub mod Words
