@@ -3,13 +3,14 @@ use Rattle.std.proofs.lemmas.Bool.{false≢true}
 use Rattle.cedar_compare.specs.Words.{action_of, schema_of, uid_of}
 use Rattle.cedar_compare.proofs.FindLemmas.{listed_by}
 use Rattle.cedar_schema_elements.proofs.SetLemmas.{list_any-uids}
+use Rattle.cedar_schema_elements.specs.ValidatorActionId.{parts_of}
 use Rattle.cedar_compare.proofs.action_uppers.lists.Goals as goal
 
 pub returns-in-Some : goal.returns-in-Some
 returns-in-Some c =
     let it = c.in-Some.action.now in
     let lower = c.args.lower.now in
-    let law = list_any-uids lower it.descendants.keys in (
+    let law = list_any-uids lower (parts_of it).descendants.keys in (
       λ yes. (action_of it, c.in-Some.ensures, law.0 (sym c.has_edge_to.ensures ∙ yes)),
       λ listed. c.has_edge_to.ensures ∙ law.1
           (listed_by (schema_of c.args.schema.now) c.requires (uid_of lower) (uid_of c.args.upper.now) (action_of it) c.in-Some.ensures listed),
