@@ -33,7 +33,7 @@ pub(crate) fn linked_nodes(
         AreReady ⟦<EntityUID as PartialEq>⟧.eq has_descendant edges.items nodes.entries
         → IsLinkingFault edges.items (fault_of error)) }
 {
-    match link::<EntityUID, ValidatorActionId>(alloc, nodes, &edges, true) {
+    match link::<EntityUID, ValidatorActionId>(alloc, nodes, edges, true) {
         Ok(linked) => Ok(linked),
         Err(TableFault::HasCycle(uid)) => Err(SchemaError::CycleInActionHierarchy(uid)),
         Err(TableFault::Lacks(_uid)) => Err(SchemaError::ActionInvariantViolation),

@@ -32,7 +32,7 @@ pub(crate) fn linked_nodes(
         → IsLinkingFault edges.items nodes.entries (fault_of error)) }
 {
     check_edges(alloc, &nodes, &edges)?;
-    let linked = match link::<EntityType, ValidatorEntityType>(alloc, nodes, &edges, false) {
+    let linked = match link::<EntityType, ValidatorEntityType>(alloc, nodes, edges, false) {
         Ok(linked) => linked,
         Err(_refused) => return Err(SchemaError::Memory(Memory)),
     };

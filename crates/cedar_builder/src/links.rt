@@ -15,7 +15,7 @@ use std::hash::Hash;
 pub(crate) fn link<K: Ord + Hash + QuickHash + Drop, V: SchemaNode<K> + Drop>(
     alloc: Global,
     nodes: Table<K, V>,
-    edges: &[(K, K)],
+    edges: Vec<(K, K)>,
     enforce_dag: bool,
 ) -> Result<Table<K, V>, TableFault<K>>
     ensures distinct { IfOk result (λ linked. IsDistinct K.eq (keys_of linked.entries)) }
@@ -23,13 +23,13 @@ pub(crate) fn link<K: Ord + Hash + QuickHash + Drop, V: SchemaNode<K> + Drop>(
         → AreLocated V.IsLocatedAs linked.entries) }
     ensures alike { IfOk result (λ linked. (key : K)
         → AreAlike V.is_alike (at_key K.eq nodes.entries key) (at_key K.eq linked.entries key)) }
-    ensures linked { IfOk result (λ linked. AreReady K.eq V.has_edge edges.now nodes.entries
+    ensures linked { IfOk result (λ linked. AreReady K.eq V.has_edge edges.items nodes.entries
         → (upper lower : K) → Leads K.eq V.has_edge linked.entries upper lower
-        ↔ Chain (IsEdgeIn K.eq edges.now) upper lower) }
+        ↔ Chain (IsEdgeIn K.eq edges.items) upper lower) }
     ensures acyclic { OnOk result (IsTrue enforce_dag
-        → (key : K) → ¬ Chain (IsEdgeIn K.eq edges.now) key key) }
-    ensures fault { IfErr result (λ refused. AreReady K.eq V.has_edge edges.now nodes.entries
-        → IsCycle (IsEdgeIn K.eq edges.now) enforce_dag refused) }
+        → (key : K) → ¬ Chain (IsEdgeIn K.eq edges.items) key key) }
+    ensures fault { IfErr result (λ refused. AreReady K.eq V.has_edge edges.items nodes.entries
+        → IsCycle (IsEdgeIn K.eq edges.items) enforce_dag refused) }
 {
     let linked = link_table::<K, V>(alloc, nodes, edges, enforce_dag)?;
     linked.keys_ascend();

@@ -79,14 +79,14 @@ pub(crate) fn closed_table<K: Ord + Hash + QuickHash + Drop, V: TCNode<K> + Drop
         (IsCycle (ListHas K.eq (keys_of nodes.entries) targets.now.items) enforce_dag) }
 {
     let (lists, _joins) = closed_lists(alloc, targets, nodes.len())?;
-    let (keys, values) = nodes.into_parts(alloc)?;
+    let (keys, values) = nodes.into_parts();
     if enforce_dag {
         if let Some(place) = first_on_cycle(&lists) {
             return Err(TableFault::HasCycle(V::copy_key(&keys.as_vec()[place])?));
         }
     }
     let linked = linked_nodes(values, keys.as_vec(), &lists, known)?;
-    Ok(Table::from_parts(alloc, keys, linked)?)
+    Ok(Table::from_parts(keys, linked))
 }
 
 /// A table whose nodes have an edge to each key that a chain of one or more edges reaches from

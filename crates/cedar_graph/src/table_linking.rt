@@ -71,18 +71,20 @@ fn places_of_edges<K: Ord + Hash + QuickHash + Drop, V: TCNode<K>>(
 pub fn link_table<K: Ord + Hash + QuickHash + Drop, V: TCNode<K> + Drop>(
     alloc: Global,
     nodes: Table<K, V>,
-    edges: &[(K, K)],
+    edges: Vec<(K, K)>,
     enforce_dag: bool,
 ) -> Result<Table<K, V>, TableFault<K>>
     ensures linked { IfOk result (λ linked. HoldsPairwise (IsLinkedTo V.has_edge V.is_alike
-        (IsEdgeIn K.eq edges.now)) nodes.entries linked.entries) }
+        (IsEdgeIn K.eq edges.items)) nodes.entries linked.entries) }
     ensures acyclic { OnOk result (IsTrue enforce_dag → (key : K)
-        → ¬ Chain (IsEdgeIn K.eq edges.now) key key) }
+        → ¬ Chain (IsEdgeIn K.eq edges.items) key key) }
     ensures fault { IfErr result (IsFaultOf
-        (λ key. IsTrue enforce_dag × Chain (IsEdgeIn K.eq edges.now) key key)
-        (λ key. IsEndIn K.eq edges.now key × ¬ HasEntry K.eq nodes.entries key)) }
+        (λ key. IsTrue enforce_dag × Chain (IsEdgeIn K.eq edges.items) key key)
+        (λ key. IsEndIn K.eq edges.items key × ¬ HasEntry K.eq nodes.entries key)) }
 {
-    let targets = places_of_edges(alloc, &nodes, edges)?;
+    let targets = places_of_edges(alloc, &nodes, &edges)?;
+    // Before closing takes memory.
+    drop(edges);
     let known = empty_lists(alloc, nodes.len())?;
     closed_table(alloc, nodes, &targets, &known, enforce_dag)
 }

@@ -1,3 +1,4 @@
+mod ColumnLemmas
 mod CopiedLemmas
 mod HintLemmas
 mod SearchLemmas

@@ -1,24 +1,23 @@
 -- What stands at a place of a list that is in the order of its keys, and what a look-up finds there.
-use Rattle.std.proofs.Common.{◌≡◌, ◌∙◌, ◌+◌, ◌<◌, [], ℕ, List, None, Some, ap, arith, get_or, length, subst, sym}
-use Rattle.std.proofs.lemmas.List.{get_or-map}
+use Rattle.std.proofs.Common.{◌≡◌, ◌∙◌, ◌+◌, ◌<◌, [], ℕ, List, Some, ap, arith, get_or, inl, inr, length, subst, sym}
+use Rattle.std.proofs.lemmas.Bool.{cases_lt}
 use Rattle.std.proofs.lemmas.List.Sorted.{searchable_from_sorted}
-use Rattle.std.proofs.lemmas.Map.Entries.{length-keys_of, lookup_at_gap, lookup_from_place}
+use Rattle.std.proofs.lemmas.Map.Entries.{lookup_from_place}
 use Rattle.std.proofs.lemmas.Map.Keys.{IsDistinct-from_sorted, Less-from_sorted}
-use Rattle.std.proofs.lemmas.Option.{get_or_from_slice_get, slice_get-get_or, slice_get_within}
+use Rattle.std.proofs.lemmas.Option.{slice_get-get_or}
 use Rattle.std.specs.BTreeMap.{is_at}
 use Rattle.std.specs.Cmp.{IsTotalOrder, eq_by_cmp_equiv}
 use Rattle.std.specs.List.Sorted.{IsNonDecreasingBy, IsPartitionPoint, IsSortedBy, IsStrictlySortedBy}
 use Rattle.std.specs.Map.{keys_of, lookup}
 use Rattle.std.specs.Ordering.{is_lt, ordering_index, ordering_reverse}
 use Rattle.std.specs.declared.cmp.Ordering.{Ordering}
-use Rattle.std.specs.declared.cmp.Ordering.TheVariants.{Greater, Less}
-use Rattle.cedar_table.specs.StandsAt.{StandsAt}
+use Rattle.std.specs.declared.cmp.Ordering.TheVariants.{Equal, Greater, Less}
+use Rattle.cedar_table.specs.StandsAt.{KeyStandsAt, StandsAt}
 
--- no entries are in the order of their keys
-pub none_sorted : {K V : Type 0} (R : K → K → Ordering) (entries : List (K × V)) → entries ≡ [] → IsStrictlySortedBy R (keys_of entries)
+-- no keys are in order
+pub none_sorted : {K : Type 0} (R : K → K → Ordering) (keys : List K) → keys ≡ [] → IsStrictlySortedBy R keys
 unfolding IsStrictlySortedBy
-none_sorted {K = K} {V = V} R entries empty =
-    let P : List (K × V) → Type 0 = λ each. IsStrictlySortedBy R (keys_of each) in subst P (sym empty) tt
+none_sorted {K = K} R keys empty = let P : List K → Type 0 = λ each. IsStrictlySortedBy R each in subst P (sym empty) tt
 
 module _ {K V : Type 0} {R : K → K → Ordering} (total : IsTotalOrder R) (entries : List (K × V))
     (sorted : IsStrictlySortedBy R (keys_of entries)) where
@@ -31,31 +30,22 @@ module _ {K V : Type 0} {R : K → K → Ordering} (total : IsTotalOrder R) (ent
       ∙ lookup_from_place (eq_by_cmp_equiv total) entries place entry.0 entry.1 (IsDistinct-from_sorted R (keys_of entries) sorted)
       (slice_get-get_or entries place d stands.0)
 
+module _ {K : Type 0} {R : K → K → Ordering} (total : IsTotalOrder R) (keys : List K) (sorted : IsStrictlySortedBy R keys) where
   -- each key is below the next one
-  in_turn : IsSortedBy (λ (a : K × V) (b : K × V). is_lt (R a.0 b.0)) entries
+  in_turn : IsSortedBy (λ a b. is_lt (R a b)) keys
   in_turn k d low high =
-      let within : k + 1 < length (keys_of entries) = omega (arith, high, length-keys_of entries) in
-      let here = get_or-map (λ (entry : K × V). entry.0) entries k d d.0 (omega (arith, high)) in
-      let next = get_or-map (λ (entry : K × V). entry.0) entries (k + 1) d d.0 high in
-      let below : R (get_or entries k d).0 (get_or entries (k + 1) d).0 ≡ Less =
-      sym (λ i. R (here i) (next i)) ∙ Less-from_sorted R (keys_of entries) k (k + 1) d.0 sorted (omega arith) within in
-      ap is_lt (total.antisymm (get_or entries (k + 1) d).0 (get_or entries k d).0 ∙ ap ordering_reverse below)
+      ap is_lt (total.antisymm (get_or keys (k + 1) d) (get_or keys k d)
+      ∙ ap ordering_reverse (Less-from_sorted R keys k (k + 1) d sorted (omega arith) high))
 
-  -- where halving ends without a place, nothing is found
-  pub none_at : (key : K) (place : ℕ)
-      → (IsNonDecreasingBy (λ (entry : K × V). ordering_index (R entry.0 key)) entries
-      → IsPartitionPoint (λ (entry : K × V). R entry.0 key ≡ Less) (λ (entry : K × V). R entry.0 key ≡ Greater) entries place)
-      → lookup (is_at (R key)) entries ≡ None
-  none_at key place parts =
-      let split = parts (searchable_from_sorted total (λ (entry : K × V). entry.0) entries key in_turn) in
-      lookup_at_gap total key entries place sorted
-      (λ j entry before there.
-      let is = get_or_from_slice_get entries j entry entry there in
-      total.antisymm key entry.0
-      ∙ ap ordering_reverse (ap (λ (other : K × V). R other.0 key) (sym is) ∙ split.0 j entry (omega arith) before))
-      (λ entry there.
-      let is = get_or_from_slice_get entries place entry entry there in
-      total.antisymm key entry.0
-      ∙ ap ordering_reverse
-      (ap (λ (other : K × V). R other.0 key) (sym is)
-      ∙ split.1 place entry (omega arith) (slice_get_within entries place entry there)))
+  -- where halving ends without a place, the key stands nowhere
+  pub nowhere : (key : K) (split : ℕ)
+      → (IsNonDecreasingBy (λ other. ordering_index (R other key)) keys
+      → IsPartitionPoint (λ other. R other key ≡ Less) (λ other. R other key ≡ Greater) keys split)
+      → (place : ℕ) → ¬ KeyStandsAt R keys key place
+  nowhere key split parts place stands =
+      let halves = parts (searchable_from_sorted total (λ other. other) keys key in_turn) in
+      let ties : R (get_or keys place key) key ≡ Equal = total.antisymm (get_or keys place key) key ∙ ap ordering_reverse (stands.1 key) in
+      elim (cases_lt place split) [
+        | inl below ↦ omega (arith, ap ordering_index (sym ties ∙ halves.0 place key (omega arith) below))
+        | inr above ↦ omega (arith, ap ordering_index (sym ties ∙ halves.1 place key (omega (arith, above)) stands.0))
+      ]

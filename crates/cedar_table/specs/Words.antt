@@ -15,6 +15,6 @@ pub use Rattle.cedar_below.specs.Words.{HoldsPairwise}
 pub use Rattle.cedar_below.specs.declared.memory.Memory.{Memory}
 pub use Rattle.cedar_table.specs.Entries.{Entries, HasKey, get_by}
 pub use Rattle.cedar_table.specs.Hints.{AreHinted, LeadToAll, IsPassed, LeadsTo, RowIs, hash_by, row_of, tag_of}
-pub use Rattle.cedar_table.specs.StandsAt.{StandsAt}
+pub use Rattle.cedar_table.specs.StandsAt.{KeyStandsAt, StandsAt}
 pub use Rattle.cedar_table.specs.declared.hints.Hint.{Hint}
 pub use Rattle.cedar_table.specs.declared.hints.Hints.{Hints}

@@ -1,28 +1,27 @@
 //! Equality and `Debug` of tables, which go by the entries alone, as those of maps do.
 
 ghost use Rattle.std.specs.Prelude.{◌&&◌};
-ghost use Rattle.cedar_table.specs.Words.{and_equiv, and_per, lists_equiv, lists_per, on_equiv, on_per, pointwise};
+ghost use Rattle.cedar_table.specs.Words.{and_equiv, and_per, keys_of, lists_equiv, lists_per, on_equiv, on_per, pointwise, values_of};
 
 use crate::table::Table;
 use cedar_below::QuickHash;
 use std::fmt;
 
 impl<K: Ord + QuickHash, V: PartialEq> PartialEq for Table<K, V> {
-    ghost eq = { λ m n. pointwise (λ p q.
-        K.eq p.0 q.0 && V.eq p.1 q.1) m.entries n.entries };
+    ghost eq = { λ m n. pointwise K.eq (keys_of m.entries) (keys_of n.entries)
+        && pointwise V.eq (values_of m.entries) (values_of n.entries) };
 
-    ghost laws = { on_per (λ m. m.entries)
-        (lists_per (and_per (on_per (λ p. p.0) K.PartialEq.laws) (on_per (λ p. p.1) V.laws))) };
+    ghost laws = { and_per (on_per (λ m. keys_of m.entries) (lists_per K.PartialEq.laws))
+        (on_per (λ m. values_of m.entries) (lists_per V.laws)) };
 
     fn eq(&self, other: &Table<K, V>) -> bool {
-        self.entries == other.entries
+        self.keys.keys == other.keys.keys && self.values == other.values
     }
 }
 
 impl<K: Ord + QuickHash, V: Eq> Eq for Table<K, V> {
-    ghost laws = { on_equiv (λ m. m.entries)
-        (lists_equiv (and_equiv (on_equiv (λ p. p.0) K.Eq.laws)
-        (on_equiv (λ p. p.1) V.Eq.laws))) };
+    ghost laws = { and_equiv (on_equiv (λ m. keys_of m.entries) (lists_equiv K.Eq.laws))
+        (on_equiv (λ m. values_of m.entries) (lists_equiv V.Eq.laws)) };
 }
 
 impl<K: Ord + QuickHash + fmt::Debug, V: fmt::Debug> fmt::Debug for Table<K, V> {

@@ -4,6 +4,7 @@ ghost use Rattle.std.specs.Prelude.{◌≡◌, IfOk, Ok, Result};
 ghost use Rattle.cedar_table.specs.Words.{Equal, FnReturnsAt, HoldsPairwise, Memory};
 
 use crate::table::Table;
+use crate::table_keys::TableKeys;
 use cedar_below::{M, QuickHash};
 
 /// A table of the copies of the entries of a table, in their order. The copy of a key has to tie
@@ -23,9 +24,11 @@ pub fn copied_table<
         × FnReturnsAt G.Fn copy_value entry.1 (Ok other.1)) table.now.entries copies.entries) }
 {
     let alloc = *table.allocator();
-    let mut copies = Vec::with_capacity(alloc, table.len())?;
+    let mut keys = Vec::with_capacity(alloc, table.len())?;
+    let mut values = Vec::with_capacity(alloc, table.len())?;
     for (key, value) in table {
-        copies.push((copy_key(key)?, copy_value(value)?))?;
+        keys.push(copy_key(key)?)?;
+        values.push(copy_value(value)?)?;
     }
-    Table::of_entries(alloc, copies)
+    Ok(Table::from_parts(TableKeys::of(alloc, keys)?, values))
 }

@@ -1,7 +1,7 @@
-//! Hints: where in a list of entries a key may stand, by the hash of the key.
+//! Hints: where in a list of keys a key may stand, by its hash.
 
 ghost use Rattle.std.specs.Prelude.{◌≡◌, ℕ, false, IfNone, IfOk, IfSome, IsTrue, length};
-ghost use Rattle.cedar_table.specs.Words.{AreHinted, LeadToAll, LeadsTo, hash_by, keys_of, row_of, tag_of};
+ghost use Rattle.cedar_table.specs.Words.{AreHinted, LeadToAll, LeadsTo, hash_by, row_of, tag_of};
 
 use cedar_below::{M, QuickHash};
 use std::alloc::Global;
@@ -10,7 +10,7 @@ use std::hash::{FoldHasher, Hasher};
 /// How many rows are looked at for one hash.
 const PROBES: usize = 64;
 
-/// What hashes begin with: the first of these with which each entry has a hint. Names that are
+/// What hashes begin with: the first of these with which each key has a hint. Names that are
 /// alike to the hash tables of std, or with one of these, are apart with the others.
 const SEEDS: [u64; 4] = [
     0xb7e1_5162_8aed_2a6b,
@@ -19,15 +19,15 @@ const SEEDS: [u64; 4] = [
     0xe468_0bc7_5f12_d39d,
 ];
 
-/// A row: that an entry may stand at a place, or that the row is free.
+/// A row: that a key may stand at a place, or that the row is free.
 ///
 /// That it is free is said by its place, since an option of a hint takes twelve bytes in place of
-/// eight. A free row that is taken for a hint does no harm, since a hint counts by the name alone.
+/// eight. A free row that is taken for a hint does no harm, since a hint counts by the key alone.
 #[derive(Clone, Copy)]
 pub(crate) struct Hint {
-    /// The upper half of the hash of the entry's key.
+    /// The upper half of the hash of the key.
     tag: u32,
-    /// The place of the entry, or `FREE`.
+    /// The place of the key, or `FREE`.
     place: u32,
 }
 
@@ -42,7 +42,7 @@ pub(crate) struct Hints {
     begun: FoldHasher,
     /// The rows.
     rows: Vec<Hint>,
-    /// Whether a hint leads to each entry, so that a key to which none leads isn't there.
+    /// Whether a hint leads to each key, so that one to which none leads isn't there.
     pub(crate) complete: bool,
 }
 
@@ -115,34 +115,30 @@ fn put_hint(rows: &mut [Hint], hash: u64, place: usize) {
     }
 }
 
-/// How many rows there are for so many entries: a power of two, and four times as many as there are
-/// entries that may have a hint, at least.
-fn rows_for(entries: usize) -> usize {
-    (4 * entries.min(u32::MAX as usize)).next_power_of_two()
+/// How many rows there are for so many keys: a power of two, and four times as many as there are
+/// keys that may have a hint, at least.
+fn rows_for(keys: usize) -> usize {
+    (4 * keys.min(u32::MAX as usize)).next_power_of_two()
 }
 
-/// Rows with hints to entries. Out of memory is the only refusal.
-fn hint_rows<K: QuickHash, V>(
-    alloc: Global,
-    begun: &FoldHasher,
-    entries: &[(K, V)],
-) -> M<Vec<Hint>> {
+/// Rows with hints to keys. Out of memory is the only refusal.
+fn hint_rows<K: QuickHash>(alloc: Global, begun: &FoldHasher, keys: &[K]) -> M<Vec<Hint>> {
     let mut rows = vec![in alloc; Hint {
         tag: 0,
         place: FREE
-    }; rows_for(entries.len())]?;
-    for (place, entry) in entries.iter().enumerate() {
-        put_hint(&mut rows, hash_of(begun, &entry.0), place);
+    }; rows_for(keys.len())]?;
+    for (place, key) in keys.iter().enumerate() {
+        put_hint(&mut rows, hash_of(begun, key), place);
     }
     Ok(rows)
 }
 
-/// Whether a hint leads to each entry.
-fn lead_to_all<K: QuickHash, V>(rows: &[Hint], begun: &FoldHasher, entries: &[(K, V)]) -> bool
-    ensures { IsTrue result → LeadToAll K.quick_input begun.now rows.now (keys_of entries.now) }
+/// Whether a hint leads to each key.
+fn lead_to_all<K: QuickHash>(rows: &[Hint], begun: &FoldHasher, keys: &[K]) -> bool
+    ensures { IsTrue result → LeadToAll K.quick_input begun.now rows.now keys.now }
 {
-    for (place, entry) in entries.iter().enumerate() {
-        if place_hinted(rows, hash_of(begun, &entry.0)) != Some(place) {
+    for (place, key) in keys.iter().enumerate() {
+        if place_hinted(rows, hash_of(begun, key)) != Some(place) {
             return false;
         }
     }
@@ -161,14 +157,14 @@ impl Hints {
         }
     }
 
-    /// Hints to the entries of a list. Out of memory is the only refusal.
-    pub(crate) fn of<K: QuickHash, V>(alloc: Global, entries: &[(K, V)]) -> M<Self>
-        ensures { IfOk result (λ hints. AreHinted K.quick_input hints (keys_of entries.now)) }
+    /// Hints to the keys of a list. Out of memory is the only refusal.
+    pub(crate) fn of<K: QuickHash>(alloc: Global, keys: &[K]) -> M<Self>
+        ensures { IfOk result (λ hints. AreHinted K.quick_input hints keys.now) }
     {
         for seed in SEEDS {
             let begun = begun_with(seed);
-            let rows = hint_rows(alloc, &begun, entries)?;
-            if lead_to_all(&rows, &begun, entries) {
+            let rows = hint_rows(alloc, &begun, keys)?;
+            if lead_to_all(&rows, &begun, keys) {
                 return Ok(Hints {
                     begun,
                     rows,
@@ -179,12 +175,12 @@ impl Hints {
         let begun = begun_with(SEEDS[0]);
         Ok(Hints {
             begun,
-            rows: hint_rows(alloc, &begun, entries)?,
+            rows: hint_rows(alloc, &begun, keys)?,
             complete: false,
         })
     }
 
-    /// Where the entry of a key may stand, if there is a hint.
+    /// Where a key may stand, if there is a hint.
     pub(crate) fn guess<K: QuickHash>(&self, key: &K) -> Option<usize>
         ensures found { IfSome result (LeadsTo self.now.rows.items
             (hash_by self.now.begun (K.quick_input key.now))) }

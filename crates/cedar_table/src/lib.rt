@@ -1,4 +1,4 @@
-//! Tables: values by key that don't change, in one sorted list.
+//! Tables: values by key that don't change, in the order of their keys.
 //!
 //! [`Table`] is made of a map, and finds a value by a hint from its key's hash. Contracts speak of
 //! the list alone.

@@ -1,8 +1,6 @@
 //! Tables, and how they are made of maps and read.
 
-use crate::hints::Hints;
 use crate::iter::{Iter, Keys, Values};
-use crate::search::place_of;
 use crate::table_keys::TableKeys;
 use cedar_below::{M, QuickHash};
 use std::alloc::Global;
@@ -11,30 +9,32 @@ use std::marker::Model;
 
 /// Values by key, which don't change: entries in the order of their keys, each key once.
 ///
-/// A look-up costs a hash. Only where some key has no hint, since too many hash alike, a key to
-/// which no hint leads is looked for by halving the list.
+/// Keys and values stand in a column each, so that a look-up goes over keys alone. It costs a hash.
+/// Only where some key has no hint, since too many hash alike, a key to which no hint leads is
+/// looked for by halving the keys.
 pub struct Table<K: Ord + QuickHash, V> {
-    pub(crate) entries: Vec<(K, V)>,
-    hints: Hints,
+    pub(crate) keys: TableKeys<K>,
+    /// The value of the key at the same place.
+    pub(crate) values: Vec<V>,
 }
 
 impl<K: Ord + QuickHash, V> Model for Table<K, V> {
-    ghost use Rattle.cedar_table.specs.Words.{AreHinted, Entries, IsStrictlySortedBy, keys_of};
+    ghost use Rattle.std.specs.Prelude.{◌≡◌, length};
+    ghost use Rattle.cedar_table.specs.Words.{Entries, zip};
 
     ghost Value = { Entries K V };
 
-    ghost view = { λ a. record { entries = a.entries.items } };
+    ghost view = { λ a. record { entries = zip a.keys a.values.items } };
 
-    ghost invariant = { λ a. IsStrictlySortedBy K.cmp (keys_of a.entries.items)
-        × AreHinted K.quick_input a.hints (keys_of a.entries.items) };
+    ghost invariant = { λ a. length a.values.items ≡ length a.keys };
 }
 
 // Written out: proofs of what holds a table then see one call, and nothing of its parts.
 impl<K: Ord + QuickHash + Drop, V: Drop> Drop for Table<K, V> {
     fn drop(self) {
         let Table {
-            entries: _entries,
-            hints: _hints,
+            keys: _keys,
+            values: _values,
         } = self;
     }
 }
@@ -49,8 +49,8 @@ impl<K: Ord + QuickHash, V> Table<K, V> {
         ensures ordered { IsStrictlySortedBy K.cmp (keys_of result.entries) }
     {
         Table {
-            entries: Vec::new(alloc),
-            hints: Hints::new(alloc),
+            keys: TableKeys::new(alloc),
+            values: Vec::new(alloc),
         }
     }
 
@@ -58,12 +58,12 @@ impl<K: Ord + QuickHash, V> Table<K, V> {
     pub fn keys_ascend(&self)
         ensures { IsStrictlySortedBy K.cmp (keys_of self.now.entries) }
     {
-        let _ = &self.entries;
+        let _ = self.keys.as_vec();
     }
 
     /// The allocator of the entries.
     pub(crate) fn allocator(&self) -> &Global {
-        self.entries.allocator()
+        self.values.allocator()
     }
 
     /// The entries, in the order of their keys.
@@ -71,7 +71,7 @@ impl<K: Ord + QuickHash, V> Table<K, V> {
         ensures rest { result ≡ self.now.entries }
         ensures ordered { IsStrictlySortedBy K.cmp (keys_of self.now.entries) }
     {
-        Iter::new(&self.entries)
+        Iter::new(self.keys.as_vec(), &self.values)
     }
 
     /// The keys, in order.
@@ -79,7 +79,7 @@ impl<K: Ord + QuickHash, V> Table<K, V> {
         ensures rest { result ≡ keys_of self.now.entries }
         ensures ordered { IsStrictlySortedBy K.cmp (keys_of self.now.entries) }
     {
-        Keys::new(&self.entries)
+        Keys::new(self.iter())
     }
 
     /// The values, in the order of their keys.
@@ -87,73 +87,44 @@ impl<K: Ord + QuickHash, V> Table<K, V> {
         ensures rest { result ≡ values_of self.now.entries }
         ensures ordered { IsStrictlySortedBy K.cmp (keys_of self.now.entries) }
     {
-        Values::new(&self.entries)
+        Values::new(self.iter())
     }
 }
 
 impl<K: Ord + QuickHash + Drop, V: Drop> Table<K, V> {
-    ghost use Rattle.std.specs.Prelude.{◌≡◌, IfOk, OnOk, length};
+    ghost use Rattle.std.specs.Prelude.{◌≡◌, IfOk, length};
     ghost use Rattle.cedar_table.specs.Words.{IsStrictlySortedBy, keys_of, values_of, zip};
 
     /// The entries of a map. Out of memory is the only refusal.
     pub fn from_map(alloc: Global, map: BTreeMap<K, V>) -> M<Self>
         ensures { IfOk result (λ table. table.entries ≡ map.entries) }
     {
-        let mut entries = Vec::with_capacity(alloc, map.len())?;
-        for entry in map {
-            entries.push(entry)?;
-        }
-        Table::of_entries(alloc, entries)
-    }
-
-    /// The entries of a list, which are in the order of their keys. Out of memory is the only
-    /// refusal.
-    pub(crate) fn of_entries(alloc: Global, entries: Vec<(K, V)>) -> M<Self>
-        requires { IsStrictlySortedBy K.cmp (keys_of entries.items) }
-        ensures { IfOk result (λ table. table.entries ≡ entries.items) }
-    {
-        let hints = Hints::of(alloc, &entries)?;
-        Ok(Table { entries, hints })
-    }
-
-    /// The entries, in the order of their keys.
-    pub fn into_entries(self) -> Vec<(K, V)>
-        ensures entries { result.items ≡ self.entries }
-        ensures ordered { IsStrictlySortedBy K.cmp (keys_of self.entries) }
-    {
-        let Table {
-            entries,
-            hints: _hints,
-        } = self;
-        entries
-    }
-
-    /// The keys, as they are hinted, and the values at their places. Out of memory is the only
-    /// refusal.
-    pub fn into_parts(self, alloc: Global) -> M<(TableKeys<K>, Vec<V>)>
-        ensures sorted { OnOk result (IsStrictlySortedBy K.cmp (keys_of self.entries)) }
-        ensures keys { IfOk result (λ parts. parts.0 ≡ keys_of self.entries) }
-        ensures values { IfOk result (λ parts. parts.1.items ≡ values_of self.entries) }
-    {
-        let Table { entries, hints } = self;
-        let mut keys = Vec::with_capacity(alloc, entries.len())?;
-        let mut values = Vec::with_capacity(alloc, entries.len())?;
-        for (key, value) in entries {
+        let mut keys = Vec::with_capacity(alloc, map.len())?;
+        let mut values = Vec::with_capacity(alloc, map.len())?;
+        for (key, value) in map {
             keys.push(key)?;
             values.push(value)?;
         }
-        Ok((TableKeys { keys, hints }, values))
+        Ok(Table::from_parts(TableKeys::of(alloc, keys)?, values))
     }
 
-    /// The table of keys and the values at their places, as many of these. Out of memory is the
-    /// only refusal.
-    pub fn from_parts(alloc: Global, keys: TableKeys<K>, values: Vec<V>) -> M<Self>
-        requires { length values.items ≡ length keys }
-        ensures { IfOk result (λ table. table.entries ≡ zip keys values.items) }
+    /// The keys, as they are hinted, and the values at their places.
+    pub fn into_parts(self) -> (TableKeys<K>, Vec<V>)
+        ensures sorted { IsStrictlySortedBy K.cmp (keys_of self.entries) }
+        ensures keys { result.0 ≡ keys_of self.entries }
+        ensures values { result.1.items ≡ values_of self.entries }
     {
-        let (keys, hints) = keys.into_parts();
-        let entries = keys.into_iter().zip(values).collect(alloc)?;
-        Ok(Table { entries, hints })
+        let Table { keys, values } = self;
+        let _ = keys.as_vec();
+        (keys, values)
+    }
+
+    /// The table of keys and the values at their places, as many of these.
+    pub fn from_parts(keys: TableKeys<K>, values: Vec<V>) -> Self
+        requires { length values.items ≡ length keys }
+        ensures { result.entries ≡ zip keys values.items }
+    {
+        Table { keys, values }
     }
 }
 
@@ -165,7 +136,7 @@ impl<K: Ord + QuickHash, V> Table<K, V> {
     pub fn len(&self) -> usize
         ensures { result ≡ length self.now.entries }
     {
-        self.entries.len()
+        self.values.len()
     }
 
     /// The place of a key in the order of the keys, if it is there.
@@ -173,15 +144,15 @@ impl<K: Ord + QuickHash, V> Table<K, V> {
         ensures found { IfSome result (StandsAt K.cmp self.now.entries key.now) }
         ensures lacking { IfNone result (get_by (K.cmp key.now) self.now ≡ None) }
     {
-        place_of(&self.entries, &self.hints, key)
+        self.keys.place(key)
     }
 
     /// The value of a key, if there is one.
     pub fn get(&self, key: &K) -> Option<&V>
         ensures value { option_copied result ≡ get_by (K.cmp key.now) self.now }
     {
-        let place = place_of(&self.entries, &self.hints, key)?;
-        Some(&self.entries[place].1)
+        let place = self.keys.place(key)?;
+        Some(&self.values[place])
     }
 
     /// Whether the key is there.

@@ -1,13 +1,15 @@
-//! The keys of a table whose values are taken out of it.
+//! The keys of a table: in order, and hinted.
 
 use crate::hints::Hints;
-use cedar_below::QuickHash;
+use crate::search::place_of;
+use cedar_below::{M, QuickHash};
+use std::alloc::Global;
 use std::marker::Model;
 
 /// The keys of a table, in their order, each once, as they are hinted.
 pub struct TableKeys<K: Ord + QuickHash> {
     pub(crate) keys: Vec<K>,
-    pub(crate) hints: Hints,
+    hints: Hints,
 }
 
 impl<K: Ord + QuickHash> Model for TableKeys<K> {
@@ -33,27 +35,47 @@ impl<K: Ord + QuickHash + Drop> Drop for TableKeys<K> {
 }
 
 impl<K: Ord + QuickHash> TableKeys<K> {
-    ghost use Rattle.std.specs.Prelude.{◌≡◌};
+    ghost use Rattle.std.specs.Prelude.{◌≡◌, [], IfNone, IfSome, ℕ};
+    ghost use Rattle.cedar_table.specs.Words.{IsStrictlySortedBy, KeyStandsAt};
+
+    /// No keys.
+    pub(crate) fn new(alloc: Global) -> Self
+        ensures { result ≡ [] }
+    {
+        TableKeys {
+            keys: Vec::new(alloc),
+            hints: Hints::new(alloc),
+        }
+    }
 
     /// The keys, in their order.
     pub fn as_vec(&self) -> &Vec<K>
-        ensures { result.now.items ≡ self.now }
+        ensures keys { result.now.items ≡ self.now }
+        ensures sorted { IsStrictlySortedBy K.cmp self.now }
     {
         &self.keys
+    }
+
+    /// The place of a key, if it is there.
+    pub(crate) fn place(&self, key: &K) -> Option<usize>
+        ensures sorted { IsStrictlySortedBy K.cmp self.now }
+        ensures found { IfSome result (KeyStandsAt K.cmp self.now key.now) }
+        ensures lacking { IfNone result ((place : ℕ) → ¬ KeyStandsAt K.cmp self.now key.now place) }
+    {
+        place_of(&self.keys, &self.hints, key)
     }
 }
 
 impl<K: Ord + QuickHash + Drop> TableKeys<K> {
-    ghost use Rattle.std.specs.Prelude.{◌≡◌};
-    ghost use Rattle.cedar_table.specs.Words.{AreHinted, IsStrictlySortedBy};
+    ghost use Rattle.std.specs.Prelude.{◌≡◌, IfOk};
+    ghost use Rattle.cedar_table.specs.Words.{IsStrictlySortedBy};
 
-    /// The keys, and the hints to them.
-    pub(crate) fn into_parts(self) -> (Vec<K>, Hints)
-        ensures keys { result.0.items ≡ self }
-        ensures sorted { IsStrictlySortedBy K.cmp self }
-        ensures hinted { AreHinted K.quick_input result.1 self }
+    /// The keys of a list, which are in order. Out of memory is the only refusal.
+    pub(crate) fn of(alloc: Global, keys: Vec<K>) -> M<Self>
+        requires { IsStrictlySortedBy K.cmp keys.items }
+        ensures { IfOk result (λ made. made ≡ keys.items) }
     {
-        let TableKeys { keys, hints } = self;
-        (keys, hints)
+        let hints = Hints::of(alloc, &keys)?;
+        Ok(TableKeys { keys, hints })
     }
 }

@@ -10,35 +10,35 @@ use Rattle.cedar_graph.proofs.Numbers.{eq_back, numbered_from_name}
 use Rattle.cedar_graph.proofs.TableClosing.{distinct_keys, grown_entries}
 use Rattle.cedar_graph.proofs.TableEdges.{chain_of_keys, chain_of_numbers, one_place}
 use Rattle.cedar_graph.proofs.table_closing.closed_table.Goals as goal
-use Rattle.cedar_graph.proofs.table_closing.closed_table.Goals.{In_ok-keys, then-enforce_dag+in_default, else-enforce_dag}
+use Rattle.cedar_graph.proofs.table_closing.closed_table.Goals.{After-into_parts-keys, then-enforce_dag+in_default, else-enforce_dag}
 
 pub closed_lists-requires : goal.closed_lists-requires
 closed_lists-requires g c = record { within = λ i j edge. let below = c.requires.within i j edge in omega (arith, below, c.len.ensures) }
 
 -- the keys differ
-distinct : (g : _) (c : In_ok-keys g) → IsDistinct g.K.PartialEq.eq (keys_of c.args.nodes.entries)
-distinct g c = distinct_keys g.K.Ord.cmp g.met.K.Ord.matches_eq (keys_of c.args.nodes.entries) c.in_ok-keys.ensures.sorted
+distinct : (g : _) (c : After-into_parts-keys g) → IsDistinct g.K.PartialEq.eq (keys_of c.args.nodes.entries)
+distinct g c = distinct_keys g.K.Ord.cmp g.met.K.Ord.matches_eq (keys_of c.args.nodes.entries) c.into_parts-keys.ensures.sorted
 
 -- each target is the number of a key
-within : (g : _) (c : In_ok-keys g) (i j : ℕ) → IsTarget c.args.targets.now.items i j → j < length (keys_of c.args.nodes.entries)
+within : (g : _) (c : After-into_parts-keys g) (i j : ℕ) → IsTarget c.args.targets.now.items i j → j < length (keys_of c.args.nodes.entries)
 within g c i j edge =
     let below = c.requires.within i j edge in omega (arith, below, length-map c.args.nodes.entries (λ e. e.0))
 
 -- and so is each that a list holds
-reached : (g : _) (c : In_ok-keys g) (i j : ℕ) → IsTarget c.in_ok-lists.lists.items i j → j < length (keys_of c.args.nodes.entries)
+reached : (g : _) (c : After-into_parts-keys g) (i j : ℕ) → IsTarget c.in_ok-lists.lists.items i j → j < length (keys_of c.args.nodes.entries)
 reached g c i j stands =
     held_after (λ k. k < length (keys_of c.args.nodes.entries)) i (λ k edge. within g c i k edge) (λ k l _ edge. within g c k l edge)
     ((c.in_ok-lists.ensures.closed i j).0 stands)
 
 pub index-requires : goal.index-requires
 index-requires g c =
-    let below = reached g (goal.at.index-requires g c).In_ok-keys c.in-Some.place c.in-Some.place c.in-Some.ensures.found in
-    let count = ap length (c.as_vec.ensures ∙ c.in_ok-keys.ensures.keys) in
+    let below = reached g (goal.at.index-requires g c).After-into_parts-keys c.in-Some.place c.in-Some.place c.in-Some.ensures.found in
+    let count = ap length (c.as_vec.ensures.keys ∙ c.into_parts-keys.ensures.keys) in
     omega (arith, below, count, c.as_vec.result.now.ok.0)
 
 pub returns-in-Some-clause-fault : goal.returns-in-Some-clause-fault
 returns-in-Some-clause-fault g c =
-    let d = (goal.at.returns-in-Some-clause-fault g c).In_ok-keys in
+    let d = (goal.at.returns-in-Some-clause-fault g c).After-into_parts-keys in
     let eq = g.K.PartialEq.eq in
     let laws = g.met.K.Eq.laws in
     let keys = keys_of c.args.nodes.entries in
@@ -47,7 +47,7 @@ returns-in-Some-clause-fault g c =
     let copy = c.in_ok-copy_key.field-0 in
     let found = c.in-Some.ensures.found in
     let below = reached g d place place found in
-    let held = c.as_vec.ensures ∙ c.in_ok-keys.ensures.keys in
+    let held = c.as_vec.ensures.keys ∙ c.into_parts-keys.ensures.keys in
     let there : slice_get keys place ≡ Some name =
     slice_get_read keys (length keys) place name refl below (c.index.ensures ∙ ap (λ ks. get_or ks place name) held) in
     let numbered = numbered_from_name eq keys name copy place there (eq_back laws name copy c.in_ok-copy_key.ensures) in (
@@ -58,11 +58,11 @@ returns-in-Some-clause-fault g c =
 
 pub linked_nodes-requires : goal.linked_nodes-requires
 linked_nodes-requires g c =
-    let d = (goal.at.linked_nodes-requires g c).In_ok-keys in
+    let d = (goal.at.linked_nodes-requires g c).After-into_parts-keys in
     let eq = g.K.PartialEq.eq in
     let entries = c.args.nodes.entries in
-    let held = c.as_vec-2.ensures ∙ c.in_ok-keys.ensures.keys in
-    let count = ap length c.in_ok-keys.ensures.values ∙ length-map entries (λ e. e.1) in
+    let held = c.as_vec-2.ensures.keys ∙ c.into_parts-keys.ensures.keys in
+    let count = ap length c.into_parts-keys.ensures.values ∙ length-map entries (λ e. e.1) in
     record {
       lists = omega (arith, count, c.in_ok-lists.ensures.len, c.requires.len);
       known = omega (arith, count, c.requires.known);
@@ -71,31 +71,31 @@ linked_nodes-requires g c =
           omega (arith, below, ap length held, c.as_vec-2.result.now.ok.0);
       linked = subst₂ (λ values keys. (i : ℕ) → IfSome (slice_get values i)
           (λ node. (to : _) → StandsIn eq keys (items_at c.args.known.now.items i) to → IsTrue (g.V.TCNode.has_edge node to)))
-          (sym c.in_ok-keys.ensures.values) (sym held) c.requires.linked;
+          (sym c.into_parts-keys.ensures.values) (sym held) c.requires.linked;
     }
 
 pub returns-clause-closed : goal.returns-clause-closed
 returns-clause-closed g c =
-    let d = (goal.at.returns-clause-closed g c).In_ok-keys in
+    let d = (goal.at.returns-clause-closed g c).After-into_parts-keys in
     let eq = g.K.PartialEq.eq in
     let edge = g.V.TCNode.has_edge in
     let alike = g.V.TCNode.is_alike in
     let entries = c.args.nodes.entries in
     let lists = c.in_ok-lists.lists.items in
-    let held = c.as_vec-2.ensures ∙ c.in_ok-keys.ensures.keys in
+    let held = c.as_vec-2.ensures.keys ∙ c.into_parts-keys.ensures.keys in
     let linked = c.in_ok-linked.linked.items in
     let grown = subst₂ (λ values keys. AreInTurn (λ i. IsGrown edge alike (StandsIn eq keys (items_at lists i))) values linked)
-    c.in_ok-keys.ensures.values held c.in_ok-linked.ensures in
+    c.into_parts-keys.ensures.values held c.in_ok-linked.ensures in
     subst (λ closed. AreInTurn (λ i it other. (other.0 ≡ it.0)
     × IsGrown edge alike (Chain (ListHas eq (keys_of entries) c.args.targets.now.items) it.0) it.1 other.1) entries closed)
-    (sym (c.in_ok-from_parts.ensures ∙ ap (λ keys. zip keys linked) c.in_ok-keys.ensures.keys))
+    (sym (c.from_parts.ensures ∙ ap (λ keys. zip keys linked) c.into_parts-keys.ensures.keys))
     (grown_entries g.met.K.Eq.laws edge alike entries (distinct g d) c.args.targets.now.items (within g d) lists
     c.in_ok-lists.ensures.closed linked grown)
 
 pub returns-clause-acyclic : goal.returns-clause-acyclic
 returns-clause-acyclic g c = λ enforced key chain. elim c.if-enforce_dag.branch [
   | then-enforce_dag+in_default w ↦
-      let d = (goal.at.returns-clause-acyclic g c).In_ok-keys in
+      let d = (goal.at.returns-clause-acyclic g c).After-into_parts-keys in
       let eq = g.K.PartialEq.eq in
       let keys = keys_of c.args.nodes.entries in
       let targets = c.args.targets.now.items in

@@ -4,4 +4,4 @@ use Rattle.cedar_table.proofs.hints.lead_to_all.Given as goal
 
 abbrev pub invariant-loop-place : goal.invariant-loop-place
 invariant-loop-place g l = (place : ℕ) → place < l.place
-    → IfSome (slice_get l.entries place) (λ entry. LeadsTo l.rows (hash_by l.begun (g.K.QuickHash.quick_input entry.0)) place)
+    → IfSome (slice_get l.keys place) (λ key. LeadsTo l.rows (hash_by l.begun (g.K.QuickHash.quick_input key)) place)

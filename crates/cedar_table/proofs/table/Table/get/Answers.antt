@@ -1,20 +1,19 @@
-use Rattle.std.proofs.Common.{List, Some, ap, subst, sym, ◌∙◌}
-use Rattle.std.specs.BTreeMap.{is_at}
-use Rattle.std.specs.Map.{lookup}
-use Rattle.cedar_table.proofs.SearchLemmas.{found_at}
+use Rattle.std.proofs.Common.{Some, ap, sym, ◌∙◌}
+use Rattle.cedar_table.specs.Words.{get_by, option_copied}
+use Rattle.cedar_table.proofs.ColumnLemmas.{found, not_found}
 use Rattle.cedar_table.proofs.table.Table.get.Goals as goal
-use Rattle.cedar_table.specs.Words.{Entries, StandsAt}
 
 pub returns : goal.returns
-returns g c =
-    let cmp = g.K.Ord.cmp in
-    let key = c.args.key.now in
-    let items = c.self.inside.entries.items in
-    let entry = c.index.result.now in
-    let At : List (g.row.K.Denot × g.row.V.Denot) → Type 0 = λ entries. StandsAt cmp entries key c.in_ok-place.place in
-    let stands : At items = subst At c.deref.ensures.value c.in_ok-place.ensures.found in
-    record {
-      value = ap (λ (it : g.row.K.Denot × g.row.V.Denot). Some it.1) c.index.ensures
-          ∙ (sym (found_at g.met.K.Ord.total items c.self.invariant.0 key c.in_ok-place.place entry stands)
-          ∙ ap (λ (table : Entries g.row.K.Denot g.row.V.Denot). lookup (is_at (cmp key)) table.entries) c.self.view_is);
-    }
+returns g c = record {
+  value = ap Some c.index.ensures
+      ∙ (sym (found c.self.inside.keys c.self.inside.values.items c.self.invariant g.K.Ord.cmp c.args.key.now
+      g.met.K.Ord.total c.place.ensures.sorted c.in_ok-place.place c.index.result.now c.in_ok-place.ensures.found)
+      ∙ ap (λ table. get_by (g.K.Ord.cmp c.args.key.now) table) c.self.view_is);
+}
+
+pub returns-in_err-place : goal.returns-in_err-place
+returns-in_err-place g c = record {
+  value = ap option_copied c.from_residual.ensures
+      ∙ sym (ap (λ table. get_by (g.K.Ord.cmp c.args.key.now) table) (sym c.self.view_is)
+      ∙ not_found c.self.inside.keys c.self.inside.values.items c.self.invariant g.K.Ord.cmp c.args.key.now c.in_err-place.ensures.lacking);
+}

@@ -1,0 +1,7 @@
+use Rattle.cedar_table.proofs.ColumnLemmas.{in_order}
+use Rattle.cedar_table.proofs.table.Table.iter.Goals as goal
+
+pub returns-clause-ordered : goal.returns-clause-ordered
+returns-clause-ordered g c =
+    in_order c.self.inside.keys c.self.inside.values.items c.self.invariant g.K.Ord.cmp c.args.self.now c.self.view_is
+    c.as_vec.ensures.sorted
