@@ -1,7 +1,7 @@
 -- Parents and descent of actions, as edges and in the bag.
 use Rattle.std.proofs.Common.{◌≡◌, List, map, ap, sym, ◌∙◌, refl, inl, Contains, inr}
 use Rattle.std.proofs.lemmas.Simd.{map-map}
-use Rattle.cedar_builder.specs.Words.{ActionBody, ActionFragment, ActionReference, AreActionsOf, Bag, Chain, EntityType, EntityUID, Entries, Extensions, HasParentAction, InternalName, IsActionParent, IsDescendantAction, NamesAction, PlainUid, TypeScope, ValidatorEntityType, action_fragment_body, action_uids, declared_actions, more, one, parents_in, plain_edge, reference_to_action, resolved_action_type, resolved_reference, uid_of}
+use Rattle.cedar_builder.specs.Words.{ActionBody, ActionReference, AreActionsOf, Bag, Chain, EntityType, EntityUID, Entries, Extensions, HasParentAction, InternalName, IsActionParent, IsDescendantAction, NamesAction, PlainUid, TypeScope, ValidatorEntityType, action_fragment_body, action_uids, declared_actions, more, one, parents_in, plain_edge, reference_to_action, resolved_action_type, resolved_reference, uid_of, DeclaredAction}
 use Rattle.cedar_below.proofs.Uids.{entity_uid_eq-same}
 use Rattle.cedar_below.specs.contracts.entity_uid.EntityUIDPartialEq.TheImpl as uid_eq
 use Rattle.cedar_declarations.proofs.OccurrenceLemmas.{Contains-image}
@@ -9,11 +9,11 @@ use Rattle.cedar_builder.proofs.NodeParents as any
 use Rattle.cedar_builder.specs.ActionNodes.{IsAbove}
 
 -- the uid of an action with the parents that are declared
-abbrev pub listed : EntityUID × ActionFragment InternalName EntityType → PlainUid × List ActionReference
-listed it = (uid_of it.0, (action_fragment_body InternalName resolved_reference EntityType resolved_action_type it.1).parents)
+abbrev pub listed : DeclaredAction → PlainUid × List ActionReference
+listed it = (uid_of it.value.0, (action_fragment_body InternalName resolved_reference EntityType resolved_action_type it.value.1).parents)
 
 -- the edges are those to what is declared from its parents
-abbrev pub AreEdges : List (EntityUID × ActionFragment InternalName EntityType) → List (EntityUID × EntityUID) → Type 0
+abbrev pub AreEdges : List DeclaredAction → List (EntityUID × EntityUID) → Type 0
 AreEdges declared edges = map (plain_edge uid_of reference_to_action) edges
     ≡ parents_in (map listed declared)
 
@@ -36,7 +36,7 @@ descendant_declared bag {lower = lower} (one step) =
 descendant_declared bag {lower = lower} (more step rest) =
     Contains-image (λ (it : PlainUid × ActionBody). it.0) (declared_actions bag) (lower, step.1.0) step.1.1
 
-module _ (bag : Bag) (extensions : Extensions) (declared : List (EntityUID × ActionFragment InternalName EntityType))
+module _ (bag : Bag) (extensions : Extensions) (declared : List DeclaredAction)
     (types : Entries EntityType ValidatorEntityType) (scope : TypeScope)
     (ready : AreActionsOf bag extensions declared types scope) where
   -- a parent by its uid alone is declared

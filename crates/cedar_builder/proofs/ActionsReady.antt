@@ -7,7 +7,7 @@ use Rattle.cedar_table.specs.Entries.{Entries as TableEntries}
 use Rattle.std.specs.List.{flat_map}
 use Rattle.cedar_schema_elements.proofs.SetLemmas.{list_any-uids}
 use Rattle.cedar_schema_elements.specs.ValidatorActionId.{parts_of}
-use Rattle.cedar_builder.specs.Words.{ActionBody, ActionFragment, ActionKind, ActionRequests, ActionSays, ActionsAreSound, AreActionsOf, AreNamed, AreReady, AreSoundRequests, Bag, CountsInRequests, Covers, Entity, EntityType, EntityUID, Expr, Extensions, Fault, InternalName, IsActionType, IsAtEntityTypePosition, IsCollected, IsCollectedAt, IsCollectingFault, IsCounted, IsDeclaredAction, IsDeclaredActionKind, IsDefined, IsDescendantAction, IsElaboratedAction, IsElaboratedKind, IsFault, IsNameFault, IsNamedBy, IsPrincipalOrResource, IsRequestsFault, PlainName, PlainUid, Reference, Requests, ResolvesTo, SameAction, SaysTogether, Twice, TypeScope, ValidatorActionId, ValidatorEntityType, action_definition_in, action_of, action_uids, context_not_record, declared_actions, declared_entities, defined_action, defined_actions, defined_in, defined_names, definition_in, definitions, duplicate_action, elsewhere, extensions_in_scope, external_action, fragment_requests, is_action_definition, name_of, names_in, names_of, out_of_memory, plain_action_entry, reference_to_one, requests, requests_in, resolved_reference, uid_of}
+use Rattle.cedar_builder.specs.Words.{ActionBody, ActionKind, ActionRequests, ActionSays, ActionsAreSound, AreActionsOf, AreNamed, AreReady, AreSoundRequests, Bag, CountsInRequests, Covers, Entity, EntityType, EntityUID, Expr, Extensions, Fault, InternalName, IsActionType, IsAtEntityTypePosition, IsCollected, IsCollectedAt, IsCollectingFault, IsCounted, IsDeclaredAction, IsDeclaredActionKind, IsDefined, IsDescendantAction, IsElaboratedAction, IsElaboratedKind, IsFault, IsNameFault, IsNamedBy, IsPrincipalOrResource, IsRequestsFault, PlainName, PlainUid, Reference, Requests, ResolvesTo, SameAction, SaysTogether, Twice, TypeScope, ValidatorActionId, ValidatorEntityType, action_definition_in, action_of, action_uids, context_not_record, declared_actions, declared_entities, defined_action, defined_actions, defined_in, defined_names, definition_in, definitions, duplicate_action, elsewhere, extensions_in_scope, external_action, fragment_requests, is_action_definition, name_of, names_in, names_of, out_of_memory, plain_action_entry, reference_to_one, requests, requests_in, resolved_reference, uid_of, DeclaredAction}
 use Rattle.cedar_below.proofs.Lists.{Contains-preimage}
 use Rattle.cedar_below.specs.contracts.entity_uid.EntityUIDPartialEq.TheImpl as uid_eq
 use Rattle.cedar_declarations.proofs.DeclarationLemmas.{action_declaration}
@@ -82,7 +82,7 @@ abbrev pub AreCollected : TypeScope → List Entry → List (EntityUID × Valida
 AreCollected scope entries nodes =
     (key : EntityUID) → IsCollectedAt is_action_definition IsExternal uid_in (GivesAction scope) entries (uid_of key) (node_at nodes key)
 
-module _ (bag : Bag) (extensions : Extensions) (declared : List (EntityUID × ActionFragment InternalName EntityType))
+module _ (bag : Bag) (extensions : Extensions) (declared : List DeclaredAction)
     (types : TableEntries EntityType ValidatorEntityType) (scope : TypeScope)
     (ready : AreActionsOf bag extensions declared types scope) where
   abbrev Entries : List Entry
@@ -118,17 +118,17 @@ module _ (bag : Bag) (extensions : Extensions) (declared : List (EntityUID × Ac
   key_of : (uid : PlainUid) → Contains (action_uids bag) uid → (key : EntityUID) × (uid_of key ≡ uid)
   key_of uid among =
       let entry = Contains-preimage (λ (it : Entry). it.0) Entries uid (rw same_uids among) in
-      let item = Contains-preimage (λ (it : EntityUID × ActionFragment InternalName EntityType). (uid_of it.0, _)) declared entry.0 entry.1 in
-      (item.0.0, ap (λ (it : Entry). it.0) item.2 ∙ entry.2)
+      let item = Contains-preimage (λ (it : DeclaredAction). (uid_of it.value.0, _)) declared entry.0 entry.1 in
+      (item.0.value.0, ap (λ (it : Entry). it.0) item.2 ∙ entry.2)
 
   -- a principal or a resource that is handed in is a reference to one name
   one_placed : (uid : PlainUid) (applies_to : Requests) (reference : Reference) → Contains Entries (uid, applies_to)
       → IsPrincipalOrResource applies_to reference → (name : PlainName) × (reference ≡ reference_to_one Entity name)
   one_placed uid applies_to reference among place =
       let item = Contains-preimage
-      (λ (it : EntityUID × ActionFragment InternalName EntityType). (uid_of it.0, fragment_requests InternalName resolved_reference it.1.requests))
+      (λ (it : DeclaredAction). (uid_of it.value.0, fragment_requests InternalName resolved_reference it.value.1.requests))
       declared (uid, applies_to) among in
-      one_place item.0.1.requests reference
+      one_place item.0.value.1.requests reference
       (rw (ap (λ (it : Entry). it.1) item.2) place)
 
   -- what counts in a declaration counts in the bag

@@ -2,14 +2,14 @@
 use Rattle.std.proofs.Common.{◌≡◌, List, map, ap, sym, ◌∙◌, refl, inl, Contains, inr}
 use Rattle.std.proofs.lemmas.Simd.{map-map}
 use Rattle.cedar_below.proofs.Names.{entity_type_eq-same}
-use Rattle.cedar_builder.specs.Words.{Bag, Chain, Entity, EntityType, EntityTypeFragment, Extensions, Fault, HasParent, InternalName, IsAbove, IsAtEntityTypePosition, IsDescendant, IsParent, IsReady, IsReserved, PlainName, Reference, ResolvesTo, TypeScope, declared_entities, defined_names, entity_parents, fragment_body, parents_in, plain_edge, reference_to_one, reserved_name, resolved_reference, type_name}
+use Rattle.cedar_builder.specs.Words.{Bag, Chain, Entity, EntityType, Extensions, Fault, HasParent, InternalName, IsAbove, IsAtEntityTypePosition, IsDescendant, IsParent, IsReady, IsReserved, PlainName, Reference, ResolvesTo, TypeScope, declared_entities, defined_names, entity_parents, fragment_body, parents_in, plain_edge, reference_to_one, reserved_name, resolved_reference, type_name, DeclaredEntityType}
 use Rattle.cedar_below.specs.contracts.entity_type.EntityTypePartialEq.TheImpl as entity_type_eq
 use Rattle.cedar_declarations.proofs.DeclarationLemmas.{entity_declaration}
 use Rattle.cedar_builder.proofs.NodeParents as any
 
 -- the name of an entity type with the parents that are declared
-abbrev pub listed : EntityType × EntityTypeFragment InternalName → PlainName × List Reference
-listed it = (type_name it.0, entity_parents (fragment_body InternalName resolved_reference it.1))
+abbrev pub listed : DeclaredEntityType → PlainName × List Reference
+listed it = (type_name it.value.0, entity_parents (fragment_body InternalName resolved_reference it.value.1))
 
 -- a parent is refused since its name is reserved
 abbrev pub RefusesReserved : Reference → Fault → Type 0
@@ -17,7 +17,7 @@ RefusesReserved reference fault =
     (name : PlainName) × (fault ≡ reserved_name name) × IsReserved name × (reference ≡ reference_to_one Entity name)
 
 -- the edges are those to what is declared from its parents
-abbrev pub AreEdges : List (EntityType × EntityTypeFragment InternalName) → List (EntityType × EntityType) → Type 0
+abbrev pub AreEdges : List DeclaredEntityType → List (EntityType × EntityType) → Type 0
 AreEdges declared edges = map (plain_edge type_name (reference_to_one Entity)) edges
     ≡ parents_in (map listed declared)
 
@@ -32,7 +32,7 @@ parent_placed bag name reference parent =
     let it = entity_declaration bag name parent.0 parent.1 in
     (it.0, it.1, rw it.2 parent.2)
 
-module _ (bag : Bag) (extensions : Extensions) (declared : List (EntityType × EntityTypeFragment InternalName))
+module _ (bag : Bag) (extensions : Extensions) (declared : List DeclaredEntityType)
     (scope : TypeScope) (ready : IsReady bag extensions declared scope) where
   -- a reference to one name that has to be an entity type resolves to it
   pub one_resolves : (name : PlainName) → IsAtEntityTypePosition bag (reference_to_one Entity name)

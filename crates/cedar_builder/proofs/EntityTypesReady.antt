@@ -4,7 +4,7 @@ use Rattle.std.proofs.lemmas.Bool.{false≢true}
 use Rattle.std.specs.List.{flat_map}
 use Rattle.std.proofs.lemmas.List.Elements.{Contains-append_cases}
 use Rattle.cedar_below.proofs.Lists.{Contains-preimage}
-use Rattle.cedar_builder.specs.Words.{AreDeclaredTags, AreElaboratedTags, AreLinked, AreUnlinked, Bag, CountsInEntity, Covers, Defined, Entity, EntityBody, EntitySays, EntityType, EntityTypeFragment, EntityTypeKind, EntityTypesAreSound, Expr, Extensions, Fault, HasNoRecord, HasParent, InternalName, IsAbove, IsActionType, IsAtEntityTypePosition, IsBodyFault, IsCollected, IsCollectedAt, IsCollectingFault, IsCounted, IsDeclaredEntityType, IsDeclaredKind, IsDefined, IsDescendant, IsElaboratedEntity, IsEnumerated, IsEnumeratedAt, IsExternalAt, IsExternalType, IsFault, IsLinkingFault, IsNoRecord, IsParent, IsParentFault, IsReady, IsSoundBody, LeadsTo, PlainEntityType, PlainName, Reference, ResolvesTo, SameType, SaysTogether, Text, Twice, Ty, TypeScope, ValidatorEntityType, action_uids, collected_entities, declared_entities, defined_entities, defined_in, defined_names, definition_in, definitions, duplicate_entity_type, entity_definition_in, entity_definitions, entity_parents, entity_type_of, entry_names, enumerated, enumerated_below, enumerated_kind, extensions_in_scope, external, external_kind, has_descendant, is_entity_definition, node_at, out_of_memory, parents_in, plain_entry, reference_to_one, shape_not_record, standard, standard_kind, type_name, undeclared_entity_types}
+use Rattle.cedar_builder.specs.Words.{AreDeclaredTags, AreElaboratedTags, AreLinked, AreUnlinked, Bag, CountsInEntity, Covers, Defined, Entity, EntityBody, EntitySays, EntityType, EntityTypeKind, EntityTypesAreSound, Expr, Extensions, Fault, HasNoRecord, HasParent, InternalName, IsAbove, IsActionType, IsAtEntityTypePosition, IsBodyFault, IsCollected, IsCollectedAt, IsCollectingFault, IsCounted, IsDeclaredEntityType, IsDeclaredKind, IsDefined, IsDescendant, IsElaboratedEntity, IsEnumerated, IsEnumeratedAt, IsExternalAt, IsExternalType, IsFault, IsLinkingFault, IsNoRecord, IsParent, IsParentFault, IsReady, IsSoundBody, LeadsTo, PlainEntityType, PlainName, Reference, ResolvesTo, SameType, SaysTogether, Text, Twice, Ty, TypeScope, ValidatorEntityType, action_uids, collected_entities, declared_entities, defined_entities, defined_in, defined_names, definition_in, definitions, duplicate_entity_type, entity_definition_in, entity_definitions, entity_parents, entity_type_of, entry_names, enumerated, enumerated_below, enumerated_kind, extensions_in_scope, external, external_kind, has_descendant, is_entity_definition, node_at, out_of_memory, parents_in, plain_entry, reference_to_one, shape_not_record, standard, standard_kind, type_name, undeclared_entity_types, DeclaredEntityType}
 use Rattle.cedar_below.specs.contracts.entity_type.EntityTypePartialEq.TheImpl as entity_type_eq
 use Rattle.cedar_declarations.proofs.DeclarationLemmas.{entity_declaration}
 use Rattle.cedar_declarations.proofs.Definitions.{declared_definition, key_defined, said_declared, said_definition}
@@ -111,7 +111,7 @@ no_edges scope entries nodes collected = collected_apart (entity_type_eq.ghosts)
     (λ it key. list_any-names key it.descendants.keys) is_entity_definition IsExternal name_of (GivesEntity scope) (λ body it given. given.no_descendants)
     entries nodes collected
 
-module _ (bag : Bag) (extensions : Extensions) (declared : List (EntityType × EntityTypeFragment InternalName))
+module _ (bag : Bag) (extensions : Extensions) (declared : List DeclaredEntityType)
     (scope : TypeScope) (ready : IsReady bag extensions declared scope) where
   abbrev Entries : List Entry
   Entries = collected_entities declared
@@ -130,8 +130,8 @@ module _ (bag : Bag) (extensions : Extensions) (declared : List (EntityType × E
   key_of : (name : PlainName) → Contains (entry_names (declared_entities bag)) name → (key : EntityType) × (type_name key ≡ name)
   key_of name among =
       let entry = Contains-preimage (λ (it : Entry). it.0) Entries name (rw ready.entities among) in
-      let item = Contains-preimage (λ (it : EntityType × EntityTypeFragment InternalName). (type_name it.0, _)) declared entry.0 entry.1 in
-      (item.0.0, ap (λ (it : Entry). it.0) item.2 ∙ entry.2)
+      let item = Contains-preimage (λ (it : DeclaredEntityType). (type_name it.value.0, _)) declared entry.0 entry.1 in
+      (item.0.value.0, ap (λ (it : Entry). it.0) item.2 ∙ entry.2)
 
   -- enough is known for what counts in a declaration
   known_counted : (name : PlainName) (body : EntityBody) (expr : Expr) → Contains Entries (name, body) → CountsInEntity body expr

@@ -8,8 +8,7 @@ use Rattle.cedar_below.specs.declared.extension.Extensions.{Extensions}
 use Rattle.cedar_below.specs.declared.internal_name.InternalName.{InternalName}
 use Rattle.cedar_declarations.specs.Words.{Bag, IsActionParent, IsAtEntityTypePosition, IsCounted, NamesAction, ResolvesTo, action_uids, declared_actions, declared_entities, defined_names, definitions}
 use Rattle.cedar_schema_elements.specs.declared.entity_type.ValidatorEntityType.{ValidatorEntityType}
-use Rattle.cedar_fragments.specs.declared.namespace.actions.ActionFragment.{ActionFragment}
-use Rattle.cedar_resolution.specs.Collected.{collected_actions}
+use Rattle.cedar_resolution.specs.Collected.{DeclaredAction, collected_actions}
 use Rattle.cedar_names.specs.Words.{ActionReference, Expr, Reference}
 use Rattle.cedar_builder.specs.ActionSteps.{names_in}
 use Rattle.cedar_elaboration.specs.Scope.{Covers, extensions_in_scope}
@@ -20,7 +19,7 @@ use Rattle.cedar_elaboration.specs.declared.type_scope.TypeScope.{TypeScope}
 -- extension types that it is over; no common type has two definitions; and no entity type and no
 -- type of actions has a reserved name
 pub record AreActionsOf (bag : Bag) (given : Extensions)
-    (declared : List (EntityUID × ActionFragment InternalName EntityType))
+    (declared : List DeclaredAction)
     (types : Entries EntityType ValidatorEntityType) (scope : TypeScope) : Type 0 where
   pub actions : collected_actions declared ≡ declared_actions bag
   pub entity_types : SameItems (names_in types) (map (λ it. it.0) (declared_entities bag))

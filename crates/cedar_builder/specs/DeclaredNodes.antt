@@ -1,6 +1,7 @@
 -- What the private steps promise of what is declared, entity types and actions alike: as nodes of a
 -- graph, which stand under their names, as entries of a map or a table.
 use Rattle.std.specs.Prelude.{◌≡◌, ◌⊎◌, ◌↔◌, ◌∷◌, [], Bool, true, false, List, Option, None, Some, IsSome, IsSomeAnd, IsTrue, Contains, map, if◌then◌else◌}
+use Rattle.std.specs.Global.{Box}
 use Rattle.std.specs.List.{flat_map}
 use Rattle.std.specs.Map.{lookup}
 use Rattle.cedar_below.specs.Lists.{Twice}
@@ -86,8 +87,8 @@ module _ {K Node : Type 0} (eq : K → K → Bool) (has_edge : Node → K → Bo
     pub lowers : (upper lower : K) → IsEdgeIn eq edges upper lower → IsSome (at_key eq nodes lower)
 
 -- a declaration under a key, as plain data: the name of the key, and what is declared
-abbrev pub named : {K D Name Body : Type 0} → (K → Name) → (D → Body) → K × D → Name × Body
-named key_name body_of it = (key_name it.0, body_of it.1)
+abbrev pub named : {K D Name Body : Type 0} → (K → Name) → (D → Body) → Box (K × D) → Name × Body
+named key_name body_of it = (key_name it.value.0, body_of it.value.1)
 
 -- each name with each of its parents
 abbrev pub parents_in : {Name Reference : Type 0} → List (Name × List Reference)

@@ -5,9 +5,8 @@ use Rattle.cedar_below.specs.declared.entity_type.EntityType.{EntityType}
 use Rattle.cedar_below.specs.declared.extension.Extensions.{Extensions}
 use Rattle.cedar_below.specs.declared.internal_name.InternalName.{InternalName}
 use Rattle.cedar_declarations.specs.Words.{Bag, IsAtEntityTypePosition, IsCounted, ResolvesTo, declared_entities, defined_names, definitions}
-use Rattle.cedar_fragments.specs.declared.namespace.entity_types.EntityTypeFragment.{EntityTypeFragment}
 use Rattle.cedar_names.specs.Words.{Expr, Reference}
-use Rattle.cedar_resolution.specs.Collected.{collected_entities}
+use Rattle.cedar_resolution.specs.Collected.{DeclaredEntityType, collected_entities}
 use Rattle.cedar_elaboration.specs.Scope.{Covers, extensions_in_scope}
 use Rattle.cedar_elaboration.specs.declared.type_scope.TypeScope.{TypeScope}
 
@@ -15,7 +14,7 @@ use Rattle.cedar_elaboration.specs.declared.type_scope.TypeScope.{TypeScope}
 -- known of what it defines, with the extension types that it is over; no common type has two
 -- definitions; and no entity type and no type of actions has a reserved name
 pub record IsReady (bag : Bag) (given : Extensions)
-    (declared : List (EntityType × EntityTypeFragment InternalName))
+    (declared : List DeclaredEntityType)
     (scope : TypeScope) : Type 0 where
   pub entities : collected_entities declared ≡ declared_entities bag
   pub placed : (reference : Reference) → IsAtEntityTypePosition bag reference

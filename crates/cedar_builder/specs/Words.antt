@@ -25,7 +25,7 @@ pub use Rattle.cedar_fragments.specs.Words.{action_fragment_body, fragment_body,
 pub use Rattle.cedar_fragments.specs.declared.namespace.actions.ActionFragment.{ActionFragment}
 pub use Rattle.cedar_fragments.specs.declared.namespace.actions.ActionRequests.{ActionRequests}
 pub use Rattle.cedar_fragments.specs.declared.namespace.entity_types.EntityTypeFragment.{EntityTypeFragment}
-pub use Rattle.cedar_resolution.specs.Words.{collected_entities}
+pub use Rattle.cedar_resolution.specs.Words.{DeclaredAction, DeclaredEntityType, collected_entities}
 pub use Rattle.cedar_graph.specs.Words.{AreAlike, HasEntry, IsCycle, IsEdgeIn, IsEndIn, IsFaultOf, IsLinkedTo}
 pub use Rattle.cedar_graph.specs.declared.table_fault.TableFault.{TableFault}
 pub use Rattle.cedar_graph.specs.declared.table_fault.TableFault.TheVariants.{HasCycle, Lacks, Memory}

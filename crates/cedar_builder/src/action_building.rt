@@ -11,7 +11,7 @@ use crate::parents::parent_edges;
 use cedar_below::{EntityType, EntityUID, InternalName};
 use cedar_declarations::SchemaError;
 use cedar_elaboration::TypeScope;
-use cedar_fragments::namespace::ActionFragment;
+use cedar_resolution::DeclaredAction;
 use cedar_schema_elements::{ValidatorActionId, ValidatorEntityType};
 use cedar_table::Table;
 use std::alloc::Global;
@@ -27,7 +27,7 @@ use std::alloc::Global;
 /// descendant of itself, or memory runs out.
 pub fn actions(
     alloc: Global,
-    declared: Vec<(EntityUID, ActionFragment<InternalName, EntityType>)>,
+    declared: Vec<DeclaredAction>,
     entity_types: &Table<EntityType, ValidatorEntityType>,
     scope: &TypeScope,
 ) -> Result<Table<EntityUID, ValidatorActionId>, SchemaError>

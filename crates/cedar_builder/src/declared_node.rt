@@ -83,7 +83,7 @@ fn put_node<K: Ord + Hash + Drop, V: SchemaNode<K> + Drop>(
 /// is none.
 pub(crate) fn collected_nodes<K: Ord + Hash + QuickHash + Drop, S, V: DeclaredNode<K, S> + Drop>(
     alloc: Global,
-    declared: Vec<(K, V::Fragment)>,
+    declared: Vec<Box<(K, V::Fragment)>>,
     scope: &S,
 ) -> Result<Table<K, V>, SchemaError>
     ensures collected { IfOk result (λ nodes.
@@ -102,7 +102,8 @@ pub(crate) fn collected_nodes<K: Ord + Hash + QuickHash + Drop, S, V: DeclaredNo
         (map (named V.key_name V.body_of) declared.items) (fault_of error)) }
 {
     let mut nodes = BTreeMap::new(alloc);
-    for (name, fragment) in declared {
+    for item in declared {
+        let (name, fragment) = Box::into_inner(item);
         let node = V::declared(alloc, name, fragment, scope)?;
         put_node::<K, V>(&mut nodes, node)?;
     }

@@ -9,7 +9,7 @@ use crate::parents::parent_edges;
 use cedar_below::{EntityType, InternalName};
 use cedar_declarations::SchemaError;
 use cedar_elaboration::TypeScope;
-use cedar_fragments::namespace::EntityTypeFragment;
+use cedar_resolution::DeclaredEntityType;
 use cedar_schema_elements::ValidatorEntityType;
 use cedar_table::Table;
 use std::alloc::Global;
@@ -25,7 +25,7 @@ use std::alloc::Global;
 /// out.
 pub fn entity_types(
     alloc: Global,
-    declared: Vec<(EntityType, EntityTypeFragment<InternalName>)>,
+    declared: Vec<DeclaredEntityType>,
     scope: &TypeScope,
 ) -> Result<Table<EntityType, ValidatorEntityType>, SchemaError>
     ensures declared { IfOk result (λ types. (bag : Bag) (extensions : Extensions)

@@ -66,7 +66,7 @@ fn add_parents<K: Drop, D: HasParents<K>>(
 /// An edge to what each declaration is of from each of its parents.
 pub(crate) fn parent_edges<K: Drop, D: HasParents<K>>(
     alloc: Global,
-    declared: &[(K, D)],
+    declared: &[Box<(K, D)>],
 ) -> Result<Vec<(K, K)>, SchemaError>
     ensures edges { IfOk result (λ edges. map (plain_edge D.key_name D.reference_to) edges.items
         ≡ parents_in (map (named D.key_name D.parents_of) declared.now)) }

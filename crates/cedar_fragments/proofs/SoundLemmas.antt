@@ -1,9 +1,9 @@
 -- Declarations that give cause for a refusal whatever else is declared, and those that give none.
-use Rattle.std.proofs.Common.{◌≡◌, ◌≢◌, ◌⊎◌, List, [], ◌∷◌, ◌++◌, sym, ◌∙◌, refl, inl, inr, Contains, Option, arith}
+use Rattle.std.proofs.Common.{◌≡◌, ◌≢◌, ◌⊎◌, List, [], ◌∷◌, ◌++◌, sym, ◌∙◌, ap, refl, inl, inr, Contains, Option, arith, subst}
 use Rattle.std.proofs.lemmas.Bool.{false≢true}
 use Rattle.std.specs.List.{AllByRecursion}
 use Rattle.cedar_below.proofs.Lists.{Contains-cons_cases, Contains-preimage}
-use Rattle.cedar_fragments.specs.Words.{ActionBody, Bag, CommonType, CommonTypeId, Declaration, EntityBody, Fault, GivesNoCause, HasAttributes, HasNoDefinitionFault, Included, IsActionType, IsDefinitionFault, IsSound, NamesNoAttributes, PlainName, PlainUid, RawName, Text, action, action_attributes, action_entity_type, action_uids, action_word, common_declarations, declared_actions, declared_entities, declared_name, declared_uid, entity_type, name_within, out_of_memory, path_within, raw_reference, reserved_name, reserved_word}
+use Rattle.cedar_fragments.specs.Words.{ActionBody, Bag, CommonType, CommonTypeId, Declaration, EntityBody, Fault, GivesNoCause, HasAttributes, HasNoDefinitionFault, Included, IsActionType, IsDefinitionFault, IsReserved, IsSound, NamesNoAttributes, PlainName, PlainUid, RawName, Text, action, action_attributes, action_entity_type, action_uids, action_word, common_declarations, declared_actions, declared_entities, declared_name, declared_uid, entity_type, name_within, out_of_memory, path_within, raw_reference, reserved_name, reserved_word}
 use Rattle.cedar_declarations.proofs.DeclarationLemmas.{entity_declaration, action_declaration, declares_entity, declares_action}
 use Rattle.cedar_declarations.proofs.OccurrenceLemmas.{Contains-image}
 
@@ -126,23 +126,40 @@ fault_of_entity bag namespace id body fault among refused =
           (tt, λ extensions. (inl (Contains-image _ (declared_entities bag) (declared_name it, body) declared), reserved.1)))
     ]
 
+-- the name of a type of actions is reserved where its path is
+pub action_path_reserved : (namespace : Option PlainName) (name : PlainName) → name ≡ name_within namespace action_word → IsReserved name
+    → Contains (path_within namespace) reserved_word
+action_path_reserved namespace name is reserved =
+    elim (subst IsReserved is reserved) [
+      | inl base ↦ absurd (no_word base)
+      | inr among ↦ among
+    ]
+  where
+    no_word : action_word ≢ reserved_word
+    no_word wrong = cc
+
+-- so where the name isn't reserved, the path isn't
+pub uid_unreserved : (namespace : Option PlainName) (name : PlainName) → name ≡ name_within namespace action_word → (¬ IsReserved name)
+    → ¬ Contains (path_within namespace) reserved_word
+uid_unreserved namespace name is unreserved among = unreserved (subst IsReserved (sym is) (inr among))
+
 -- the refusal of the uid of an action is a fault of the declarations among which it is
 pub fault_of_action : (bag : Bag) (namespace : Option PlainName) (id : Text) (body : ActionBody) (fault : Fault)
     → Contains bag (record { namespace = namespace; id = id; body = action body })
-    → (fault ≡ out_of_memory)
-    ⊎ ((fault ≡ reserved_name (name_within namespace action_word)) × Contains (path_within namespace) reserved_word)
+    → (name : PlainName) → name ≡ name_within namespace action_word
+    → (fault ≡ out_of_memory) ⊎ ((fault ≡ reserved_name name) × IsReserved name)
     → (fault ≡ out_of_memory) ⊎ IsDefinitionFault bag fault
-fault_of_action bag namespace id body fault among refused =
+fault_of_action bag namespace id body fault among name is refused =
     let it : Declaration = record { namespace = namespace; id = id; body = action body } in
     let declared : Contains (declared_actions bag) (declared_uid it, body) = declares_action bag it body among refl in
     elim refused [
       | inl memory ↦ inl memory
-      | inr reserved ↦ inr (rw reserved.0 (
+      | inr reserved ↦ inr (rw (reserved.0 ∙ ap reserved_name is) (
         tt,
         λ extensions. (
           inr (Contains-image _ (action_uids bag) (declared_uid it)
               (Contains-image _ (declared_actions bag) (declared_uid it, body) declared)),
-          reserved.1,
+          action_path_reserved namespace name is reserved.1,
         ),
       ))
     ]

@@ -4,7 +4,7 @@
 //! full name of what it names. The parameter `A` is the same of the type of an action's parent.
 
 pub use action_def::ActionDef;
-pub(crate) use actions::{action_uid, refuse_attributes};
+pub(crate) use actions::{action_type_name, action_uid, refuse_attributes};
 pub use actions::{ActionFragment, ActionParent, ActionRequests, ActionsDef};
 pub use common_types::{CommonTypeDef, CommonTypeDefs};
 pub use declared_names::{ActionNames, CommonTypeNames, EntityTypeNames};

@@ -1,4 +1,5 @@
 use Rattle.std.specs.Prelude.{◌≡◌, List, ◌++◌, map}
+use Rattle.std.specs.Global.{Box}
 use Rattle.std.specs.List.{flat_map}
 use Rattle.cedar_below.specs.Words.{PlainName, PlainUid, name_of, type_name, uid_of}
 use Rattle.cedar_below.specs.declared.entity_type.EntityType.{EntityType}
@@ -17,18 +18,24 @@ use Rattle.cedar_names.specs.declared.json_schema.type_of.Type.{«Type»}
 abbrev pub collected_common : List (InternalName × «Type» InternalName) → List (PlainName × Expr)
 collected_common = map (λ it. (name_of it.0, resolved_expr it.1))
 
+-- an entity type behind a pointer: its full name, and what is declared of it
+abbrev pub DeclaredEntityType : Type 0
+DeclaredEntityType = Box (EntityType × EntityTypeFragment InternalName)
+
+-- an action behind a pointer: its uid, and what is declared of it
+abbrev pub DeclaredAction : Type 0
+DeclaredAction = Box (EntityUID × ActionFragment InternalName EntityType)
+
 -- what some entity types stand for: each full name with what is declared of it
-abbrev pub collected_entities : List (EntityType × EntityTypeFragment InternalName)
-    → List (PlainName × EntityBody)
+abbrev pub collected_entities : List DeclaredEntityType → List (PlainName × EntityBody)
 collected_entities = map (λ it.
-    (type_name it.0, fragment_body InternalName resolved_reference it.1))
+    (type_name it.value.0, fragment_body InternalName resolved_reference it.value.1))
 
 -- what some actions stand for: each uid with what is declared of it
-abbrev pub collected_actions : List (EntityUID × ActionFragment InternalName EntityType)
-    → List (PlainUid × ActionBody)
+abbrev pub collected_actions : List DeclaredAction → List (PlainUid × ActionBody)
 collected_actions = map (λ it. (
-  uid_of it.0,
-  action_fragment_body InternalName resolved_reference EntityType resolved_action_type it.1,
+  uid_of it.value.0,
+  action_fragment_body InternalName resolved_reference EntityType resolved_action_type it.value.1,
 ))
 
 -- the bag of declarations of some fragments over full names

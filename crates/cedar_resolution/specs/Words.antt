@@ -26,5 +26,5 @@ pub use Rattle.cedar_fragments.specs.declared.namespace.entity_types.EntityTypes
 pub use Rattle.cedar_fragments.specs.declared.namespace.fragment.ValidatorSchemaFragment.{ValidatorSchemaFragment}
 pub use Rattle.cedar_resolution.specs.DeclaredJust.{DeclaresJust}
 pub use Rattle.cedar_resolution.specs.BuiltIn.{free_aliases, is_taken, named_types}
-pub use Rattle.cedar_resolution.specs.Collected.{CollectsAlso, collected_actions, collected_common, collected_entities, resolved_bag}
+pub use Rattle.cedar_resolution.specs.Collected.{CollectsAlso, DeclaredAction, DeclaredEntityType, collected_actions, collected_common, collected_entities, resolved_bag}
 pub use Rattle.cedar_resolution.specs.declared.declarations.Declarations.{Declarations}

@@ -5,11 +5,11 @@ ghost use Rattle.cedar_below.specs.declared.entity_type.EntityType.{EntityType a
 ghost use Rattle.cedar_below.specs.declared.internal_name.InternalName.{InternalName as Full};
 ghost use Rattle.cedar_resolution.specs.Words.{CollectsAlso, action_fragment_declarations, collected_actions, collected_common, collected_entities, common_type_declarations, declared_actions, declared_common, declared_entities, entity_type_declarations, resolved_action_type, resolved_bag, resolved_definition, resolved_fragment, resolved_reference};
 
-use crate::declarations::Declarations;
+use crate::declarations::{DeclaredAction, DeclaredEntityType, Declarations};
 use cedar_below::{EntityType, EntityUID, InternalName, M};
 use cedar_fragments::namespace::{
-    ActionDef, ActionFragment, ActionsDef, CommonTypeDef, CommonTypeDefs, EntityTypeDef,
-    EntityTypeFragment, EntityTypesDef, ValidatorNamespaceDef, ValidatorSchemaFragment,
+    ActionDef, ActionsDef, CommonTypeDef, CommonTypeDefs, EntityTypeDef, EntityTypesDef,
+    ValidatorNamespaceDef, ValidatorSchemaFragment,
 };
 use cedar_names::json_schema::Type;
 use std::alloc::Global;
@@ -33,35 +33,37 @@ fn add_common_types(
 
 /// The entity types, and then also those of a definition.
 fn add_entity_types(
-    entity_types: Vec<(EntityType, EntityTypeFragment<InternalName>)>,
+    entity_types: Vec<DeclaredEntityType>,
     defs: EntityTypesDef<InternalName>,
-) -> M<Vec<(EntityType, EntityTypeFragment<InternalName>)>>
+) -> M<Vec<DeclaredEntityType>>
     ensures { IfOk result (λ it. collected_entities it.items
         ≡ collected_entities entity_types.items
         ++ declared_entities (entity_type_declarations Full resolved_reference defs)) }
 {
+    let alloc = *entity_types.allocator();
     let mut entity_types = entity_types;
     for def in defs.into_defs() {
         let EntityTypeDef { name, fragment } = def;
-        entity_types.push((name, fragment))?;
+        entity_types.push(Box::new(alloc, (name, fragment))?)?;
     }
     Ok(entity_types)
 }
 
 /// The actions, and then also those of a definition.
 fn add_actions(
-    actions: Vec<(EntityUID, ActionFragment<InternalName, EntityType>)>,
+    actions: Vec<DeclaredAction>,
     defs: ActionsDef<InternalName, EntityType>,
-) -> M<Vec<(EntityUID, ActionFragment<InternalName, EntityType>)>>
+) -> M<Vec<DeclaredAction>>
     ensures { IfOk result (λ it. collected_actions it.items ≡ collected_actions actions.items
         ++ declared_actions
         (action_fragment_declarations Full resolved_reference ActionEntityType resolved_action_type
         defs)) }
 {
+    let alloc = *actions.allocator();
     let mut actions = actions;
     for def in defs.into_defs() {
         let ActionDef { uid, fragment } = def;
-        actions.push((uid, fragment))?;
+        actions.push(Box::new(alloc, (uid, fragment))?)?;
     }
     Ok(actions)
 }

@@ -1,6 +1,6 @@
 -- What each step is handed is what it asks for.
 use Rattle.std.proofs.Common.{◌≡◌, List, map, ap, sym, subst, inr, Contains}
-use Rattle.cedar_schema.specs.Words.{ActionFragment, AreActionsOf, AreDeclaredEntityTypes, AreElaborated, AreTypesOf, Bag, CommonTypesAreSound, EntityType, EntityTypeFragment, EntityUID, Entries, Extensions, InternalName, IsReady, IsResolvedOver, Names, PlainName, SameItems, «Type», TypeScope, ValidatorEntityType, collected_actions, collected_common, collected_entities, declared_actions, declared_common, declared_entities, definitions, elaborated_types, extension_types, set_names, type_name}
+use Rattle.cedar_schema.specs.Words.{AreActionsOf, AreDeclaredEntityTypes, AreElaborated, AreTypesOf, Bag, CommonTypesAreSound, EntityType, EntityUID, Entries, Extensions, InternalName, IsReady, IsResolvedOver, Names, PlainName, SameItems, «Type», TypeScope, ValidatorEntityType, collected_actions, collected_common, collected_entities, declared_actions, declared_common, declared_entities, definitions, elaborated_types, extension_types, set_names, type_name, DeclaredAction, DeclaredEntityType}
 use Rattle.std.specs.BTreeSet.{BTreeSet}
 use Rattle.cedar_below.proofs.Lists.{Contains-preimage}
 use Rattle.cedar_declarations.proofs.BuiltInLemmas.{one_definition}
@@ -11,8 +11,8 @@ use Rattle.cedar_schema.proofs.KnownBags.{knows_all}
 module _ (bag : Bag) (given : Extensions) (held : Names) (built_in : List (InternalName × «Type» InternalName))
     (over : IsResolvedOver bag given held (collected_common built_in)) (names : BTreeSet InternalName)
     (are_held : set_names names ≡ held.entities) (common : List (InternalName × «Type» InternalName))
-    (entity_types : List (EntityType × EntityTypeFragment InternalName))
-    (actions : List (EntityUID × ActionFragment InternalName EntityType))
+    (entity_types : List DeclaredEntityType)
+    (actions : List DeclaredAction)
     (is_common : collected_common common ≡ declared_common bag)
     (is_entities : collected_entities entity_types ≡ declared_entities bag)
     (is_actions : collected_actions actions ≡ declared_actions bag) where

@@ -23,7 +23,7 @@ pub use Rattle.cedar_fragments.specs.declared.namespace.common_types.CommonTypeD
 pub use Rattle.cedar_fragments.specs.declared.namespace.definition.ValidatorNamespaceDef.{ValidatorNamespaceDef}
 pub use Rattle.cedar_fragments.specs.declared.namespace.entity_types.EntityTypeFragment.{EntityTypeFragment}
 pub use Rattle.cedar_fragments.specs.declared.namespace.fragment.ValidatorSchemaFragment.{ValidatorSchemaFragment}
-pub use Rattle.cedar_resolution.specs.Words.{collected_actions, collected_common, collected_entities, resolved_bag}
+pub use Rattle.cedar_resolution.specs.Words.{DeclaredAction, DeclaredEntityType, collected_actions, collected_common, collected_entities, resolved_bag}
 pub use Rattle.cedar_schema_elements.specs.Words.{PlainEntityType, action_of, entity_type_of, kind_principals, kind_resources, name_type_loc, owned_environment, plain_action_entry, plain_entry, plain_kind, schema_with}
 pub use Rattle.cedar_schema_elements.specs.declared.action_id.ValidatorActionId.{ValidatorActionId}
 pub use Rattle.cedar_schema_elements.specs.declared.entity_type.ValidatorEntityType.{ValidatorEntityType}

@@ -37,38 +37,39 @@ pub(crate) struct SchemaParts {
 pub(crate) fn build_resolved(
     alloc: Global,
     fragments: Vec<ValidatorSchemaFragment<InternalName, EntityType>>,
-    defs: &AllDefs,
+    defs: AllDefs,
     built_in: Vec<(InternalName, Type<InternalName>)>,
     located: Shared<Located>,
     extensions: &Extensions,
 ) -> Result<SchemaParts, SchemaError>
     ensures declared { IfOk result (λ parts.
-        IsResolvedOver (resolved_bag fragments.items) extensions.now (held_names defs.now)
+        IsResolvedOver (resolved_bag fragments.items) extensions.now (held_names defs)
         (collected_common built_in.items)
         → IsDeclaredSchema (resolved_bag fragments.items) extensions.now (parts_schema parts)) }
     ensures located { IfOk result (λ parts. parts.located ≡ located) }
     ensures keys { IfOk result (λ parts.
         AreKeysLocated parts.entity_types.entries parts.actions.entries) }
     ensures well_formed { OnOk result
-        (IsResolvedOver (resolved_bag fragments.items) extensions.now (held_names defs.now)
+        (IsResolvedOver (resolved_bag fragments.items) extensions.now (held_names defs)
         (collected_common built_in.items)
         → ¬ IsIllFormed (resolved_bag fragments.items) extensions.now) }
     ensures fault { IfErr result (λ error.
-        IsResolvedOver (resolved_bag fragments.items) extensions.now (held_names defs.now)
+        IsResolvedOver (resolved_bag fragments.items) extensions.now (held_names defs)
         (collected_common built_in.items)
         → (fault_of error ≡ out_of_memory)
         ⊎ IsFault (resolved_bag fragments.items) extensions.now (fault_of error)) }
 {
+    // The other names are no more asked for, and go before what is built takes memory.
+    let names = defs.into_entity_type_names();
     let Declarations {
         common_types,
         entity_types: declared,
         actions: declared_actions,
     } = collect_declarations(alloc, fragments)?;
-    let names = defs.entity_type_names();
-    let common = defined_common_types(alloc, common_types, built_in, names, extensions)?;
+    let common = defined_common_types(alloc, common_types, built_in, &names, extensions)?;
     let known = TypeScope {
         common: &common,
-        entities: names,
+        entities: &names,
         extensions,
     };
     let entity_types = entity_types(alloc, declared, &known)?;
@@ -107,5 +108,5 @@ pub(crate) fn build(
         defs,
         built_in,
     } = resolve_fragments(alloc, fragments, extensions)?;
-    build_resolved(alloc, fragments, &defs, built_in, located, extensions)
+    build_resolved(alloc, fragments, defs, built_in, located, extensions)
 }

@@ -39,5 +39,5 @@ pub(crate) fn build_raw(
         built_in,
     } = resolve_written_fragments(alloc, fragments, extensions)?;
     let located = Shared::new(alloc, located_in(alloc, &fragments)?)?;
-    build_resolved(alloc, fragments, &defs, built_in, located, extensions)
+    build_resolved(alloc, fragments, defs, built_in, located, extensions)
 }

@@ -78,11 +78,11 @@ impl AllDefs {
         self.action_defs.get(uid)
     }
 
-    /// The names of the entity types that are defined, in order.
-    pub fn entity_type_names(&self) -> &BTreeSet<InternalName>
-        ensures { map name_of result.now.keys ≡ (held_names self.now).entities }
+    /// The names of the entity types that are defined, in order. All others go.
+    pub fn into_entity_type_names(self) -> BTreeSet<InternalName>
+        ensures { map name_of result.keys ≡ (held_names self).entities }
     {
-        &self.entity_defs
+        self.entity_defs
     }
 
     /// Adds the name to those of entity types. Out of memory is the only refusal, after which all

@@ -8,7 +8,9 @@ ghost use Rattle.cedar_names.specs.declared.json_schema.raw_name.RawName.{RawNam
 
 use crate::defs::all_defs::AllDefs;
 use crate::defs::names::{add_name, add_uid};
-use crate::namespace::{action_uid, entity_type_name, full_name, refuse_attributes};
+use crate::namespace::{
+    action_type_name, action_uid, entity_type_name, full_name, refuse_attributes,
+};
 use cedar_below::{EntityUID, InternalName, M, Name, UnreservedId};
 use cedar_declarations::SchemaError;
 use cedar_names::json_schema::{
@@ -96,8 +98,9 @@ fn add_actions(
         (namespace_name namespace.entry) (fault_of error)) }
 {
     refuse_attributes(alloc, written)?;
+    let ty = action_type_name(alloc, namespace)?;
     for (id, declared) in written {
-        let uid = action_uid(alloc, namespace, id.clone()?, declared.defn_loc)?;
+        let uid = action_uid(&ty, id.clone()?, declared.defn_loc)?;
         add_uid(uids, uid)?;
     }
     Ok(())

@@ -1,7 +1,7 @@
 //! The actions of a namespace.
 
 ghost use Rattle.std.specs.Prelude.{◌≡◌, ◌⊎◌, IfOk, IfErr, OnOk, map, Contains, string_bytes, [], Option};
-ghost use Rattle.cedar_fragments.specs.Words.{IsDefinitionFault, IsSound, NamesAllWithAttributes, PlainName, Reference, ReferenceType, action_body, action_declarations, action_defs, action_fragment_body, action_fragment_declarations, action_word, applies_to, fault_of, fragment_parent, fragment_requests, id_text, name_within, namespace_name, out_of_memory, parent_action, parent_actions, path_within, positional_reference, raw_reference, reserved_name, reserved_word, text_cmp, uid_of, with_attributes};
+ghost use Rattle.cedar_fragments.specs.Words.{IsDefinitionFault, IsReserved, IsSound, NamesAllWithAttributes, PlainName, Reference, ReferenceType, action_body, action_declarations, action_defs, action_fragment_body, action_fragment_declarations, action_word, applies_to, fault_of, fragment_parent, fragment_requests, id_text, name_of, name_within, namespace_name, out_of_memory, parent_action, parent_actions, positional_reference, raw_reference, reserved_name, text_cmp, uid_of, with_attributes};
 ghost use Rattle.std.specs.List.{AllByRecursion};
 ghost use Rattle.std.specs.Slice.Iter.{iter_rest};
 ghost use Rattle.std.specs.List.Sorted.{IsStrictlySortedBy};
@@ -225,25 +225,28 @@ impl ActionFragment<ConditionalName, ConditionalName> {
     }
 }
 
-/// The uid of an action that is declared in a namespace, which must not be reserved. It is shared.
+/// The name of the type of the actions that are declared in a namespace. It is shared.
+pub(crate) fn action_type_name(alloc: Global, namespace: Option<&InternalName>) -> M<InternalName>
+    ensures { IfOk result (λ name.
+        name_of name ≡ name_within (namespace_name namespace.entry) action_word) }
+{
+    full_name(alloc, namespace, action_id(alloc)?, None)
+}
+
+/// The uid of an action whose type has this name, which must not be reserved. It is shared, and so
+/// is its type.
 pub(crate) fn action_uid(
-    alloc: Global,
-    namespace: Option<&InternalName>,
+    ty: &InternalName,
     id: String,
     loc: Option<Loc>,
 ) -> Result<EntityUID, SchemaError>
-    ensures ty { IfOk result (λ uid.
-        (uid_of uid).ty ≡ name_within (namespace_name namespace.entry) action_word) }
+    ensures ty { IfOk result (λ uid. (uid_of uid).ty ≡ name_of ty.now) }
     ensures eid { IfOk result (λ uid. (uid_of uid).eid ≡ string_bytes id) }
-    ensures unreserved { OnOk result
-        (¬ Contains (path_within (namespace_name namespace.entry)) reserved_word) }
+    ensures unreserved { OnOk result (¬ IsReserved (name_of ty.now)) }
     ensures fault { IfErr result (λ error. (fault_of error ≡ out_of_memory)
-        ⊎ ((fault_of error ≡ reserved_name
-        (name_within (namespace_name namespace.entry) action_word))
-        × Contains (path_within (namespace_name namespace.entry)) reserved_word)) }
+        ⊎ ((fault_of error ≡ reserved_name (name_of ty.now)) × IsReserved (name_of ty.now))) }
 {
-    let name = full_name(alloc, namespace, action_id(alloc)?, loc)?;
-    match EntityType::from_internal(name) {
+    match EntityType::from_internal(ty.clone()?.with_loc(loc)) {
         Ok(ty) => Ok(EntityUID::new(ty, Eid(id), loc).into_shared()?),
         Err(name) => Err(SchemaError::ReservedName(name)),
     }
@@ -316,8 +319,9 @@ impl ActionsDef<ConditionalName, ConditionalName> {
     {
         refuse_attributes(alloc, &written)?;
         let mut defs = Vec::new(alloc);
+        let ty = action_type_name(alloc, namespace)?;
         for (id, declared) in written {
-            let uid = action_uid(alloc, namespace, id, declared.defn_loc)?;
+            let uid = action_uid(&ty, id, declared.defn_loc)?;
             let fragment = ActionFragment::from_raw_action(alloc, namespace, declared)?;
             defs.push(ActionDef { uid, fragment })?;
         }

@@ -10,7 +10,9 @@ ghost use Rattle.cedar_names.specs.declared.json_schema.raw_name.RawName.{RawNam
 
 use crate::defs::AllDefs;
 use crate::namespace::action_def::ActionDef;
-use crate::namespace::actions::{ActionFragment, ActionsDef, action_uid, refuse_attributes};
+use crate::namespace::actions::{
+    ActionFragment, ActionsDef, action_type_name, action_uid, refuse_attributes,
+};
 use crate::namespace::common_types::{CommonTypeDef, CommonTypeDefs};
 use crate::namespace::definition::{ValidatorNamespaceDef, lend};
 use crate::namespace::entity_type_def::EntityTypeDef;
@@ -121,8 +123,9 @@ impl ActionsDef<InternalName, EntityType> {
         let alloc = all_defs.alloc;
         refuse_attributes(alloc, &written)?;
         let mut defs = Vec::with_capacity(alloc, written.len())?;
+        let ty = action_type_name(alloc, namespace)?;
         for (id, declared) in written {
-            let uid = action_uid(alloc, namespace, id, declared.defn_loc)?;
+            let uid = action_uid(&ty, id, declared.defn_loc)?;
             let fragment = ActionFragment::from_raw_action(alloc, namespace, declared)?;
             let fragment = fragment.fully_qualify_type_references(all_defs)?;
             defs.push(ActionDef { uid, fragment })?;

@@ -7,29 +7,29 @@ use Rattle.cedar_fragments.proofs.FragmentLemmas.{exit_holds}
 use Rattle.cedar_builder.proofs.declared_node.collected_nodes.Goals as goal
 
 -- at first no declaration is collected
-pub loop-name-init : goal.loop-name-init
-loop-name-init g c =
+pub loop-item-init : goal.loop-item-init
+loop-item-init g c =
     let node = g.V.SchemaNode in
     let is = g.V.DeclaredNode in
     let entries = map (named node.key_name is.body_of) in (
       collected_none is.is_definition node.IsExternal node.node_name (is.Gives c.args.scope.now) g.K.PartialEq.eq node.key_name
           (is.IsSound c.args.scope.now) g.met.V.SchemaNode.same_key (entries c.args.declared.items) _ _ c.new-nodes.ensures.empty
-          (ap entries c.into_iter-name-iterator.ensures.into_iter_gives.0),
+          (ap entries c.into_iter-item-iterator.ensures.into_iter_gives.0),
       λ entry among. empty_lacks (λ each. node.IsLocatedAs each.0 each.1) _ c.new-nodes.ensures.empty entry among,
     )
 
 -- one more declaration is collected
-pub loop-name-preserved : goal.loop-name-preserved
-loop-name-preserved g c =
+pub loop-item-preserved : goal.loop-item-preserved
+loop-item-preserved g c =
     let node = g.V.SchemaNode in
     let is = g.V.DeclaredNode in
     let entries = map (named node.key_name is.body_of) in (
       collected_more is.is_definition node.IsExternal node.node_name (is.Gives c.args.scope.now) g.K.PartialEq.eq node.key_name
-          (is.IsSound c.args.scope.now) g.met.V.SchemaNode.same_key (entries c.args.declared.items) c.loop-name.nodes.entries _ _ c.in-Some.name
-          (is.body_of c.in-Some.fragment) (ap entries c.in-Some.ensures.steps.0) c.loop-name.invariant.0 c.put_node.new.nodes.entries c.in_ok-node.node
+          (is.IsSound c.args.scope.now) g.met.V.SchemaNode.same_key (entries c.args.declared.items) c.loop-item.nodes.entries _ _ c.in-Some.item.value.0
+          (is.body_of c.in-Some.item.value.1) (ap entries c.in-Some.ensures.steps.0) c.loop-item.invariant.0 c.put_node.new.nodes.entries c.in_ok-node.node
           c.in_ok-node.ensures.name c.in_ok-node.ensures.gives c.in_ok-node.ensures.external c.in_ok-node.ensures.sound
           c.in_ok-put_node.ensures.other c.in_ok-put_node.ensures.put,
-      c.in_ok-put_node.ensures.located c.loop-name.invariant.1,
+      c.in_ok-put_node.ensures.located c.loop-item.invariant.1,
     )
 
 -- a declaration that gives no node is at fault
@@ -42,8 +42,8 @@ returns-in_err-node-clause-fault g c =
     let fault = fault_of c.in_err-node.field-0.0 in
     exit_holds _ _ _ c.from_residual.ensures.1
     (next_fault is.is_definition node.IsExternal node.node_name (is.Gives scope) g.K.PartialEq.eq node.key_name (is.IsSound scope)
-    g.met.V.SchemaNode.same_key (entries c.args.declared.items) c.loop-name.nodes.entries _ _ c.in-Some.name (is.body_of c.in-Some.fragment)
-    (ap entries c.in-Some.ensures.steps.0) c.loop-name.invariant.0 (is.IsBodyFault scope) node.duplicate_fault fault c.in_err-node.ensures.fault)
+    g.met.V.SchemaNode.same_key (entries c.args.declared.items) c.loop-item.nodes.entries _ _ c.in-Some.item.value.0 (is.body_of c.in-Some.item.value.1)
+    (ap entries c.in-Some.ensures.steps.0) c.loop-item.invariant.0 (is.IsBodyFault scope) node.duplicate_fault fault c.in_err-node.ensures.fault)
 
 -- so is a second definition of a name
 pub returns-in_err-put_node-clause-fault : goal.returns-in_err-put_node-clause-fault
@@ -57,8 +57,8 @@ returns-in_err-put_node-clause-fault g c =
     (elim c.in_err-put_node.ensures.fault [
       | inl wanting ↦ inl wanting
       | inr twice ↦ twice_fault is.is_definition node.IsExternal node.node_name (is.Gives scope) g.K.PartialEq.eq node.key_name (is.IsSound scope)
-          g.met.V.SchemaNode.same_key (entries c.args.declared.items) c.loop-name.nodes.entries _ _ c.in-Some.name (is.body_of c.in-Some.fragment)
-          (ap entries c.in-Some.ensures.steps.0) c.loop-name.invariant.0 c.loop-name.nodes.entries c.in_ok-node.node c.in_ok-node.ensures.name
+          g.met.V.SchemaNode.same_key (entries c.args.declared.items) c.loop-item.nodes.entries _ _ c.in-Some.item.value.0 (is.body_of c.in-Some.item.value.1)
+          (ap entries c.in-Some.ensures.steps.0) c.loop-item.invariant.0 c.loop-item.nodes.entries c.in_ok-node.node c.in_ok-node.ensures.name
           c.in_ok-node.ensures.gives c.in_ok-node.ensures.external (is.IsBodyFault scope) node.duplicate_fault fault twice.0 twice.2.0 twice.2.1
           twice.2.2 twice.1
     ])
@@ -70,8 +70,8 @@ returns-clause-collected g c =
     let is = g.V.DeclaredNode in
     let entries = map (named node.key_name is.body_of) in
     rw c.in_ok-from_map.ensures (all_collected is.is_definition node.IsExternal node.node_name (is.Gives c.args.scope.now) g.K.PartialEq.eq node.key_name
-    (is.IsSound c.args.scope.now) g.met.V.SchemaNode.same_key (entries c.args.declared.items) c.loop-name.nodes.entries _
-    (ap entries (nil_from_length _ (omega (arith, c.in-None.ensures.steps.0, c.loop-name.name-iterator.rest.ok.0)))) c.loop-name.invariant.0)
+    (is.IsSound c.args.scope.now) g.met.V.SchemaNode.same_key (entries c.args.declared.items) c.loop-item.nodes.entries _
+    (ap entries (nil_from_length _ (omega (arith, c.in-None.ensures.steps.0, c.loop-item.item-iterator.rest.ok.0)))) c.loop-item.invariant.0)
 
 -- no name is defined twice
 pub returns-clause-once : goal.returns-clause-once
@@ -80,8 +80,8 @@ returns-clause-once g c =
     let is = g.V.DeclaredNode in
     let entries = map (named node.key_name is.body_of) in
     all_once is.is_definition node.IsExternal node.node_name (is.Gives c.args.scope.now) g.K.PartialEq.eq node.key_name
-    (is.IsSound c.args.scope.now) g.met.V.SchemaNode.same_key (entries c.args.declared.items) c.loop-name.nodes.entries _
-    (ap entries (nil_from_length _ (omega (arith, c.in-None.ensures.steps.0, c.loop-name.name-iterator.rest.ok.0)))) c.loop-name.invariant.0
+    (is.IsSound c.args.scope.now) g.met.V.SchemaNode.same_key (entries c.args.declared.items) c.loop-item.nodes.entries _
+    (ap entries (nil_from_length _ (omega (arith, c.in-None.ensures.steps.0, c.loop-item.item-iterator.rest.ok.0)))) c.loop-item.invariant.0
 
 -- and each declaration is sound
 pub returns-clause-sound : goal.returns-clause-sound
@@ -90,9 +90,9 @@ returns-clause-sound g c =
     let is = g.V.DeclaredNode in
     let entries = map (named node.key_name is.body_of) in
     all_sound is.is_definition node.IsExternal node.node_name (is.Gives c.args.scope.now) g.K.PartialEq.eq node.key_name
-    (is.IsSound c.args.scope.now) g.met.V.SchemaNode.same_key (entries c.args.declared.items) c.loop-name.nodes.entries _
-    (ap entries (nil_from_length _ (omega (arith, c.in-None.ensures.steps.0, c.loop-name.name-iterator.rest.ok.0)))) c.loop-name.invariant.0
+    (is.IsSound c.args.scope.now) g.met.V.SchemaNode.same_key (entries c.args.declared.items) c.loop-item.nodes.entries _
+    (ap entries (nil_from_length _ (omega (arith, c.in-None.ensures.steps.0, c.loop-item.item-iterator.rest.ok.0)))) c.loop-item.invariant.0
 
 -- and is located as its name
 pub returns-clause-located : goal.returns-clause-located
-returns-clause-located g c = rw c.in_ok-from_map.ensures c.loop-name.invariant.1
+returns-clause-located g c = rw c.in_ok-from_map.ensures c.loop-item.invariant.1

@@ -11,7 +11,7 @@ returns-in_err-add_parents-clause-fault g c =
     let item = c.item-item.result in
     let with = named g.D.HasParents.key_name g.D.HasParents.parents_of in
     exit_holds _ _ _ c.from_residual.ensures.1
-    (parent_fault_wider (map with declared) (g.D.HasParents.key_name item.0) (g.D.HasParents.parents_of item.1) g.D.HasParents.Refuses
+    (parent_fault_wider (map with declared) (g.D.HasParents.key_name item.value.0) (g.D.HasParents.parents_of item.value.1) g.D.HasParents.Refuses
     (fault_of c.in_err-add_parents.field-0.0)
     (Contains-image with declared item (item_among declared c.loop-item.item-index item c.loop-item-test.true c.item-item.is))
     c.in_err-add_parents.ensures.fault)
@@ -22,8 +22,8 @@ loop-item-preserved g c =
     let item = c.item-item.result in
     let index = c.loop-item.item-index in
     let with = named g.D.HasParents.key_name g.D.HasParents.parents_of in
-    let name = g.D.HasParents.key_name item.0 in
-    let parents = g.D.HasParents.parents_of item.1 in
+    let name = g.D.HasParents.key_name item.value.0 in
+    let parents = g.D.HasParents.parents_of item.value.1 in
     c.in_ok-add_parents.ensures.added
     ∙ ((λ i. c.loop-item.invariant i ++ map (λ reference. (name, reference)) parents)
     ∙ (sym (parents_more (map with (take index declared)) name parents)

@@ -7,25 +7,25 @@ use Rattle.cedar_schema.proofs.ReadySteps.{actions_of, ready, types_of}
 use Rattle.cedar_schema.proofs.SchemaNames.{names_of_types_sorted, uids_of_actions_sorted}
 use Rattle.cedar_schema.proofs.SurePieces.{pieces_well}
 use Rattle.cedar_schema.proofs.building.build_resolved.Goals as goal
-use Rattle.cedar_schema.proofs.building.build_resolved.Goals.{After-entity_type_names-names}
+use Rattle.cedar_schema.proofs.building.build_resolved.Goals.{In_ok-common_types}
 
 -- the bag is resolved over the names that are defined
-abbrev IsResolved : After-entity_type_names-names → Type 0
-IsResolved c = IsResolvedOver (resolved_bag c.args.fragments.items) c.args.extensions.now (held_names c.args.defs.now)
+abbrev IsResolved : In_ok-common_types → Type 0
+IsResolved c = IsResolvedOver (resolved_bag c.args.fragments.items) c.args.extensions.now (held_names c.args.defs)
     (collected_common c.args.built_in.items)
 
-module _ (c : After-entity_type_names-names) (over : IsResolved c) where
+module _ (c : In_ok-common_types) (over : IsResolved c) where
   -- the common types of the bag can be elaborated
   types_here : AreTypesOf (resolved_bag c.args.fragments.items) c.args.extensions.now c.in_ok-common_types.field-0.common_types.items
-      c.args.built_in.items c.entity_type_names-names.result.now
+      c.args.built_in.items c.into_entity_type_names-names.result
   types_here =
       let collected = c.in_ok-common_types.field-0 in
       let declared = c.in_ok-common_types.ensures in
-      types_of (resolved_bag c.args.fragments.items) c.args.extensions.now (held_names c.args.defs.now) c.args.built_in.items over
-      c.entity_type_names-names.result.now c.entity_type_names-names.ensures collected.common_types.items collected.entity_types.items
+      types_of (resolved_bag c.args.fragments.items) c.args.extensions.now (held_names c.args.defs) c.args.built_in.items over
+      c.into_entity_type_names-names.result c.into_entity_type_names-names.ensures collected.common_types.items collected.entity_types.items
       collected.actions.items declared.common declared.entities declared.actions
 
-  module _ (known : TypeScope) (names : known.entities.now ≡ c.entity_type_names-names.result.now)
+  module _ (known : TypeScope) (names : known.entities.now ≡ c.into_entity_type_names-names.result)
       (extensions : known.extensions.now ≡ c.args.extensions.now)
       (written : AreElaborated (resolved_bag c.args.fragments.items) c.args.extensions.now (elaborated_types known.common.now))
       (sound : CommonTypesAreSound (resolved_bag c.args.fragments.items) c.args.extensions.now) where
@@ -35,8 +35,8 @@ module _ (c : After-entity_type_names-names) (over : IsResolved c) where
     ready_here =
         let collected = c.in_ok-common_types.field-0 in
         let declared = c.in_ok-common_types.ensures in
-        ready (resolved_bag c.args.fragments.items) c.args.extensions.now (held_names c.args.defs.now) c.args.built_in.items over
-        c.entity_type_names-names.result.now c.entity_type_names-names.ensures collected.common_types.items collected.entity_types.items
+        ready (resolved_bag c.args.fragments.items) c.args.extensions.now (held_names c.args.defs) c.args.built_in.items over
+        c.into_entity_type_names-names.result c.into_entity_type_names-names.ensures collected.common_types.items collected.entity_types.items
         collected.actions.items declared.common declared.entities declared.actions known names extensions written sound
 
     -- and its actions, over its entity types
@@ -46,13 +46,13 @@ module _ (c : After-entity_type_names-names) (over : IsResolved c) where
     acting_here =
         let collected = c.in_ok-common_types.field-0 in
         let declared = c.in_ok-common_types.ensures in
-        actions_of (resolved_bag c.args.fragments.items) c.args.extensions.now (held_names c.args.defs.now) c.args.built_in.items over
-        c.entity_type_names-names.result.now c.entity_type_names-names.ensures collected.common_types.items collected.entity_types.items
+        actions_of (resolved_bag c.args.fragments.items) c.args.extensions.now (held_names c.args.defs) c.args.built_in.items over
+        c.into_entity_type_names-names.result c.into_entity_type_names-names.ensures collected.common_types.items collected.entity_types.items
         collected.actions.items declared.common declared.entities declared.actions known names extensions written sound
 
 pub returns-in_err-common-clause-fault : goal.returns-in_err-common-clause-fault
 returns-in_err-common-clause-fault c =
-    let here = (goal.at.returns-in_err-common-clause-fault c).After-entity_type_names-names in
+    let here = (goal.at.returns-in_err-common-clause-fault c).In_ok-common_types in
     let found = fault_of c.in_err-common.field-0.0 in
     let at_fault : IsResolved here → (found ≡ out_of_memory) ⊎ IsFault (resolved_bag c.args.fragments.items) c.args.extensions.now found =
     λ over. c.in_err-common.ensures.fault (resolved_bag c.args.fragments.items) (types_here here over) in
@@ -61,7 +61,7 @@ returns-in_err-common-clause-fault c =
 
 pub returns-in_err-entity_types-clause-fault : goal.returns-in_err-entity_types-clause-fault
 returns-in_err-entity_types-clause-fault c =
-    let here = (goal.at.returns-in_err-entity_types-clause-fault c).After-entity_type_names-names in
+    let here = (goal.at.returns-in_err-entity_types-clause-fault c).In_ok-common_types in
     let bag = resolved_bag c.args.fragments.items in
     let given = c.args.extensions.now in
     let common = c.in_ok-common.ensures in
@@ -75,7 +75,7 @@ returns-in_err-entity_types-clause-fault c =
 
 pub returns-in_err-actions-clause-fault : goal.returns-in_err-actions-clause-fault
 returns-in_err-actions-clause-fault c =
-    let here = (goal.at.returns-in_err-actions-clause-fault c).After-entity_type_names-names in
+    let here = (goal.at.returns-in_err-actions-clause-fault c).In_ok-common_types in
     let bag = resolved_bag c.args.fragments.items in
     let given = c.args.extensions.now in
     let common = c.in_ok-common.ensures in
@@ -92,7 +92,7 @@ returns-in_err-actions-clause-fault c =
 
 pub returns-clause-well_formed : goal.returns-clause-well_formed
 returns-clause-well_formed c over =
-    let here = (goal.at.returns-clause-well_formed c).After-entity_type_names-names in
+    let here = (goal.at.returns-clause-well_formed c).In_ok-common_types in
     let bag = resolved_bag c.args.fragments.items in
     let given = c.args.extensions.now in
     let types = types_here here over in
@@ -101,13 +101,13 @@ returns-clause-well_formed c over =
     let is_ready = ready_here here over _ refl refl written sound in
     let acting = acting_here here over _ refl refl written sound c.in_ok-entity_types.entity_types
     (c.in_ok-entity_types.ensures.declared bag given is_ready) in
-    pieces_well bag given (held_names c.args.defs.now) (collected_common c.args.built_in.items) over
+    pieces_well bag given (held_names c.args.defs) (collected_common c.args.built_in.items) over
     (fragments_have_no_fault InternalName resolved_reference EntityType resolved_action_type c.args.fragments.items) sound
     (c.in_ok-entity_types.ensures.sound bag given is_ready) (c.in_ok-actions.ensures.sound bag given acting)
 
 pub returns-clause-declared : goal.returns-clause-declared
 returns-clause-declared c over =
-    let here = (goal.at.returns-clause-declared c).After-entity_type_names-names in
+    let here = (goal.at.returns-clause-declared c).In_ok-common_types in
     let bag = resolved_bag c.args.fragments.items in
     let given = c.args.extensions.now in
     let types = types_here here over in

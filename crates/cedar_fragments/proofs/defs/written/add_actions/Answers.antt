@@ -3,7 +3,7 @@ use Rattle.std.specs.Option.{is_some}
 use Rattle.cedar_fragments.specs.Words.{RawName, action_body, action_declarations, namespace_name, raw_reference}
 use Rattle.cedar_fragments.proofs.AttributeLemmas.{next_has_none}
 use Rattle.cedar_fragments.proofs.FragmentLemmas.{exit_holds}
-use Rattle.cedar_fragments.proofs.SoundLemmas.{fault_of_action}
+use Rattle.cedar_fragments.proofs.SoundLemmas.{fault_of_action, uid_unreserved}
 use Rattle.cedar_fragments.proofs.SoundNames.{sound_none, sound_more, sound_next, sound_added, sound_all}
 use Rattle.cedar_fragments.proofs.defs.written.add_actions.Goals as goal
 
@@ -32,7 +32,7 @@ returns-in_err-uid-clause-fault c =
     (fault_of_action bag namespace (string_bytes c.in-Some.id.now)
     (action_body RawName (raw_reference namespace) namespace c.in-Some.declared.now) _
     (sound_next _ _ _ _ _ c.next.new.self _ (c.in-Some.id.now, c.in-Some.declared.now) c.in-Some.ensures.steps c.loop-id.invariant)
-    c.in_err-uid.ensures.fault)
+    _ c.in_ok-ty.ensures c.in_err-uid.ensures.fault)
 
 -- one more uid is added, of what is sound
 pub loop-id-preserved : goal.loop-id-preserved
@@ -40,9 +40,9 @@ loop-id-preserved c =
     let lacks = next_has_none c.args.written.now.entries c.loop-id.id-iterator c.next.new.self c.loop-id.invariant.done
     (c.in-Some.id.now, c.in-Some.declared.now) c.in_ok-refuse_attributes.ensures.none c.loop-id.invariant.split c.in-Some.ensures.steps in
     sound_more _ _ _ _ _ c.next.new.self _ _ (c.in-Some.id.now, c.in-Some.declared.now) _ c.in-Some.ensures.steps
-    (λ i. record { ty = c.in_ok-uid.ensures.ty i; eid = (c.in_ok-uid.ensures.eid ∙ c.in_ok-clone.ensures.cases) i })
+    (λ i. record { ty = (c.in_ok-uid.ensures.ty ∙ c.in_ok-ty.ensures) i; eid = (c.in_ok-uid.ensures.eid ∙ c.in_ok-clone.ensures.cases) i })
     c.in_ok-add_uid.ensures.added
-    (ap is_some lacks, c.in_ok-uid.ensures.unreserved) c.loop-id.invariant
+    (ap is_some lacks, uid_unreserved (namespace_name c.args.namespace) _ c.in_ok-ty.ensures c.in_ok-uid.ensures.unreserved) c.loop-id.invariant
 
 -- at the end all are
 pub returns-clause-added : goal.returns-clause-added

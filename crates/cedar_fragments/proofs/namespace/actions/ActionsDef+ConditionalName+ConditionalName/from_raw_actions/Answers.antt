@@ -1,9 +1,9 @@
-use Rattle.std.proofs.Common.{sym, ap, string_bytes}
+use Rattle.std.proofs.Common.{◌∙◌, sym, ap, string_bytes}
 use Rattle.std.specs.Option.{is_some}
 use Rattle.cedar_fragments.proofs.AttributeLemmas.{next_has_none}
 use Rattle.cedar_fragments.proofs.DeclaredAsLemmas.{declared_action-within}
 use Rattle.cedar_fragments.proofs.ListedSoFar.{ListedSoFar-none, ListedSoFar-more, listed_next}
-use Rattle.cedar_fragments.proofs.SoundLemmas.{fault_of_action}
+use Rattle.cedar_fragments.proofs.SoundLemmas.{fault_of_action, uid_unreserved}
 use Rattle.cedar_fragments.specs.Words.{RawName, action, action_body, action_declarations, namespace_name, raw_reference}
 use Rattle.cedar_fragments.proofs.FragmentLemmas.{exit_holds}
 use Rattle.cedar_fragments.proofs.namespace.actions.ActionsDef+ConditionalName+ConditionalName.from_raw_actions.Goals as goal
@@ -34,7 +34,7 @@ returns-in_err-uid-clause-fault c =
     (fault_of_action bag namespace (string_bytes c.in-Some.id)
     (action_body RawName (raw_reference namespace) namespace c.in-Some.declared) _
     (listed_next _ _ _ _ _ c.next.new.self _ (c.in-Some.id, c.in-Some.declared) c.in-Some.ensures.steps c.loop-id.invariant)
-    c.in_err-uid.ensures.fault)
+    _ c.in_ok-ty.ensures c.in_err-uid.ensures.fault)
 
 -- no action has attributes, as none was listed
 pub from_raw_action-requires : goal.from_raw_action-requires
@@ -51,6 +51,6 @@ loop-id-preserved c =
     ListedSoFar-more _ _ _ _ _ c.next.new.self _ _ (c.in-Some.id, c.in-Some.declared) _ c.in-Some.ensures.steps
     c.in_ok-push.ensures.items
     (declared_action-within namespace (string_bytes c.in-Some.id)
-    (action (action_body RawName (raw_reference namespace) namespace c.in-Some.declared)) _ _ c.in_ok-uid.ensures.ty
+    (action (action_body RawName (raw_reference namespace) namespace c.in-Some.declared)) _ _ (c.in_ok-uid.ensures.ty ∙ c.in_ok-ty.ensures)
     c.in_ok-uid.ensures.eid (ap action c.in_ok-fragment.ensures))
-    (ap is_some lacks, c.in_ok-uid.ensures.unreserved) c.loop-id.invariant
+    (ap is_some lacks, uid_unreserved (namespace_name c.args.namespace) _ c.in_ok-ty.ensures c.in_ok-uid.ensures.unreserved) c.loop-id.invariant

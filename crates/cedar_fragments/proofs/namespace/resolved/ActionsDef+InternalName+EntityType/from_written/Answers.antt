@@ -1,8 +1,8 @@
-use Rattle.std.proofs.Common.{ap, inl, string_bytes}
+use Rattle.std.proofs.Common.{◌∙◌, ap, inl, string_bytes}
 use Rattle.cedar_fragments.specs.Words.{EntityType, InternalName, RawName, action, action_body, action_declarations, action_fragment_body, held_names, namespace_name, raw_reference, resolved_action_type, resolved_reference}
 use Rattle.cedar_fragments.proofs.AttributeLemmas.{next_has_none, none_named}
 use Rattle.cedar_fragments.proofs.FragmentLemmas.{exit_holds}
-use Rattle.cedar_fragments.proofs.Pairwise.{turn_all, turn_among, turn_more}
+use Rattle.cedar_fragments.proofs.Pairwise.{turn_all, turn_among, turn_more, turn_none}
 use Rattle.cedar_fragments.proofs.ResolvedBags.{resolved_turn, unresolvable_declaration}
 use Rattle.cedar_fragments.proofs.ResolvedWithin.{memory_or_definition, resolves_action_within, unresolvable_names_none}
 use Rattle.cedar_fragments.proofs.SoundLemmas.{fault_of_action}
@@ -23,6 +23,10 @@ returns-in_err-refuse_attributes-clause-all_named c =
     exit_holds _ _ _ c.from_residual.ensures.1
     (c.in_err-refuse_attributes.ensures.all_named (namespace_name c.args.namespace))
 
+-- at first no action is resolved
+pub loop-id-init : goal.loop-id-init
+loop-id-init c = turn_none _ _ _ _ _ _ c.into_iter-id-iterator.ensures.into_iter_gives.0 c.in_ok-defs.ensures.items
+
 -- a refused uid is a fault of the declarations
 pub returns-in_err-uid-clause-fault : goal.returns-in_err-uid-clause-fault
 returns-in_err-uid-clause-fault c =
@@ -32,7 +36,7 @@ returns-in_err-uid-clause-fault c =
     exit_holds _ _ _ c.from_residual-in_err-uid.ensures.1
     (memory_or_definition (held_names c.args.all_defs.now) bag _
     (fault_of_action bag namespace (string_bytes c.in-Some.id)
-    (action_body RawName (raw_reference namespace) namespace c.in-Some.declared) _ among c.in_err-uid.ensures.fault))
+    (action_body RawName (raw_reference namespace) namespace c.in-Some.declared) _ among _ c.in_ok-ty.ensures c.in_err-uid.ensures.fault))
 
 -- no action has attributes
 pub from_raw_action-requires : goal.from_raw_action-requires
@@ -65,7 +69,7 @@ loop-id-preserved c =
     (resolves_action_within (held_names c.args.all_defs.now) namespace (string_bytes c.in-Some.id)
     (action (action_body RawName (raw_reference namespace) namespace c.in-Some.declared)) _ _
     (action (action_fragment_body InternalName resolved_reference EntityType resolved_action_type c.in_ok-fragment-2.fragment))
-    c.in_ok-uid.ensures.ty c.in_ok-uid.ensures.eid (ap action c.in_ok-fragment.ensures)
+    (c.in_ok-uid.ensures.ty ∙ c.in_ok-ty.ensures) c.in_ok-uid.ensures.eid (ap action c.in_ok-fragment.ensures)
     c.in_ok-fragment-2.ensures.resolved c.in_ok-fragment-2.ensures.unreserved)
     c.loop-id.invariant
 
