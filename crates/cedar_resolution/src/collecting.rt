@@ -5,7 +5,7 @@ ghost use Rattle.cedar_below.specs.declared.entity_type.EntityType.{EntityType a
 ghost use Rattle.cedar_below.specs.declared.internal_name.InternalName.{InternalName as Full};
 ghost use Rattle.cedar_resolution.specs.Words.{CollectsAlso, action_fragment_declarations, collected_actions, collected_common, collected_entities, common_type_declarations, declared_actions, declared_common, declared_entities, entity_type_declarations, resolved_action_type, resolved_bag, resolved_definition, resolved_fragment, resolved_reference};
 
-use crate::declarations::{DeclaredAction, DeclaredEntityType, Declarations};
+use crate::declarations::{Declarations, DeclaredAction, DeclaredEntityType};
 use cedar_below::{EntityType, EntityUID, InternalName, M};
 use cedar_fragments::namespace::{
     ActionDef, ActionsDef, CommonTypeDef, CommonTypeDefs, EntityTypeDef, EntityTypesDef,

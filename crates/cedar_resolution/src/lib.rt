@@ -7,7 +7,7 @@
 #![tactic(auto)]
 
 pub use collecting::collect_declarations;
-pub use declarations::{DeclaredAction, DeclaredEntityType, Declarations};
+pub use declarations::{Declarations, DeclaredAction, DeclaredEntityType};
 pub use resolved::{Resolved, resolve_fragments, resolve_written_fragments};
 
 mod built_in;

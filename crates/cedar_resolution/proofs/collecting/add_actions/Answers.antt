@@ -1,7 +1,7 @@
 use Rattle.std.proofs.Common.{arith, map, ap, sym, ◌∙◌, refl}
 use Rattle.std.proofs.lemmas.List.{nil_from_length}
 use Rattle.std.specs.Vec.Iter.{into_iter_items}
-use Rattle.cedar_resolution.specs.Words.{EntityType, InternalName, declared_actions, resolved_action_type, resolved_reference}
+use Rattle.cedar_resolution.specs.Words.{EntityType, InternalName, action_fragment_body, declared_actions, resolved_action_type, resolved_reference, uid_of}
 use Rattle.cedar_fragments.proofs.DeclaredParts.{actions_declared}
 use Rattle.cedar_resolution.proofs.Adding.{add_none, add_next, add_all}
 use Rattle.cedar_resolution.proofs.Items.{action_item}
@@ -16,8 +16,10 @@ loop-def-init c =
 
 pub loop-def-preserved : goal.loop-def-preserved
 loop-def-preserved c =
-    add_next _ action_item _ _ _ _ c.in-Some.def (c.in-Some.def.uid, c.in-Some.def.fragment) _ c.in-Some.ensures.steps.0
-    c.in_ok-push.ensures.items refl c.loop-def.invariant
+    add_next _ action_item _ _ _ _ c.in-Some.def c.in_ok-new.field-0 _ c.in-Some.ensures.steps.0
+    c.in_ok-push.ensures.items
+    (ap (λ it. (uid_of it.0, action_fragment_body InternalName resolved_reference EntityType resolved_action_type it.1))
+    c.in_ok-new.ensures.ok) c.loop-def.invariant
 
 pub returns : goal.returns
 returns c =

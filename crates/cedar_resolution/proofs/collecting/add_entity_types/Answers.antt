@@ -1,7 +1,7 @@
 use Rattle.std.proofs.Common.{arith, map, ap, sym, ◌∙◌, refl}
 use Rattle.std.proofs.lemmas.List.{nil_from_length}
 use Rattle.std.specs.Vec.Iter.{into_iter_items}
-use Rattle.cedar_resolution.specs.Words.{InternalName, declared_entities, resolved_reference}
+use Rattle.cedar_resolution.specs.Words.{InternalName, declared_entities, fragment_body, resolved_reference, type_name}
 use Rattle.cedar_fragments.proofs.DeclaredParts.{entities_declared}
 use Rattle.cedar_resolution.proofs.Adding.{add_none, add_next, add_all}
 use Rattle.cedar_resolution.proofs.Items.{entity_item}
@@ -16,8 +16,9 @@ loop-def-init c =
 
 pub loop-def-preserved : goal.loop-def-preserved
 loop-def-preserved c =
-    add_next _ entity_item _ _ _ _ c.in-Some.def (c.in-Some.def.name, c.in-Some.def.fragment) _ c.in-Some.ensures.steps.0
-    c.in_ok-push.ensures.items refl c.loop-def.invariant
+    add_next _ entity_item _ _ _ _ c.in-Some.def c.in_ok-new.field-0 _ c.in-Some.ensures.steps.0
+    c.in_ok-push.ensures.items
+    (ap (λ it. (type_name it.0, fragment_body InternalName resolved_reference it.1)) c.in_ok-new.ensures.ok) c.loop-def.invariant
 
 pub returns : goal.returns
 returns c =
