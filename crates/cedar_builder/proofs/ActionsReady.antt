@@ -86,7 +86,7 @@ module _ (bag : Bag) (extensions : Extensions) (declared : List DeclaredAction)
     (types : TableEntries EntityType ValidatorEntityType) (scope : TypeScope)
     (ready : AreActionsOf bag extensions declared types scope) where
   abbrev Entries : List Entry
-  Entries = map (λ it. (uid_of it.0, fragment_requests InternalName resolved_reference it.1.requests)) declared
+  Entries = map (λ it. (uid_of it.value.0, fragment_requests InternalName resolved_reference it.value.1.requests)) declared
 
   -- those of the bag, each with the requests that it is for
   same_entries : Entries ≡ requests_in (declared_actions bag)

@@ -76,7 +76,8 @@ pub(crate) fn parent_edges<K: Drop, D: HasParents<K>>(
 {
     let mut edges = Vec::new(alloc);
     for item in declared {
-        add_parents(&mut edges, &item.0, &item.1)?;
+        let (lower, declaration) = &**item;
+        add_parents(&mut edges, lower, declaration)?;
     }
     Ok(edges)
 }

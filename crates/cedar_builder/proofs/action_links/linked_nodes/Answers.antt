@@ -15,15 +15,15 @@ returns-in-Ok-clause-linked c = λ ready.
     let after = c.in-Ok.linked.entries in
     record {
       same = λ key. alike_weaker Alike SameAction same (node_at before key) (node_at after key) (c.in-Ok.ensures.alike key);
-      linked = (rw c.deref.ensures.value at c.in-Ok.ensures.linked) ready;
-      acyclic = (rw c.deref.ensures.value at c.in-Ok.ensures.acyclic) refl;
+      linked = c.in-Ok.ensures.linked ready;
+      acyclic = c.in-Ok.ensures.acyclic refl;
     }
 
 pub returns-in-Err-HasCycle-clause-fault : goal.returns-in-Err-HasCycle-clause-fault
 returns-in-Err-HasCycle-clause-fault c = λ ready.
     let uid = c.in-Err-HasCycle.uid in
-    inr (uid, refl, ((rw (c.in-Err-HasCycle.field-0-is, c.deref.ensures.value) at c.in-Err-HasCycle.ensures.fault) ready).1)
+    inr (uid, refl, ((rw c.in-Err-HasCycle.field-0-is at c.in-Err-HasCycle.ensures.fault) ready).1)
 
 pub returns-in-Err-Lacks-clause-fault : goal.returns-in-Err-Lacks-clause-fault
 returns-in-Err-Lacks-clause-fault c = λ ready.
-    absurd ((rw (c.in-Err-Lacks.field-0-is, c.deref.ensures.value) at c.in-Err-Lacks.ensures.fault) ready)
+    absurd ((rw c.in-Err-Lacks.field-0-is at c.in-Err-Lacks.ensures.fault) ready)

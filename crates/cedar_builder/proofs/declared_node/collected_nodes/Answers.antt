@@ -1,10 +1,24 @@
-use Rattle.std.proofs.Common.{arith, ap, inl, map, inr}
+use Rattle.std.proofs.Common.{◌≡◌, ◌∙◌, ◌∷◌, arith, ap, inl, map, inr, sym}
 use Rattle.std.proofs.lemmas.List.{nil_from_length}
+use Rattle.std.specs.Vec.Iter.{into_iter_items}
 use Rattle.cedar_builder.specs.Words.{fault_of, named}
 use Rattle.cedar_graph.proofs.Lists.{empty_lacks}
 use Rattle.cedar_builder.proofs.NodesCollected.{all_collected, all_once, all_sound, collected_more, collected_none, next_fault, twice_fault}
 use Rattle.cedar_fragments.proofs.FragmentLemmas.{exit_holds}
 use Rattle.cedar_builder.proofs.declared_node.collected_nodes.Goals as goal
+use Rattle.cedar_builder.proofs.declared_node.collected_nodes.Goals.{After-into_inner-name}
+
+-- the declaration that is collected is the next one
+next_entry : (g : _) (c : After-into_inner-name g)
+    → map (named g.V.SchemaNode.key_name g.V.DeclaredNode.body_of) (into_iter_items c.loop-item.item-iterator)
+    ≡ (g.V.SchemaNode.key_name c.into_inner-name.result.0, g.V.DeclaredNode.body_of c.into_inner-name.result.1)
+    ∷ map (named g.V.SchemaNode.key_name g.V.DeclaredNode.body_of) (into_iter_items c.next.new.self)
+next_entry g c =
+    let node = g.V.SchemaNode in
+    let is = g.V.DeclaredNode in
+    let entries = map (named node.key_name is.body_of) in
+    ap entries c.in-Some.ensures.steps.0
+    ∙ ap (λ it. (node.key_name it.0, is.body_of it.1) ∷ entries (into_iter_items c.next.new.self)) (sym c.into_inner-name.ensures)
 
 -- at first no declaration is collected
 pub loop-item-init : goal.loop-item-init
@@ -25,8 +39,8 @@ loop-item-preserved g c =
     let is = g.V.DeclaredNode in
     let entries = map (named node.key_name is.body_of) in (
       collected_more is.is_definition node.IsExternal node.node_name (is.Gives c.args.scope.now) g.K.PartialEq.eq node.key_name
-          (is.IsSound c.args.scope.now) g.met.V.SchemaNode.same_key (entries c.args.declared.items) c.loop-item.nodes.entries _ _ c.in-Some.item.value.0
-          (is.body_of c.in-Some.item.value.1) (ap entries c.in-Some.ensures.steps.0) c.loop-item.invariant.0 c.put_node.new.nodes.entries c.in_ok-node.node
+          (is.IsSound c.args.scope.now) g.met.V.SchemaNode.same_key (entries c.args.declared.items) c.loop-item.nodes.entries _ _ c.into_inner-name.result.0
+          (is.body_of c.into_inner-name.result.1) (next_entry g (goal.at.loop-item-preserved g c).After-into_inner-name) c.loop-item.invariant.0 c.put_node.new.nodes.entries c.in_ok-node.node
           c.in_ok-node.ensures.name c.in_ok-node.ensures.gives c.in_ok-node.ensures.external c.in_ok-node.ensures.sound
           c.in_ok-put_node.ensures.other c.in_ok-put_node.ensures.put,
       c.in_ok-put_node.ensures.located c.loop-item.invariant.1,
@@ -42,8 +56,8 @@ returns-in_err-node-clause-fault g c =
     let fault = fault_of c.in_err-node.field-0.0 in
     exit_holds _ _ _ c.from_residual.ensures.1
     (next_fault is.is_definition node.IsExternal node.node_name (is.Gives scope) g.K.PartialEq.eq node.key_name (is.IsSound scope)
-    g.met.V.SchemaNode.same_key (entries c.args.declared.items) c.loop-item.nodes.entries _ _ c.in-Some.item.value.0 (is.body_of c.in-Some.item.value.1)
-    (ap entries c.in-Some.ensures.steps.0) c.loop-item.invariant.0 (is.IsBodyFault scope) node.duplicate_fault fault c.in_err-node.ensures.fault)
+    g.met.V.SchemaNode.same_key (entries c.args.declared.items) c.loop-item.nodes.entries _ _ c.into_inner-name.result.0 (is.body_of c.into_inner-name.result.1)
+    (next_entry g (goal.at.returns-in_err-node-clause-fault g c).After-into_inner-name) c.loop-item.invariant.0 (is.IsBodyFault scope) node.duplicate_fault fault c.in_err-node.ensures.fault)
 
 -- so is a second definition of a name
 pub returns-in_err-put_node-clause-fault : goal.returns-in_err-put_node-clause-fault
@@ -57,8 +71,8 @@ returns-in_err-put_node-clause-fault g c =
     (elim c.in_err-put_node.ensures.fault [
       | inl wanting ↦ inl wanting
       | inr twice ↦ twice_fault is.is_definition node.IsExternal node.node_name (is.Gives scope) g.K.PartialEq.eq node.key_name (is.IsSound scope)
-          g.met.V.SchemaNode.same_key (entries c.args.declared.items) c.loop-item.nodes.entries _ _ c.in-Some.item.value.0 (is.body_of c.in-Some.item.value.1)
-          (ap entries c.in-Some.ensures.steps.0) c.loop-item.invariant.0 c.loop-item.nodes.entries c.in_ok-node.node c.in_ok-node.ensures.name
+          g.met.V.SchemaNode.same_key (entries c.args.declared.items) c.loop-item.nodes.entries _ _ c.into_inner-name.result.0 (is.body_of c.into_inner-name.result.1)
+          (next_entry g (goal.at.returns-in_err-put_node-clause-fault g c).After-into_inner-name) c.loop-item.invariant.0 c.loop-item.nodes.entries c.in_ok-node.node c.in_ok-node.ensures.name
           c.in_ok-node.ensures.gives c.in_ok-node.ensures.external (is.IsBodyFault scope) node.duplicate_fault fault twice.0 twice.2.0 twice.2.1
           twice.2.2 twice.1
     ])

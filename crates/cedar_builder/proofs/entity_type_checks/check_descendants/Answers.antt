@@ -1,4 +1,4 @@
-use Rattle.std.proofs.Common.{◌≡◌, Some, map, sym, inl, inr, ◌∙◌, rules, Contains}
+use Rattle.std.proofs.Common.{◌≡◌, Some, sym, inl, inr, ◌∙◌, Contains}
 use Rattle.std.proofs.lemmas.Bool.{false≢true}
 use Rattle.std.proofs.lemmas.List.Elements.{All-contains_itself}
 use Rattle.std.proofs.lemmas.Map.Iter.{iter_end}
@@ -58,5 +58,6 @@ loop-name-preserved-in-Continue-1 c = λ upper it.
 pub returns-clause-sound : goal.returns-clause-sound
 returns-clause-sound c =
     let nodes = c.args.nodes.now.entries in
-    let all : map deref_pair c.loop-name.yielded ≡ nodes = search (rules, iter_end) in
+    let all = (iter_end deref_pair nodes c.loop-name.yielded _ _ _ _ c.into_iter-name-iterator.ensures.into_iter_gives.0
+    c.loop-name.yielded_by c.in-None.is c.next.ensures.steps).0 in
     certain_of_all nodes (rw all at c.loop-name.invariant)

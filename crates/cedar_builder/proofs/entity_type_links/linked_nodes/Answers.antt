@@ -27,7 +27,7 @@ returns-clause-linked c = λ unlinked.
     let sound : AreSound edges before = rw c.deref.ensures.value at c.in_ok-check_edges.ensures.sound in
     are_linked edges before sound after
     (λ key. alike_weaker _ SameType alike_same (node_at before key) (node_at after key) (c.in-Ok.ensures.alike key))
-    (rw c.deref-2.ensures.value at c.in-Ok.ensures.linked (ready edges before sound unlinked)) c.in_ok-check_descendants.ensures.sound
+    (c.in-Ok.ensures.linked (ready edges before sound unlinked)) c.in_ok-check_descendants.ensures.sound
 
 pub returns-in_err-check_edges-clause-fault : goal.returns-in_err-check_edges-clause-fault
 returns-in_err-check_edges-clause-fault c =
@@ -49,6 +49,6 @@ returns-in_err-check_descendants-clause-fault c =
       | inl wanting ↦ inl wanting
       | inr below ↦ below_fault edges before sound after
           (λ key. alike_weaker _ SameType alike_same (node_at before key) (node_at after key) (c.in-Ok.ensures.alike key))
-          (rw c.deref-2.ensures.value at c.in-Ok.ensures.linked (ready edges before sound unlinked)) below.0 below.1 below.2 below.3 below.4
+          (c.in-Ok.ensures.linked (ready edges before sound unlinked)) below.0 below.1 below.2 below.3 below.4
           fault below.5
     ])

@@ -1,6 +1,6 @@
-use Rattle.std.proofs.Common.{◌++◌, ◌∙◌, ap, map, sym, take}
+use Rattle.std.proofs.Common.{◌++◌, ◌∙◌, ap, map, subst, sym, take}
 use Rattle.cedar_declarations.proofs.OccurrenceLemmas.{Contains-image}
-use Rattle.cedar_builder.specs.Words.{fault_of, named, parents_in}
+use Rattle.cedar_builder.specs.Words.{IsParentFault, fault_of, named, parents_in, plain_edge}
 use Rattle.cedar_builder.proofs.NodeEdges.{item_among, map_item, parent_fault_wider, parents_more}
 use Rattle.cedar_fragments.proofs.FragmentLemmas.{exit_holds}
 use Rattle.cedar_builder.proofs.parents.parent_edges.Goals as goal
@@ -14,7 +14,8 @@ returns-in_err-add_parents-clause-fault g c =
     (parent_fault_wider (map with declared) (g.D.HasParents.key_name item.value.0) (g.D.HasParents.parents_of item.value.1) g.D.HasParents.Refuses
     (fault_of c.in_err-add_parents.field-0.0)
     (Contains-image with declared item (item_among declared c.loop-item.item-index item c.loop-item-test.true c.item-item.is))
-    c.in_err-add_parents.ensures.fault)
+    (subst (λ it. IsParentFault g.D.HasParents.Refuses (map (λ reference. (g.D.HasParents.key_name it.0, reference)) (g.D.HasParents.parents_of it.1))
+    (fault_of c.in_err-add_parents.field-0.0)) c.deref.ensures c.in_err-add_parents.ensures.fault))
 
 pub loop-item-preserved : goal.loop-item-preserved
 loop-item-preserved g c =
@@ -25,6 +26,8 @@ loop-item-preserved g c =
     let name = g.D.HasParents.key_name item.value.0 in
     let parents = g.D.HasParents.parents_of item.value.1 in
     c.in_ok-add_parents.ensures.added
+    ∙ (ap (λ it. map (plain_edge g.D.HasParents.key_name g.D.HasParents.reference_to) c.loop-item.edges.items
+    ++ map (λ reference. (g.D.HasParents.key_name it.0, reference)) (g.D.HasParents.parents_of it.1)) c.deref.ensures
     ∙ ((λ i. c.loop-item.invariant i ++ map (λ reference. (name, reference)) parents)
     ∙ (sym (parents_more (map with (take index declared)) name parents)
-    ∙ ap parents_in (map_item with declared index item c.loop-item-test.true c.item-item.is)))
+    ∙ ap parents_in (map_item with declared index item c.loop-item-test.true c.item-item.is))))
