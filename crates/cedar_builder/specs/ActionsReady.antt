@@ -3,9 +3,7 @@ use Rattle.std.specs.Prelude.{◌≡◌, List, Contains, map}
 use Rattle.cedar_table.specs.Entries.{Entries}
 use Rattle.cedar_below.specs.Words.{IsReserved, PlainName, PlainUid, SameItems, extension_types}
 use Rattle.cedar_below.specs.declared.entity_type.EntityType.{EntityType}
-use Rattle.cedar_below.specs.declared.entity_uid.EntityUID.{EntityUID}
 use Rattle.cedar_below.specs.declared.extension.Extensions.{Extensions}
-use Rattle.cedar_below.specs.declared.internal_name.InternalName.{InternalName}
 use Rattle.cedar_declarations.specs.Words.{Bag, IsActionParent, IsAtEntityTypePosition, IsCounted, NamesAction, ResolvesTo, action_uids, declared_actions, declared_entities, defined_names, definitions}
 use Rattle.cedar_schema_elements.specs.declared.entity_type.ValidatorEntityType.{ValidatorEntityType}
 use Rattle.cedar_resolution.specs.Collected.{DeclaredAction, collected_actions}

@@ -1,9 +1,7 @@
 -- When the entity types of a bag can be built.
 use Rattle.std.specs.Prelude.{◌≡◌, List, Contains}
 use Rattle.cedar_below.specs.Words.{IsReserved, PlainName, extension_types}
-use Rattle.cedar_below.specs.declared.entity_type.EntityType.{EntityType}
 use Rattle.cedar_below.specs.declared.extension.Extensions.{Extensions}
-use Rattle.cedar_below.specs.declared.internal_name.InternalName.{InternalName}
 use Rattle.cedar_declarations.specs.Words.{Bag, IsAtEntityTypePosition, IsCounted, ResolvesTo, declared_entities, defined_names, definitions}
 use Rattle.cedar_names.specs.Words.{Expr, Reference}
 use Rattle.cedar_resolution.specs.Collected.{DeclaredEntityType, collected_entities}
