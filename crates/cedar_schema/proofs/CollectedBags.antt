@@ -4,7 +4,7 @@ use Rattle.std.proofs.lemmas.List.Elements.{Contains-append_cases}
 use Rattle.std.proofs.lemmas.Simd.{map-map}
 use Rattle.cedar_below.proofs.Lists.{Contains-preimage}
 use Rattle.cedar_below.proofs.ValueLemmas.{IsName-type_name}
-use Rattle.cedar_schema.specs.Words.{ActionBody, Bag, EntityBody, EntityType, EntityUID, Extensions, InternalName, IsReserved, PlainName, PlainUid, action_uids, collected_actions, collected_entities, declared_actions, declared_entities, definitions, type_name, uid_of, DeclaredAction, DeclaredEntityType}
+use Rattle.cedar_schema.specs.Words.{ActionBody, Bag, EntityBody, EntityType, Extensions, IsReserved, PlainName, PlainUid, action_uids, collected_actions, collected_entities, declared_actions, declared_entities, definitions, type_name, uid_of, DeclaredAction, DeclaredEntityType}
 
 -- the name of an entity type isn't reserved
 type_unreserved : (ty : EntityType) (name : PlainName) → type_name ty ≡ name → ¬ IsReserved name
@@ -14,7 +14,7 @@ type_unreserved ty name same =
 module _ (bag : Bag) (entity_types : List DeclaredEntityType)
     (is_entities : collected_entities entity_types ≡ declared_entities bag) where
   -- the names of the entity types are those that are declared
-  names_collected : map (λ it. type_name it.0) entity_types ≡ map (λ it. it.0) (declared_entities bag)
+  names_collected : map (λ it. type_name it.value.0) entity_types ≡ map (λ it. it.0) (declared_entities bag)
   names_collected =
       let key : PlainName × EntityBody → PlainName = λ it. it.0 in
       sym (map-map key _ entity_types) ∙ ap (map key) is_entities

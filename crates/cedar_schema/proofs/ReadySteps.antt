@@ -1,6 +1,6 @@
 -- What each step is handed is what it asks for.
 use Rattle.std.proofs.Common.{◌≡◌, List, map, ap, sym, subst, inr, Contains}
-use Rattle.cedar_schema.specs.Words.{AreActionsOf, AreDeclaredEntityTypes, AreElaborated, AreTypesOf, Bag, CommonTypesAreSound, EntityType, EntityUID, Entries, Extensions, InternalName, IsReady, IsResolvedOver, Names, PlainName, SameItems, «Type», TypeScope, ValidatorEntityType, collected_actions, collected_common, collected_entities, declared_actions, declared_common, declared_entities, definitions, elaborated_types, extension_types, set_names, type_name, DeclaredAction, DeclaredEntityType}
+use Rattle.cedar_schema.specs.Words.{AreActionsOf, AreDeclaredEntityTypes, AreElaborated, AreTypesOf, Bag, CommonTypesAreSound, EntityType, Entries, Extensions, InternalName, IsReady, IsResolvedOver, Names, PlainName, SameItems, «Type», TypeScope, ValidatorEntityType, collected_actions, collected_common, collected_entities, declared_actions, declared_common, declared_entities, definitions, elaborated_types, extension_types, set_names, type_name, DeclaredAction, DeclaredEntityType}
 use Rattle.std.specs.BTreeSet.{BTreeSet}
 use Rattle.cedar_below.proofs.Lists.{Contains-preimage}
 use Rattle.cedar_declarations.proofs.BuiltInLemmas.{one_definition}

@@ -1,8 +1,9 @@
 -- Schemas are equal exactly where they are the same, ignoring locations.
-use Rattle.std.proofs.Common.{◌&&◌, Bool, [], ◌∷◌, List, map, refl, ap}
+use Rattle.std.proofs.Common.{◌≡◌, ◌∙◌, ◌&&◌, Bool, true, false, [], ◌∷◌, List, map, refl, ap, subst, sym}
 use Rattle.std.proofs.lemmas.Bool.Decides.{Decides-and, Decides-like}
 use Rattle.std.specs.Bool.{Decides}
 use Rattle.std.specs.Cmp.Lexicographic.{pointwise}
+use Rattle.std.specs.Map.{keys_of, values_of}
 use Rattle.cedar_schema_elements.proofs.ActionEquality.{actions-Same}
 use Rattle.cedar_schema.specs.Words.{EntityType, EntityUID, HoldsPairwise, PlainEntityType, SameAction, SameEntityType, SameSchema, ValidatorActionId, ValidatorEntityType, ValidatorSchema, plain_action_entry, plain_entry, schema_of}
 use Rattle.cedar_schema_elements.specs.contracts.action_id.ValidatorActionIdPartialEq.TheImpl as action_eq
@@ -58,6 +59,24 @@ pairwise-Same test plain Same decides [] (y ∷ ys) = none (λ same. same)
 pairwise-Same test plain Same decides (x ∷ xs) [] = none (λ same. same)
 pairwise-Same test plain Same decides (x ∷ xs) (y ∷ ys) = Decides-and _ _ (decides x y) (pairwise-Same test plain Same decides xs ys)
 
+-- of four tests, those of the first two and of the others may be taken together in either way
+and_crossed : (a b c d : Bool) → ((a && b) && (c && d)) ≡ ((a && c) && (b && d))
+and_crossed false b c d = refl
+and_crossed true true c d = refl
+and_crossed true false true d = refl
+and_crossed true false false d = refl
+
+-- the keys of two lists of entries and their values are pairwise equal where the entries are
+columns_equal : {K V : Type 0} (eq : K → K → Bool) (same : V → V → Bool) (xs ys : List (K × V))
+    → (pointwise eq (keys_of xs) (keys_of ys) && pointwise same (values_of xs) (values_of ys))
+    ≡ pointwise (λ p q. eq p.0 q.0 && same p.1 q.1) xs ys
+columns_equal eq same [] [] = refl
+columns_equal eq same [] (y ∷ ys) = refl
+columns_equal eq same (x ∷ xs) [] = refl
+columns_equal eq same (x ∷ xs) (y ∷ ys) =
+    and_crossed (eq x.0 y.0) (pointwise eq (keys_of xs) (keys_of ys)) (same x.1 y.1) (pointwise same (values_of xs) (values_of ys))
+    ∙ ap (λ rest. (eq x.0 y.0 && same x.1 y.1) && rest) (columns_equal eq same xs ys)
+
 -- schemas are equal exactly where they are the same
 pub schemas-Same : (a b : ValidatorSchema) → Decides ((schema_eq.ghosts).eq a b) (SameSchema (schema_of a) (schema_of b))
 schemas-Same a b =
@@ -70,5 +89,11 @@ schemas-Same a b =
     })
     (λ same. (same.entity_types, same.actions))
     (Decides-and _ _
-    (pairwise-Same same_entry plain_entry SameEntityType entry-Same a.content.entity_types.entries b.content.entity_types.entries)
-    (pairwise-Same same_action_entry plain_action_entry SameAction action_entry-Same a.content.action_ids.entries b.content.action_ids.entries))
+    (subst (λ answer. Decides answer (HoldsPairwise SameEntityType (map plain_entry a.content.entity_types.entries)
+    (map plain_entry b.content.entity_types.entries)))
+    (sym (columns_equal (name_eq.ghosts).eq (entity_type_eq.ghosts).eq a.content.entity_types.entries b.content.entity_types.entries))
+    (pairwise-Same same_entry plain_entry SameEntityType entry-Same a.content.entity_types.entries b.content.entity_types.entries))
+    (subst (λ answer. Decides answer (HoldsPairwise SameAction (map plain_action_entry a.content.action_ids.entries)
+    (map plain_action_entry b.content.action_ids.entries)))
+    (sym (columns_equal (uid_eq.ghosts).eq (action_eq.ghosts).eq a.content.action_ids.entries b.content.action_ids.entries))
+    (pairwise-Same same_action_entry plain_action_entry SameAction action_entry-Same a.content.action_ids.entries b.content.action_ids.entries)))

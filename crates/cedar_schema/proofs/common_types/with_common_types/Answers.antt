@@ -1,9 +1,9 @@
-use Rattle.std.proofs.Common.{◌≡◌, [], ◌∷◌, ◌++◌, List, ap, cond, map, sym, take, ◌∙◌}
+use Rattle.std.proofs.Common.{◌≡◌, [], ◌∷◌, ◌++◌, ap, cond, map, sym, take, ◌∙◌}
 use Rattle.std.proofs.lemmas.List.{append-nil, map-append}
 use Rattle.std.specs.List.{flat_map}
 use Rattle.cedar_schema.proofs.InOrder.{flat_map_next, flat_map_whole}
 use Rattle.cedar_schema.proofs.ShownLemmas.{each_to_show, one_to_show}
-use Rattle.cedar_schema.specs.Words.{ShownCommonType, declared_common_type, is_shown, located_name, shown_common_type}
+use Rattle.cedar_schema.specs.Words.{declared_common_type, shown_common_type}
 use Rattle.cedar_schema.proofs.common_types.with_common_types.Goals as goal
 use Rattle.cedar_schema.proofs.common_types.with_common_types.Goals.{then-is_to_be_shown+in_ok-at+in_ok-push, else-is_to_be_shown}
 

@@ -1,4 +1,4 @@
-use Rattle.std.proofs.Common.{◌≡◌, [], ◌∷◌, List, arith, map}
+use Rattle.std.proofs.Common.{◌≡◌, [], List, arith, map}
 use Rattle.std.proofs.lemmas.Grind.{merely}
 use Rattle.std.specs.List.Sorted.{IsStrictlySortedBy}
 use Rattle.cedar_schema.specs.Words.{AreActionEntities, Entity, EntityUID, PlainName, SchemaEntityType, ValidatorActionId, entities_of, plain_entry, schema_with}
