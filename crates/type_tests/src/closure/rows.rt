@@ -116,7 +116,9 @@ fn linking(alloc: Global, edges: &[(u32, u32)], enforce_dag: bool) -> Result<Str
         ordered.insert(key, node)?;
     }
     let nodes = Table::from_map(alloc, ordered)?;
-    match link_table(alloc, nodes, edges, enforce_dag) {
+    let mut owned = Vec::with_capacity(alloc, edges.len())?;
+    owned.extend_from_slice(edges)?;
+    match link_table(alloc, nodes, owned, enforce_dag) {
         Ok(linked) => {
             let total = edges_in_table(&linked).ok_or("a node is changed")?;
             Ok(format!(in alloc; "{total} edges")?)
