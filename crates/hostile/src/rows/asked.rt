@@ -82,7 +82,7 @@ fn asked(alloc: Global, schema: &ValidatorSchema, question: Question) -> Result<
         Question::Lines => return Ok(on_one_line(alloc, &lines_of(alloc, schema)?)?),
         Question::Leaves => leaves(alloc, schema)?,
         Question::Attributes => sizes(schema).0,
-        Question::EntityTypes => schema.entity_types().count(),
+        Question::EntityTypes => schema.entity_types().len(),
         Question::Descendants => sizes(schema).1,
         Question::Environments => schema.unlinked_envs_owned().len(),
         Question::Ids => ids(schema),
