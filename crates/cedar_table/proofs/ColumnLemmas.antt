@@ -1,5 +1,5 @@
 -- A table as two columns: its keys, and the values at their places.
-use Rattle.std.proofs.Common.{◌≡◌, ◌∙◌, ◌++◌, [], ◌∷◌, ◌<◌, ℕ, IfNone, IfSome, List, None, Option, Some, ap, arith, get_or, length, option_map, refl, slice_get, subst, sym}
+use Rattle.std.proofs.Common.{◌≡◌, ◌∙◌, ◌++◌, [], ◌∷◌, ℕ, IfNone, IfSome, List, None, Option, Some, ap, arith, get_or, length, option_map, refl, slice_get, subst, sym}
 use Rattle.std.proofs.lemmas.List.{length-append}
 use Rattle.std.proofs.lemmas.Map.Entries.{length-values_of, place_from_lookup}
 use Rattle.std.proofs.lemmas.Map.Made.{keys_of-zip}

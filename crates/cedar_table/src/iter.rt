@@ -1,10 +1,10 @@
 //! The iterators over a table. Each is seen as the list of what it has left.
 
 ghost use Rattle.std.specs.Prelude.{◌≡◌, length};
-ghost use Rattle.cedar_table.specs.Words.{TakesFirst, TakesLast, at_most, deref, deref_pair, keys_of, values_of, zip};
+ghost use Rattle.cedar_table.specs.Words.{TakesFirst, TakesLast, at_most, deref, deref_pair, zip};
 
 use std::iter::FusedIterator;
-use std::marker::Model;
+use std::marker::{Model, PhantomData};
 use std::slice;
 
 /// The entries that are left, in the order of their keys.
@@ -78,24 +78,28 @@ impl<'a, K, V> ExactSizeIterator for Iter<'a, K, V> {
 /// The keys that are left, in their order.
 #[derive(Drop)]
 pub struct Keys<'a, K, V> {
-    rest: Iter<'a, K, V>,
+    rest: slice::Iter<'a, K>,
+    of: PhantomData<V>,
 }
 
 impl<'a, K, V> Model for Keys<'a, K, V> {
     ghost use Rattle.std.specs.Prelude.{List};
-    ghost use Rattle.cedar_table.specs.Words.{keys_of};
+    ghost use Rattle.cedar_table.specs.Words.{iter_rest};
 
     ghost Value = { List K };
 
-    ghost view = { λ a. keys_of a.rest };
+    ghost view = { λ a. iter_rest a.rest };
 }
 
 impl<'a, K, V> Keys<'a, K, V> {
-    /// The keys of these entries.
-    pub(crate) fn new(rest: Iter<'a, K, V>) -> Self
-        ensures { result ≡ keys_of rest.entry }
+    /// These keys.
+    pub(crate) fn new(keys: &'a [K]) -> Self
+        ensures { result ≡ keys.now }
     {
-        Keys { rest }
+        Keys {
+            rest: keys.iter(),
+            of: PhantomData,
+        }
     }
 }
 
@@ -107,13 +111,11 @@ impl<'a, K, V> Iterator for Keys<'a, K, V> {
     ghost remaining = { λ s. at_most (length s) };
 
     fn next(&mut self) -> Option<&'a K> {
-        let (key, _value) = self.rest.next()?;
-        Some(key)
+        self.rest.next()
     }
 
     fn size_hint(&self) -> (usize, Option<usize>) {
-        let len = self.rest.len();
-        (len, Some(len))
+        self.rest.size_hint()
     }
 }
 
@@ -123,8 +125,7 @@ impl<'a, K, V> DoubleEndedIterator for Keys<'a, K, V> {
     ghost next_back_gives = { TakesLast deref };
 
     fn next_back(&mut self) -> Option<&'a K> {
-        let (key, _value) = self.rest.next_back()?;
-        Some(key)
+        self.rest.next_back()
     }
 }
 
@@ -137,24 +138,28 @@ impl<'a, K, V> ExactSizeIterator for Keys<'a, K, V> {
 /// The values that are left, in the order of their keys.
 #[derive(Drop)]
 pub struct Values<'a, K, V> {
-    rest: Iter<'a, K, V>,
+    rest: slice::Iter<'a, V>,
+    of: PhantomData<K>,
 }
 
 impl<'a, K, V> Model for Values<'a, K, V> {
     ghost use Rattle.std.specs.Prelude.{List};
-    ghost use Rattle.cedar_table.specs.Words.{values_of};
+    ghost use Rattle.cedar_table.specs.Words.{iter_rest};
 
     ghost Value = { List V };
 
-    ghost view = { λ a. values_of a.rest };
+    ghost view = { λ a. iter_rest a.rest };
 }
 
 impl<'a, K, V> Values<'a, K, V> {
-    /// The values of these entries.
-    pub(crate) fn new(rest: Iter<'a, K, V>) -> Self
-        ensures { result ≡ values_of rest.entry }
+    /// These values.
+    pub(crate) fn new(values: &'a [V]) -> Self
+        ensures { result ≡ values.now }
     {
-        Values { rest }
+        Values {
+            rest: values.iter(),
+            of: PhantomData,
+        }
     }
 }
 
@@ -166,13 +171,11 @@ impl<'a, K, V> Iterator for Values<'a, K, V> {
     ghost remaining = { λ s. at_most (length s) };
 
     fn next(&mut self) -> Option<&'a V> {
-        let (_key, value) = self.rest.next()?;
-        Some(value)
+        self.rest.next()
     }
 
     fn size_hint(&self) -> (usize, Option<usize>) {
-        let len = self.rest.len();
-        (len, Some(len))
+        self.rest.size_hint()
     }
 }
 
@@ -182,8 +185,7 @@ impl<'a, K, V> DoubleEndedIterator for Values<'a, K, V> {
     ghost next_back_gives = { TakesLast deref };
 
     fn next_back(&mut self) -> Option<&'a V> {
-        let (_key, value) = self.rest.next_back()?;
-        Some(value)
+        self.rest.next_back()
     }
 }
 

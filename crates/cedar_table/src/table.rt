@@ -79,7 +79,7 @@ impl<K: Ord + QuickHash, V> Table<K, V> {
         ensures rest { result ≡ keys_of self.now.entries }
         ensures ordered { IsStrictlySortedBy K.cmp (keys_of self.now.entries) }
     {
-        Keys::new(self.iter())
+        Keys::new(self.keys.as_vec())
     }
 
     /// The values, in the order of their keys.
@@ -87,7 +87,8 @@ impl<K: Ord + QuickHash, V> Table<K, V> {
         ensures rest { result ≡ values_of self.now.entries }
         ensures ordered { IsStrictlySortedBy K.cmp (keys_of self.now.entries) }
     {
-        Values::new(self.iter())
+        let _ = self.keys.as_vec();
+        Values::new(&self.values)
     }
 }
 

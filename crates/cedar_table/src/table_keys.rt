@@ -71,7 +71,7 @@ impl<K: Ord + QuickHash + Drop> TableKeys<K> {
     ghost use Rattle.cedar_table.specs.Words.{IsStrictlySortedBy};
 
     /// The keys of a list, which are in order. Out of memory is the only refusal.
-    pub(crate) fn of(alloc: Global, keys: Vec<K>) -> M<Self>
+    pub fn of(alloc: Global, keys: Vec<K>) -> M<Self>
         requires { IsStrictlySortedBy K.cmp keys.items }
         ensures { IfOk result (λ made. made ≡ keys.items) }
     {

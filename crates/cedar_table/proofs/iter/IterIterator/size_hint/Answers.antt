@@ -1,4 +1,4 @@
-use Rattle.std.proofs.Common.{◌∙◌, ap, arith, length, sym}
+use Rattle.std.proofs.Common.{ap, arith, length}
 use Rattle.std.specs.Slice.Iter.{iter_rest}
 use Rattle.cedar_table.proofs.ColumnLemmas.{as_many}
 use Rattle.cedar_table.proofs.iter.IterIterator.size_hint.Goals as goal
