@@ -1,5 +1,4 @@
 -- The ids of actions that are written with attributes.
-use Rattle.std.specs.Cmp.{unsigned_Decides}
 use Rattle.std.specs.declared.vec.Vec.{Vec}
 use Rattle.std.proofs.Common.{vec_len, ◌==◌, eq-eqb, ◌≡◌, ◌≢◌, length, ◌⊎◌, ◌↔◌, Bool, true, false, List, [], ◌∷◌, ◌++◌, map, ap, sym, subst, ◌∙◌, refl, inl, inr, append_assoc, Contains, Option, None, Some, string_bytes, arith}
 use Rattle.std.proofs.lemmas.Bool.{false≢true}

@@ -7,7 +7,7 @@ use Rattle.std.specs.List.{AllByRecursion, flat_map}
 use Rattle.std.specs.declared.alloc.Global.{Global}
 use Rattle.std.specs.declared.string.String.{String}
 use Rattle.cedar_names.specs.declared.json_schema.entity_type.EntityType.{EntityType}
-use Rattle.cedar_fragments.specs.Words.{ActionType, Bag, CommonType, CommonTypeId, Declaration, UnreservedId, action, action_body, common_type, entity_type, raw_entity_body, type_expr, HoldsAlso, HoldsJust, IsSound, NamespaceDefinition, Names, PlainName, RawName, action_declarations, action_word, common_declarations, common_type_text, entity_declarations, name_within, names_given, raw_declarations, raw_reference, unreserved_id_text}
+use Rattle.cedar_fragments.specs.Words.{ActionType, Bag, CommonType, CommonTypeId, Declaration, UnreservedId, action, action_body, common_type, entity_type, raw_entity_body, type_expr, HoldsAlso, IsSound, NamespaceDefinition, Names, PlainName, RawName, action_declarations, action_word, common_declarations, common_type_text, entity_declarations, name_within, names_given, raw_declarations, raw_reference, unreserved_id_text}
 use Rattle.cedar_declarations.specs.Words.{action_in, common_in, declared_name, declared_uid, entity_in}
 use Rattle.cedar_fragments.proofs.DeclaredNames.{action_uid, common_name, each_read, entity_name, keys_read, none_read, three_read}
 use Rattle.cedar_fragments.proofs.SetLemmas.{HasAlso-more, HasAlso-none}

@@ -1,7 +1,7 @@
 -- Names that are collected from definitions and from fragments, one after another.
 use Rattle.std.proofs.Common.{◌≡◌, ℕ, ◌+◌, ◌<◌, ◌≤◌, List, [], length, get_or, take}
 use Rattle.cedar_fragments.specs.Words.{HoldsAlso, HoldsJust, Names, ValidatorNamespaceDef, ValidatorSchemaFragment, declared_names, definition_names, fragment_names, names_of_definitions}
-use Rattle.cedar_fragments.proofs.SetLemmas.{HasAlso-next_ones, HasAlso-all_ones, SameItems-from_none}
+use Rattle.cedar_fragments.proofs.SetLemmas.{HasAlso-next_ones, HasAlso-all_ones, SameItems-from_none, SameItems-through}
 
 module _ (N A : Type 0) where
   -- those of one more definition
@@ -46,4 +46,12 @@ just_these before after more common entities actions also = record {
   common = SameItems-from_none after.common before.common more.common common also.common;
   entities = SameItems-from_none after.entities before.entities more.entities entities also.entities;
   actions = SameItems-from_none after.actions before.actions more.actions actions also.actions;
+}
+
+-- names that are just those of a second kind, which are just those of a third
+pub HoldsJust-through : (held listed names : Names) → HoldsJust held listed → HoldsJust listed names → HoldsJust held names
+HoldsJust-through held listed names first second = record {
+  common = SameItems-through held.common listed.common names.common first.common second.common;
+  entities = SameItems-through held.entities listed.entities names.entities first.entities second.entities;
+  actions = SameItems-through held.actions listed.actions names.actions first.actions second.actions;
 }

@@ -3,13 +3,13 @@ use Rattle.std.proofs.Common.{◌≡◌, ◌⊎◌, ◌↔◌, true, Option, Som
 use Rattle.std.proofs.lemmas.Bool.{false≢true}
 use Rattle.std.proofs.lemmas.List.{map_more, take_more, take_all, flat_map_more, map-append, append-nil}
 use Rattle.std.proofs.lemmas.List.Elements.{Contains-append_left, Contains-append_right, Contains-append_cases}
-use Rattle.std.specs.BTreeSet.{insert_key}
+use Rattle.std.specs.BTreeSet.{BTreeSet, IsFromIterResult, insert_key}
 use Rattle.std.specs.Bool.{Decides}
 use Rattle.std.specs.List.{list_any, flat_map}
-use Rattle.std.specs.Ordering.{is_eq, match_ordering}
+use Rattle.std.specs.Ordering.{eq_by_cmp, is_eq, match_ordering}
 use Rattle.std.specs.declared.cmp.Ordering.{Ordering}
 use Rattle.std.specs.declared.cmp.Ordering.TheVariants.{Less, Equal, Greater}
-use Rattle.cedar_below.proofs.Lists.{Contains-cons, Contains-cons_cases, list_any-Contains}
+use Rattle.cedar_below.proofs.Lists.{Contains-cons, Contains-cons_cases, Contains-preimage, list_any-Contains}
 use Rattle.cedar_fragments.specs.Words.{HasAlso, SameItems, StandsWhere}
 
 -- an answer that says so is a tie
@@ -85,9 +85,35 @@ module _ {K P : Type 0} (R : K → K → Ordering) (f : K → P) (tie : (a b : K
         ],
       )
 
+  -- keys of which a search finds just those that it finds of others stand for some of what these do
+  searched_within : (keys others : List K) → ((key : K) → list_any (eq_by_cmp R key) keys ≡ list_any (eq_by_cmp R key) others) → (item : P)
+      → Contains (map f keys) item → Contains (map f others) item
+  searched_within keys others answers item among =
+      let found = Contains-preimage f keys item among in
+      rw found.2 at ((found-Decides others found.0).0 (sym (answers found.0) ∙ (found-Decides keys found.0).1 (rw found.2 among)))
+
+  -- a set of some items has just what these stand for
+  pub collected : (set : BTreeSet K) (items : List K) → IsFromIterResult R items set → SameItems (map f set.keys) (map f items)
+  collected set items made item = (
+    searched_within set.keys items made.0 item,
+    searched_within items set.keys (λ key. sym (made.0 key)) item,
+  )
+
 -- nothing more
 pub HasAlso-none : {P : Type 0} (items : List P) → HasAlso items items []
 HasAlso-none items item = (λ among. inl among, elim [ inl among ↦ among | inr nothing ↦ absurd (omega (arith, nothing.1)) ])
+
+-- one more at the end
+pub HasAlso-pushed : {K P : Type 0} (f : K → P) (before after : List K) (item : K) → after ≡ before ++ item ∷ []
+    → HasAlso (map f after) (map f before) (f item ∷ [])
+HasAlso-pushed f before after item is =
+    rw (ap (map f) is ∙ map-append f before (item ∷ [])) (λ name. (
+      λ among. Contains-append_cases (map f before) (f item ∷ []) name among,
+      elim [
+        | inl here ↦ Contains-append_left (map f before) (f item ∷ []) name here
+        | inr there ↦ Contains-append_right (map f before) (f item ∷ []) name there
+      ],
+    ))
 
 -- some more, and then others
 pub HasAlso-more : {P : Type 0} (before middle after more others : List P) → HasAlso middle before more → HasAlso after middle others
@@ -145,6 +171,13 @@ SameItems-from_none {P = P} after before more nothing also item = (
     | inr there ↦ there
   ],
   λ there. (also item).1 (inr there),
+)
+
+-- items that are those of a second list, which are those of a third
+pub SameItems-through : {P : Type 0} (items middle others : List P) → SameItems items middle → SameItems middle others → SameItems items others
+SameItems-through items middle others first second item = (
+  λ among. (second item).0 ((first item).0 among),
+  λ among. (first item).1 ((second item).1 among),
 )
 
 -- what some items give was added, and others are left

@@ -3,6 +3,7 @@ use Rattle.std.specs.List.{flat_map}
 use Rattle.cedar_below.specs.Words.{PlainName, PlainUid, SameItems, name_of, type_name, uid_of}
 use Rattle.cedar_declarations.specs.Words.{Bag, Names, action_uids, declared_common, declared_entities}
 use Rattle.cedar_fragments.specs.declared.defs.all_defs.AllDefs.{AllDefs}
+use Rattle.cedar_fragments.specs.declared.defs.written.NameLists.{NameLists}
 use Rattle.cedar_fragments.specs.declared.namespace.actions.ActionsDef.{ActionsDef}
 use Rattle.cedar_fragments.specs.declared.namespace.common_types.CommonTypeDefs.{CommonTypeDefs}
 use Rattle.cedar_fragments.specs.declared.namespace.entity_types.EntityTypesDef.{EntityTypesDef}
@@ -15,6 +16,14 @@ held_names it = record {
   common = map name_of it.common_defs.keys;
   entities = map name_of it.entity_defs.keys;
   actions = map uid_of it.action_defs.keys;
+}
+
+-- the names that are listed, each as often as it is
+abbrev pub listed_names : NameLists → Names
+listed_names it = record {
+  common = map name_of it.common.items;
+  entities = map name_of it.entities.items;
+  actions = map uid_of it.actions.items;
 }
 
 -- the names of some common types

@@ -33,7 +33,7 @@ pub use Rattle.cedar_fragments.specs.FragmentFault.{NamesAllOfADefinition}
 pub use Rattle.cedar_fragments.specs.FragmentLocs.{action_def_locs, action_fragment_locs, actions_locs, common_type_locs, common_types_locs, definition_locs, entity_fragment_locs, entity_type_locs, entity_types_locs, fragment_locs, no_locs, parent_locs, requests_locs, tags_locs}
 pub use Rattle.cedar_fragments.specs.FragmentNamespaces.{fragment_namespaces}
 pub use Rattle.cedar_fragments.specs.GivenCommonTypes.{given_common_type, given_common_types}
-pub use Rattle.cedar_fragments.specs.HeldNames.{AreTheDeclaredNames, HasAlso, HoldsAlso, HoldsJust, StandsWhere, common_type_names, declared_names, definition_names, entity_type_names, fragment_names, held_names, names_given, names_of_definitions, uids_of_actions}
+pub use Rattle.cedar_fragments.specs.HeldNames.{AreTheDeclaredNames, HasAlso, HoldsAlso, HoldsJust, StandsWhere, common_type_names, declared_names, definition_names, entity_type_names, fragment_names, held_names, listed_names, names_given, names_of_definitions, uids_of_actions}
 pub use Rattle.cedar_fragments.specs.Located.{DefinedNamespace, LocatedName, action_defs, common_type_defs, definition_common_names, definition_common_types, definition_loc, definition_name, definition_namespaces, entity_type_defs, entry_common_names, entry_namespaces, fragment_common_names, fragment_definitions, located_common_names, located_name, located_plain_name, named_namespace, named_namespaces, raw_common_names, raw_namespaces, written_common_names}
 pub use Rattle.cedar_fragments.specs.QualifyFault.{HasToResolveFor, HasToResolveIn, IsAnyParent, IsParentIn, IsRequested, IsRequestedIn, IsUnresolvable, IsUnresolvableBag, IsUnresolvableIn, NoneIsReserved}
 pub use Rattle.cedar_fragments.specs.Refused.{IsRefused, IsRefusedAmong}

@@ -13,7 +13,7 @@ use std::alloc::Global;
 use std::collections::BTreeSet;
 
 /// Adds a name to some, or leaves them as they are and runs out of memory.
-pub(crate) fn add_name(names: &mut BTreeSet<InternalName>, name: InternalName) -> M<()>
+fn add_name(names: &mut BTreeSet<InternalName>, name: InternalName) -> M<()>
     ensures added { OnOk result (HasAlso (map name_of names.new.keys) (map name_of names.old.keys)
         (name_of name ∷ [])) }
     ensures refused { OnErr result (names.new.keys ≡ names.old.keys) }
@@ -23,7 +23,7 @@ pub(crate) fn add_name(names: &mut BTreeSet<InternalName>, name: InternalName) -
 }
 
 /// Adds a uid to some, or leaves them as they are and runs out of memory.
-pub(crate) fn add_uid(uids: &mut BTreeSet<EntityUID>, uid: EntityUID) -> M<()>
+fn add_uid(uids: &mut BTreeSet<EntityUID>, uid: EntityUID) -> M<()>
     ensures added { OnOk result (HasAlso (map uid_of uids.new.keys) (map uid_of uids.old.keys)
         (uid_of uid ∷ [])) }
     ensures refused { OnErr result (uids.new.keys ≡ uids.old.keys) }

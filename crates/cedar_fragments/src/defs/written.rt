@@ -3,11 +3,11 @@
 ghost use Rattle.std.specs.Prelude.{◌≡◌, ◌⊎◌, ◌∷◌, [], IfErr, IfOk, OnOk, map, string_bytes};
 ghost use Rattle.std.specs.List.{AllByRecursion};
 ghost use Rattle.std.specs.Option.{option_map};
-ghost use Rattle.cedar_fragments.specs.Words.{HasAlso, HoldsAlso, HoldsJust, IsDefinitionFault, IsSound, NamesAllOfADefinition, NamesAllWithAttributes, NamesNoAttributes, action_declarations, action_word, common_type_text, entity_declarations, fault_of, held_names, name_of, name_within, names_given, namespace_name, out_of_memory, plain_name, raw_bag, raw_declarations, raw_fragment, raw_reference, uid_of, unreserved_id_text};
+ghost use Rattle.std.specs.BTreeSet.{IsFromIterResult};
+ghost use Rattle.cedar_fragments.specs.Words.{HasAlso, HoldsAlso, HoldsJust, IsDefinitionFault, IsSound, NamesAllOfADefinition, NamesAllWithAttributes, NamesNoAttributes, action_declarations, action_word, common_type_text, entity_declarations, fault_of, held_names, listed_names, name_of, name_within, names_given, namespace_name, out_of_memory, plain_name, raw_bag, raw_declarations, raw_fragment, raw_reference, uid_of, unreserved_id_text};
 ghost use Rattle.cedar_names.specs.declared.json_schema.raw_name.RawName.{RawName as Raw};
 
 use crate::defs::all_defs::AllDefs;
-use crate::defs::names::{add_name, add_uid};
 use crate::namespace::{
     action_type_name, action_uid, entity_type_name, full_name, refuse_attributes,
 };
@@ -18,6 +18,19 @@ use cedar_names::json_schema::{
 };
 use std::alloc::Global;
 use std::collections::{BTreeMap, BTreeSet};
+
+/// The names that fragments declare, in lists: each as often as it is declared.
+#[derive(Drop)]
+struct NameLists {
+    /// The names of common types.
+    common: Vec<InternalName>,
+    /// The names of entity types.
+    entities: Vec<InternalName>,
+    /// The uids of actions.
+    actions: Vec<EntityUID>,
+    /// Where the lists have their memory.
+    alloc: Global,
+}
 
 /// The name of a namespace, borrowed, which may be the empty one.
 fn namespace_of(name: &Option<Name>) -> Option<&InternalName>
@@ -32,17 +45,17 @@ fn namespace_of(name: &Option<Name>) -> Option<&InternalName>
 /// Adds the names of the common types that are written in a namespace.
 fn add_common_types(
     alloc: Global,
-    names: &mut BTreeSet<InternalName>,
+    names: &mut Vec<InternalName>,
     namespace: Option<&InternalName>,
     written: &BTreeMap<CommonTypeId, CommonType<RawName>>,
 ) -> M<()>
-    ensures { OnOk result (HasAlso (map name_of names.new.keys) (map name_of names.old.keys)
+    ensures { OnOk result (HasAlso (map name_of names.new.items) (map name_of names.old.items)
         (map (λ entry. name_within (namespace_name namespace.entry) (common_type_text entry.0))
         written.now.entries)) }
 {
     for (id, common) in written {
         let id = id.as_id().as_id().clone()?;
-        add_name(names, full_name(alloc, namespace, id, common.loc)?)?;
+        names.push(full_name(alloc, namespace, id, common.loc)?)?;
     }
     Ok(())
 }
@@ -50,11 +63,12 @@ fn add_common_types(
 /// Adds the names of the entity types that are written in a namespace, where they may be declared.
 fn add_entity_types(
     alloc: Global,
-    names: &mut BTreeSet<InternalName>,
+    names: &mut Vec<InternalName>,
     namespace: Option<&InternalName>,
     written: &BTreeMap<UnreservedId, EntityType<RawName>>,
 ) -> Result<(), SchemaError>
-    ensures added { OnOk result (HasAlso (map name_of names.new.keys) (map name_of names.old.keys)
+    ensures added { OnOk result (HasAlso (map name_of names.new.items)
+        (map name_of names.old.items)
         (map (λ entry. name_within (namespace_name namespace.entry) (unreserved_id_text entry.0))
         written.now.entries)) }
     ensures sound { OnOk result (AllByRecursion IsSound
@@ -68,7 +82,7 @@ fn add_entity_types(
 {
     for (id, declared) in written {
         let ty = entity_type_name(alloc, namespace, id.clone()?, declared.loc)?;
-        add_name(names, ty.into_name().into_internal())?;
+        names.push(ty.into_name().into_internal())?;
     }
     Ok(())
 }
@@ -76,11 +90,11 @@ fn add_entity_types(
 /// Adds the uids of the actions that are written in a namespace, where they may be declared.
 fn add_actions(
     alloc: Global,
-    uids: &mut BTreeSet<EntityUID>,
+    uids: &mut Vec<EntityUID>,
     namespace: Option<&InternalName>,
     written: &BTreeMap<String, ActionType<RawName>>,
 ) -> Result<(), SchemaError>
-    ensures added { OnOk result (HasAlso (map uid_of uids.new.keys) (map uid_of uids.old.keys)
+    ensures added { OnOk result (HasAlso (map uid_of uids.new.items) (map uid_of uids.old.items)
         (map (λ entry. record {
           ty = name_within (namespace_name namespace.entry) action_word;
           eid = string_bytes entry.0;
@@ -101,19 +115,42 @@ fn add_actions(
     let ty = action_type_name(alloc, namespace)?;
     for (id, declared) in written {
         let uid = action_uid(&ty, id.clone()?, declared.defn_loc)?;
-        add_uid(uids, uid)?;
+        uids.push(uid)?;
     }
     Ok(())
 }
 
-impl AllDefs {
+/// The set of some items. Of equal ones it has the first.
+fn set_of<K: Ord + Drop>(alloc: Global, mut items: Vec<K>) -> M<BTreeSet<K>>
+    ensures { IfOk result (IsFromIterResult K.cmp items.items) }
+{
+    // `from_iter` keeps the last of equal items.
+    items.reverse();
+    Ok(BTreeSet::from_iter(alloc, items)?)
+}
+
+impl NameLists {
+    /// No names.
+    fn none(alloc: Global) -> Self
+        ensures common { (listed_names result).common ≡ [] }
+        ensures entities { (listed_names result).entities ≡ [] }
+        ensures actions { (listed_names result).actions ≡ [] }
+    {
+        NameLists {
+            common: Vec::new(alloc),
+            entities: Vec::new(alloc),
+            actions: Vec::new(alloc),
+            alloc,
+        }
+    }
+
     /// Adds what a definition as it is written declares.
-    fn add_written_definition(
+    fn add_definition(
         &mut self,
         namespace: Option<&InternalName>,
         written: &NamespaceDefinition<RawName>,
     ) -> Result<(), SchemaError>
-        ensures added { OnOk result (HoldsAlso (held_names self.new) (held_names self.old)
+        ensures added { OnOk result (HoldsAlso (listed_names self.new) (listed_names self.old)
             (names_given (raw_declarations (namespace_name namespace.entry) written.now))) }
         ensures sound { OnOk result (AllByRecursion IsSound
             (raw_declarations (namespace_name namespace.entry) written.now)) }
@@ -125,24 +162,14 @@ impl AllDefs {
             (namespace_name namespace.entry) (fault_of error)) }
     {
         let alloc = self.alloc;
-        add_common_types(
-            alloc,
-            &mut self.common_defs,
-            namespace,
-            &written.common_types,
-        )?;
-        add_entity_types(
-            alloc,
-            &mut self.entity_defs,
-            namespace,
-            &written.entity_types,
-        )?;
-        add_actions(alloc, &mut self.action_defs, namespace, &written.actions)
+        add_common_types(alloc, &mut self.common, namespace, &written.common_types)?;
+        add_entity_types(alloc, &mut self.entities, namespace, &written.entity_types)?;
+        add_actions(alloc, &mut self.actions, namespace, &written.actions)
     }
 
     /// Adds what a fragment as it is written declares.
-    fn add_written_fragment(&mut self, fragment: &Fragment<RawName>) -> Result<(), SchemaError>
-        ensures added { OnOk result (HoldsAlso (held_names self.new) (held_names self.old)
+    fn add_fragment(&mut self, fragment: &Fragment<RawName>) -> Result<(), SchemaError>
+        ensures added { OnOk result (HoldsAlso (listed_names self.new) (listed_names self.old)
             (names_given (raw_fragment fragment.now))) }
         ensures sound { OnOk result (AllByRecursion IsSound (raw_fragment fragment.now)) }
         ensures fault { IfErr result (λ error. (fault_of error ≡ out_of_memory)
@@ -151,11 +178,31 @@ impl AllDefs {
             NamesAllOfADefinition (fragment.now ∷ []) (fault_of error)) }
     {
         for (name, written) in &fragment.0 {
-            self.add_written_definition(namespace_of(name), written)?;
+            self.add_definition(namespace_of(name), written)?;
         }
         Ok(())
     }
 
+    /// The sets of these names.
+    fn into_defs(self) -> M<AllDefs>
+        ensures { IfOk result (λ defs. HoldsJust (held_names defs) (listed_names self)) }
+    {
+        let NameLists {
+            common,
+            entities,
+            actions,
+            alloc,
+        } = self;
+        Ok(AllDefs {
+            entity_defs: set_of(alloc, entities)?,
+            common_defs: set_of(alloc, common)?,
+            action_defs: set_of(alloc, actions)?,
+            alloc,
+        })
+    }
+}
+
+impl AllDefs {
     /// What fragments as they are written declare, without types of actions, built-in types and
     /// aliases.
     ///
@@ -174,10 +221,10 @@ impl AllDefs {
         ensures all_named { IfErr result (λ error.
             NamesAllOfADefinition fragments.now (fault_of error)) }
     {
-        let mut defs = AllDefs::none(alloc);
+        let mut names = NameLists::none(alloc);
         for fragment in fragments {
-            defs.add_written_fragment(fragment)?;
+            names.add_fragment(fragment)?;
         }
-        Ok(defs)
+        Ok(names.into_defs()?)
     }
 }

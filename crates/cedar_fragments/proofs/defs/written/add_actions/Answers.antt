@@ -1,8 +1,9 @@
 use Rattle.std.proofs.Common.{sym, ap, ◌∙◌, string_bytes}
 use Rattle.std.specs.Option.{is_some}
-use Rattle.cedar_fragments.specs.Words.{RawName, action_body, action_declarations, namespace_name, raw_reference}
+use Rattle.cedar_fragments.specs.Words.{RawName, action_body, action_declarations, namespace_name, raw_reference, uid_of}
 use Rattle.cedar_fragments.proofs.AttributeLemmas.{next_has_none}
 use Rattle.cedar_fragments.proofs.FragmentLemmas.{exit_holds}
+use Rattle.cedar_fragments.proofs.SetLemmas.{HasAlso-pushed}
 use Rattle.cedar_fragments.proofs.SoundLemmas.{fault_of_action, uid_unreserved}
 use Rattle.cedar_fragments.proofs.SoundNames.{sound_none, sound_more, sound_next, sound_added, sound_all}
 use Rattle.cedar_fragments.proofs.defs.written.add_actions.Goals as goal
@@ -41,7 +42,7 @@ loop-id-preserved c =
     (c.in-Some.id.now, c.in-Some.declared.now) c.in_ok-refuse_attributes.ensures.none c.loop-id.invariant.split c.in-Some.ensures.steps in
     sound_more _ _ _ _ _ c.next.new.self _ _ (c.in-Some.id.now, c.in-Some.declared.now) _ c.in-Some.ensures.steps
     (λ i. record { ty = (c.in_ok-uid.ensures.ty ∙ c.in_ok-ty.ensures) i; eid = (c.in_ok-uid.ensures.eid ∙ c.in_ok-clone.ensures.cases) i })
-    c.in_ok-add_uid.ensures.added
+    (HasAlso-pushed uid_of _ _ _ c.in_ok-push.ensures.items)
     (ap is_some lacks, uid_unreserved (namespace_name c.args.namespace) _ c.in_ok-ty.ensures c.in_ok-uid.ensures.unreserved) c.loop-id.invariant
 
 -- at the end all are

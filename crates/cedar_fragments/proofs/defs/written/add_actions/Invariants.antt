@@ -11,4 +11,4 @@ invariant-loop-id l =
       id = string_bytes entry.0;
       body = action (action_body RawName (raw_reference (namespace_name l.namespace)) (namespace_name l.namespace) entry.1);
     })
-    (map uid_of l.fn.uids.keys) l.written.entries (map uid_of l.uids.keys) l.id-iterator
+    (map uid_of l.fn.uids.items) l.written.entries (map uid_of l.uids.items) l.id-iterator

@@ -1,7 +1,8 @@
 use Rattle.std.proofs.Common.{sym, ap, ◌∙◌}
-use Rattle.cedar_fragments.specs.Words.{IsActionType, RawName, entity_declarations, name_within, namespace_name, raw_entity_body, raw_reference, reserved_word, unreserved_id_text}
+use Rattle.cedar_fragments.specs.Words.{RawName, entity_declarations, name_of, name_within, namespace_name, raw_entity_body, raw_reference, unreserved_id_text}
 use Rattle.cedar_fragments.proofs.FragmentLemmas.{exit_holds}
-use Rattle.cedar_fragments.proofs.SoundLemmas.{fault_of_entity, name_names_none}
+use Rattle.cedar_fragments.proofs.SetLemmas.{HasAlso-pushed}
+use Rattle.cedar_fragments.proofs.SoundLemmas.{fault_of_entity}
 use Rattle.cedar_fragments.proofs.SoundNames.{sound_none, sound_more, sound_next, sound_added, sound_all}
 use Rattle.cedar_fragments.proofs.defs.written.add_entity_types.Goals as goal
 
@@ -25,7 +26,7 @@ loop-id-preserved c =
     let within = name_within (namespace_name c.args.namespace) in
     sound_more _ _ _ _ _ c.next.new.self _ _ (c.in-Some.id.now, c.in-Some.declared.now) _ c.in-Some.ensures.steps
     (c.into_internal.ensures.name ∙ (c.into_name.ensures.name ∙ (c.in_ok-ty.ensures.name ∙ ap within c.in_ok-clone.ensures)))
-    c.in_ok-add_name.ensures.added
+    (HasAlso-pushed name_of _ _ _ c.in_ok-push.ensures.items)
     (rw c.in_ok-clone.ensures at c.in_ok-ty.ensures.no_action, c.in_ok-ty.ensures.unreserved) c.loop-id.invariant
 
 -- at the end all are

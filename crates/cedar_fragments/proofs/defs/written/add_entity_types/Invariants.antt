@@ -1,5 +1,5 @@
 use Rattle.std.proofs.Common.{map}
-use Rattle.cedar_fragments.specs.Words.{IsSound, entity_type, name_of, name_within, namespace_name, raw_entity_body, unreserved_id_text}
+use Rattle.cedar_fragments.specs.Words.{entity_type, name_of, name_within, namespace_name, raw_entity_body, unreserved_id_text}
 use Rattle.cedar_fragments.proofs.SoundNames.{SoundSoFar}
 use Rattle.cedar_fragments.proofs.defs.written.add_entity_types.Given as goal
 
@@ -11,4 +11,4 @@ invariant-loop-id l =
       id = unreserved_id_text entry.0;
       body = entity_type (raw_entity_body (namespace_name l.namespace) entry.1);
     })
-    (map name_of l.fn.names.keys) l.written.entries (map name_of l.names.keys) l.id-iterator
+    (map name_of l.fn.names.items) l.written.entries (map name_of l.names.items) l.id-iterator

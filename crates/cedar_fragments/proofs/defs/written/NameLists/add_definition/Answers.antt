@@ -1,11 +1,11 @@
 use Rattle.std.proofs.Common.{◌++◌}
 use Rattle.std.proofs.lemmas.Result.{IfErr-weaker, on_ok_weaker}
-use Rattle.cedar_fragments.specs.Words.{Bag, IsSound, PlainName, RawName, action_declarations, common_declarations, entity_declarations, fault_of, namespace_name, raw_reference}
-use Rattle.cedar_fragments.proofs.AttributeLemmas.{named_in_all, no_actions_among, none_named}
+use Rattle.cedar_fragments.specs.Words.{IsSound, RawName, action_declarations, common_declarations, entity_declarations, fault_of, namespace_name, raw_reference}
+use Rattle.cedar_fragments.proofs.AttributeLemmas.{named_in_all, no_actions_among}
 use Rattle.cedar_fragments.proofs.FragmentLemmas.{exit_holds, refusal_included, second_included, third_included}
 use Rattle.cedar_fragments.proofs.GivenNames.{actions_given, common_given, entities_given}
 use Rattle.cedar_fragments.proofs.SoundLemmas.{AllByRecursion-append, common_sound}
-use Rattle.cedar_fragments.proofs.defs.all_defs.AllDefs.add_written_definition.Goals as goal
+use Rattle.cedar_fragments.proofs.defs.written.NameLists.add_definition.Goals as goal
 
 -- the names of all three sorts are added
 pub returns-clause-added : goal.returns-clause-added
