@@ -59,7 +59,7 @@ pub(crate) fn build_resolved(
         → (fault_of error ≡ out_of_memory)
         ⊎ IsFault (resolved_bag fragments.items) extensions.now (fault_of error)) }
 {
-    // The other names are no more asked for, and go before what is built takes memory.
+    // Nothing asks for the other names any more: they go before what is built takes memory.
     let names = defs.into_entity_type_names();
     let Declarations {
         common_types,

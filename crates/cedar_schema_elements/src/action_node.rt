@@ -104,7 +104,8 @@ impl SchemaNode<EntityUID> for ValidatorActionId {
     ghost key_order = { entity_uid_ord-uid_cmp };
 
     ghost below_key = { λ node name among.
-        let key = Contains-preimage uid_of (parts_of node).descendants.keys name among in (key.0, key.2) };
+        let key = Contains-preimage uid_of (parts_of node).descendants.keys name among in
+        (key.0, key.2) };
 
     ghost edge_below = { λ node key. list_any-Contains uid_of (uid_of key) _
         (λ each. (

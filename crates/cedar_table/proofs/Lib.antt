@@ -1,4 +1,4 @@
-mod ColumnLemmas
+pub mod ColumnLemmas
 mod CopiedLemmas
 mod HintLemmas
 mod SearchLemmas
