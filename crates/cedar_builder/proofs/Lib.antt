@@ -9,6 +9,7 @@ mod EntityTypeLinks
 mod EntityTypeParents
 mod EntityTypesElaborated
 mod EntityTypesReady
+mod InAnyOrder
 mod NodeEdges
 mod NodeParents
 mod NodesCollected

@@ -1,9 +1,11 @@
 -- What the private steps promise of what is declared, entity types and actions alike: as nodes of a
--- graph, which stand under their names, as entries of a map or a table.
-use Rattle.std.specs.Prelude.{◌≡◌, ◌⊎◌, ◌↔◌, ◌∷◌, [], Bool, true, false, List, Option, None, Some, IsSome, IsSomeAnd, IsTrue, Contains, map, if◌then◌else◌}
+-- graph, which stand under their names, as entries of a table.
+use Rattle.std.specs.Prelude.{◌≡◌, ◌≢◌, ◌⊎◌, ◌↔◌, ◌∷◌, [], AllPairs, Bool, true, false, List, Option, None, Some, IsSome, IsSomeAnd, IsTrue, Contains, map, if◌then◌else◌}
 use Rattle.std.specs.Global.{Box}
 use Rattle.std.specs.List.{flat_map}
 use Rattle.std.specs.Map.{lookup}
+use Rattle.std.specs.declared.cmp.Ordering.{Ordering}
+use Rattle.std.specs.declared.cmp.Ordering.TheVariants.{Greater}
 use Rattle.cedar_below.specs.Lists.{Twice}
 use Rattle.cedar_declarations.specs.Fault.{Fault, out_of_memory}
 use Rattle.cedar_graph.specs.Edges.{IsEdgeIn}
@@ -85,6 +87,14 @@ module _ {K Node : Type 0} (eq : K → K → Bool) (has_edge : Node → K → Bo
     pub apart : (upper lower : K) → ¬ Leads eq has_edge nodes upper lower
     pub uppers : (upper lower : K) → IsEdgeIn eq edges upper lower → IsSome (at_key eq nodes upper)
     pub lowers : (upper lower : K) → IsEdgeIn eq edges upper lower → IsSome (at_key eq nodes lower)
+
+-- no key is above the other
+abbrev pub NoneAbove : {K : Type 0} → (K → K → Ordering) → List K → K → Type 0
+NoneAbove {K = K} cmp keys other = (key : K) → Contains keys key → cmp key other ≢ Greater
+
+-- no declaration's key is above that of one behind it
+abbrev pub AreInOrder : {K D : Type 0} → (K → K → Ordering) → List (Box (K × D)) → Type 0
+AreInOrder cmp declared = AllPairs (λ it later. cmp it.value.0 later.value.0 ≢ Greater) declared
 
 -- a declaration under a key, as plain data: the name of the key, and what is declared
 abbrev pub named : {K D Name Body : Type 0} → (K → Name) → (D → Body) → Box (K × D) → Name × Body

@@ -1,112 +1,68 @@
-use Rattle.std.proofs.Common.{◌≡◌, ◌∙◌, ◌∷◌, arith, ap, inl, map, inr, sym}
-use Rattle.std.proofs.lemmas.List.{nil_from_length}
-use Rattle.std.specs.Vec.Iter.{into_iter_items}
+use Rattle.std.proofs.Common.{rules, arith, map}
+use Rattle.std.proofs.lemmas.List.Sorted.{IsPermutation-sym, answers_always, ranks_by, sorted_far}
+use Rattle.std.proofs.lemmas.Result.{IfErr-weaker, IfOk-weaker, on_ok_weaker}
+use Rattle.std.specs.Ordering.{is_lt}
 use Rattle.cedar_builder.specs.Words.{fault_of, named}
-use Rattle.cedar_graph.proofs.Lists.{empty_lacks}
-use Rattle.cedar_builder.proofs.NodesCollected.{all_collected, all_once, all_sound, collected_more, collected_none, next_fault, twice_fault}
-use Rattle.cedar_fragments.proofs.FragmentLemmas.{exit_holds}
+use Rattle.cedar_builder.proofs.InAnyOrder.{among_forth, collected_forth, fault_forth, twice_forth}
+use Rattle.cedar_builder.proofs.NodesPut.{not_above}
 use Rattle.cedar_builder.proofs.declared_node.collected_nodes.Goals as goal
-use Rattle.cedar_builder.proofs.declared_node.collected_nodes.Goals.{After-into_inner-name}
 
--- the declaration that is collected is the next one
-next_entry : (g : _) (c : After-into_inner-name g)
-    → map (named g.V.SchemaNode.key_name g.V.DeclaredNode.body_of) (into_iter_items c.loop-item.item-iterator)
-    ≡ (g.V.SchemaNode.key_name c.into_inner-name.result.0, g.V.DeclaredNode.body_of c.into_inner-name.result.1)
-    ∷ map (named g.V.SchemaNode.key_name g.V.DeclaredNode.body_of) (into_iter_items c.next.new.self)
-next_entry g c =
-    let node = g.V.SchemaNode in
-    let is = g.V.DeclaredNode in
-    let entries = map (named node.key_name is.body_of) in
-    ap entries c.in-Some.ensures.steps.0
-    ∙ ap (λ it. (node.key_name it.0, is.body_of it.1) ∷ entries (into_iter_items c.next.new.self)) (sym c.into_inner-name.ensures)
+-- the declarations are sorted by their keys
+pub collected_in_order-requires : goal.collected_in_order-requires
+collected_in_order-requires g c = λ i j d before within.
+    let cmp = g.K.Ord.cmp in
+    let sorted = c.in_ok-sort_by.ensures.sorted (λ a b. is_lt (cmp a.value.0 b.value.0)) (ranks_by g.met.K.Ord.total (λ it. it.value.0))
+    (answers_always _ _ _ (λ f a r f' called. search rules)) in
+    not_above cmp g.met.K.Ord.total _ _
+    (sorted_far _ (ranks_by g.met.K.Ord.total (λ it. it.value.0)) c.sort_by.new.self.items sorted i j d (omega (arith, before)) within)
 
--- at first no declaration is collected
-pub loop-item-init : goal.loop-item-init
-loop-item-init g c =
-    let node = g.V.SchemaNode in
-    let is = g.V.DeclaredNode in
-    let entries = map (named node.key_name is.body_of) in (
-      collected_none is.is_definition node.IsExternal node.node_name (is.Gives c.args.scope.now) g.K.PartialEq.eq node.key_name
-          (is.IsSound c.args.scope.now) g.met.V.SchemaNode.same_key (entries c.args.declared.items) _ _ c.new-nodes.ensures.empty
-          (ap entries c.into_iter-item-iterator.ensures.into_iter_gives.0),
-      λ entry among. empty_lacks (λ each. node.IsLocatedAs each.0 each.1) _ c.new-nodes.ensures.empty entry among,
-    )
-
--- one more declaration is collected
-pub loop-item-preserved : goal.loop-item-preserved
-loop-item-preserved g c =
-    let node = g.V.SchemaNode in
-    let is = g.V.DeclaredNode in
-    let entries = map (named node.key_name is.body_of) in (
-      collected_more is.is_definition node.IsExternal node.node_name (is.Gives c.args.scope.now) g.K.PartialEq.eq node.key_name
-          (is.IsSound c.args.scope.now) g.met.V.SchemaNode.same_key (entries c.args.declared.items) c.loop-item.nodes.entries _ _ c.into_inner-name.result.0
-          (is.body_of c.into_inner-name.result.1) (next_entry g (goal.at.loop-item-preserved g c).After-into_inner-name) c.loop-item.invariant.0 c.put_node.new.nodes.entries c.in_ok-node.node
-          c.in_ok-node.ensures.name c.in_ok-node.ensures.gives c.in_ok-node.ensures.external c.in_ok-node.ensures.sound
-          c.in_ok-put_node.ensures.other c.in_ok-put_node.ensures.put,
-      c.in_ok-put_node.ensures.located c.loop-item.invariant.1,
-    )
-
--- a declaration that gives no node is at fault
-pub returns-in_err-node-clause-fault : goal.returns-in_err-node-clause-fault
-returns-in_err-node-clause-fault g c =
-    let node = g.V.SchemaNode in
-    let is = g.V.DeclaredNode in
-    let entries = map (named node.key_name is.body_of) in
-    let scope = c.args.scope.now in
-    let fault = fault_of c.in_err-node.field-0.0 in
-    exit_holds _ _ _ c.from_residual.ensures.1
-    (next_fault is.is_definition node.IsExternal node.node_name (is.Gives scope) g.K.PartialEq.eq node.key_name (is.IsSound scope)
-    g.met.V.SchemaNode.same_key (entries c.args.declared.items) c.loop-item.nodes.entries _ _ c.into_inner-name.result.0 (is.body_of c.into_inner-name.result.1)
-    (next_entry g (goal.at.returns-in_err-node-clause-fault g c).After-into_inner-name) c.loop-item.invariant.0 (is.IsBodyFault scope) node.duplicate_fault fault c.in_err-node.ensures.fault)
-
--- so is a second definition of a name
-pub returns-in_err-put_node-clause-fault : goal.returns-in_err-put_node-clause-fault
-returns-in_err-put_node-clause-fault g c =
-    let node = g.V.SchemaNode in
-    let is = g.V.DeclaredNode in
-    let entries = map (named node.key_name is.body_of) in
-    let scope = c.args.scope.now in
-    let fault = fault_of c.in_err-put_node.field-0.0 in
-    exit_holds _ _ _ c.from_residual-in_err-put_node.ensures.1
-    (elim c.in_err-put_node.ensures.fault [
-      | inl wanting ↦ inl wanting
-      | inr twice ↦ twice_fault is.is_definition node.IsExternal node.node_name (is.Gives scope) g.K.PartialEq.eq node.key_name (is.IsSound scope)
-          g.met.V.SchemaNode.same_key (entries c.args.declared.items) c.loop-item.nodes.entries _ _ c.into_inner-name.result.0 (is.body_of c.into_inner-name.result.1)
-          (next_entry g (goal.at.returns-in_err-put_node-clause-fault g c).After-into_inner-name) c.loop-item.invariant.0 c.loop-item.nodes.entries c.in_ok-node.node c.in_ok-node.ensures.name
-          c.in_ok-node.ensures.gives c.in_ok-node.ensures.external (is.IsBodyFault scope) node.duplicate_fault fault twice.0 twice.2.0 twice.2.1
-          twice.2.2 twice.1
-    ])
-
--- at the end at each name stands what its declarations say together
+-- what they say they say in the order in which they came
 pub returns-clause-collected : goal.returns-clause-collected
 returns-clause-collected g c =
     let node = g.V.SchemaNode in
     let is = g.V.DeclaredNode in
-    let entries = map (named node.key_name is.body_of) in
-    rw c.in_ok-from_map.ensures (all_collected is.is_definition node.IsExternal node.node_name (is.Gives c.args.scope.now) g.K.PartialEq.eq node.key_name
-    (is.IsSound c.args.scope.now) g.met.V.SchemaNode.same_key (entries c.args.declared.items) c.loop-item.nodes.entries _
-    (ap entries (nil_from_length _ (omega (arith, c.in-None.ensures.steps.0, c.loop-item.item-iterator.rest.ok.0)))) c.loop-item.invariant.0)
+    let entry = named node.key_name is.body_of in
+    let sorted = c.sort_by.new.self.items in
+    let given = c.args.declared.items in
+    let moved = c.in_ok-sort_by.ensures.permutation in
+    IfOk-weaker c.collected_in_order.result _ _
+    (λ nodes collected key.
+    collected_forth is.is_definition (map entry sorted) (map entry given)
+    (among_forth is.is_definition entry sorted given (IsPermutation-sym given sorted moved))
+    (among_forth is.is_definition entry given sorted moved)
+    node.IsExternal node.node_name (is.Gives c.args.scope.now) (node.key_name key) _ (collected key))
+    c.collected_in_order.ensures.collected
 
--- no name is defined twice
+-- a name that is defined twice is so in either order
 pub returns-clause-once : goal.returns-clause-once
 returns-clause-once g c =
     let node = g.V.SchemaNode in
     let is = g.V.DeclaredNode in
-    let entries = map (named node.key_name is.body_of) in
-    all_once is.is_definition node.IsExternal node.node_name (is.Gives c.args.scope.now) g.K.PartialEq.eq node.key_name
-    (is.IsSound c.args.scope.now) g.met.V.SchemaNode.same_key (entries c.args.declared.items) c.loop-item.nodes.entries _
-    (ap entries (nil_from_length _ (omega (arith, c.in-None.ensures.steps.0, c.loop-item.item-iterator.rest.ok.0)))) c.loop-item.invariant.0
+    let entry = named node.key_name is.body_of in
+    on_ok_weaker c.collected_in_order.result
+    (λ once name twice. once name (twice_forth is.is_definition entry (λ a b. g.K.PartialEq.eq a.value.0 b.value.0)
+    (λ a b. g.met.V.SchemaNode.same_key a.value.0 b.value.0) c.args.declared.items c.sort_by.new.self.items
+    c.in_ok-sort_by.ensures.permutation name twice))
+    c.collected_in_order.ensures.once
 
--- and each declaration is sound
 pub returns-clause-sound : goal.returns-clause-sound
 returns-clause-sound g c =
+    let entry = named g.V.SchemaNode.key_name g.V.DeclaredNode.body_of in
+    on_ok_weaker c.collected_in_order.result
+    (λ sound name body among. sound name body (among_forth g.V.DeclaredNode.is_definition entry c.args.declared.items
+    c.sort_by.new.self.items c.in_ok-sort_by.ensures.permutation (name, body) among))
+    c.collected_in_order.ensures.sound
+
+-- and so is any fault
+pub returns-clause-fault : goal.returns-clause-fault
+returns-clause-fault g c =
     let node = g.V.SchemaNode in
     let is = g.V.DeclaredNode in
-    let entries = map (named node.key_name is.body_of) in
-    all_sound is.is_definition node.IsExternal node.node_name (is.Gives c.args.scope.now) g.K.PartialEq.eq node.key_name
-    (is.IsSound c.args.scope.now) g.met.V.SchemaNode.same_key (entries c.args.declared.items) c.loop-item.nodes.entries _
-    (ap entries (nil_from_length _ (omega (arith, c.in-None.ensures.steps.0, c.loop-item.item-iterator.rest.ok.0)))) c.loop-item.invariant.0
-
--- and is located as its name
-pub returns-clause-located : goal.returns-clause-located
-returns-clause-located g c = rw c.in_ok-from_map.ensures c.loop-item.invariant.1
+    let entry = named node.key_name is.body_of in
+    let sorted = c.sort_by.new.self.items in
+    let given = c.args.declared.items in
+    IfErr-weaker c.collected_in_order.result _ _
+    (λ error at. fault_forth is.is_definition entry sorted given (IsPermutation-sym given sorted c.in_ok-sort_by.ensures.permutation)
+    (λ a b. g.K.PartialEq.eq a.value.0 b.value.0) (λ a b. g.met.V.SchemaNode.same_key a.value.0 b.value.0) node.key_name (is.IsBodyFault c.args.scope.now)
+    node.duplicate_fault (fault_of error) at)
+    c.collected_in_order.ensures.fault

@@ -1,71 +1,96 @@
-use Rattle.std.proofs.Common.{◌≡◌, Bool, List, cond, None, Some, sym, ap, ◌∙◌, inr}
+use Rattle.std.proofs.Common.{◌≡◌, ◌∙◌, ◌++◌, [], ◌∷◌, List, Some, ap, inr, length, sym, true}
 use Rattle.std.proofs.lemmas.Bool.{false≢true}
-use Rattle.std.specs.BTreeMap.{get, is_at}
-use Rattle.std.specs.Map.{lookup, remove_entry}
+use Rattle.std.proofs.lemmas.List.{nil_from_length}
+use Rattle.std.specs.List.{zip}
 use Rattle.cedar_builder.specs.Words.{at_key}
-use Rattle.cedar_builder.proofs.AtKeys.{by_equality, found_at_key}
-use Rattle.cedar_builder.proofs.NodesPut.{at_another, at_its_own, defined_at, nothing_taken, nothing_to_take, put_first, put_in_place, put_located, put_nothing}
+use Rattle.cedar_builder.proofs.NodesPut.{HasRoom, defined_at, empty_from_no_last, last_stands, popped_last, put_keys, put_located, put_nothing, put_other, put_own, put_sorted, room_behind, room_for_first, room_in_place}
 use Rattle.cedar_builder.proofs.declared_node.put_node.Goals as goal
-use Rattle.cedar_builder.proofs.declared_node.put_node.Goals.{In_ok-insert, In-Some, in-Some+else-is_external+else-not-is_external+in-Some-1, in-Some+else-is_external+else-not-is_external+in-None-1, in_default}
+use Rattle.cedar_builder.proofs.declared_node.put_node.Goals.{In-Some-Some, In_ok-push, in-Some-Some+then-eq+else-is_external+else-not-is_external, in-Some-Some+else-eq, in-Some+in-None-1, in-None-3}
 
--- what is found stands at the name
-stands : (g : _) (c : In-Some g) → at_key g.K.PartialEq.eq c.args.nodes.now.entries c.in_ok-name.name ≡ Some c.in-Some.old.now
-stands g c =
-    sym (found_at_key g.K.Ord.cmp g.met.K.Ord.matches_eq c.args.nodes.now.entries c.in_ok-name.name) ∙ sym c.in-Some.ensures.value
+-- where the node is put
+record Room (g : _) (c : In_ok-push g) : Type 0 where
+  pub front : List g.row.K.Denot
+  pub others : List g.row.V.Denot
+  pub room : HasRoom g.K.Ord.cmp g.V.SchemaNode.key_name g.V.SchemaNode.node_name g.V.SchemaNode.IsExternal c.args.keys.now.items
+      c.args.nodes.now.items front others c.in_ok-name.name c.args.node
+  pub of_keys : c.match-last.keys.items ≡ front
+  pub of_nodes : c.match-last.nodes.items ≡ others
 
--- nothing stands at the name once an external node of that name is taken out
-absent : (g : _) (c : In_ok-insert g) → get g.K.Ord.cmp c.match-get.nodes c.in_ok-name.name ≡ None
-absent g c = elim c.match-get.branch [
-  | in-Some+else-is_external+else-not-is_external+in-Some-1 w ↦ rw w.nodes-is w.remove-external.ensures.updates.1
-  | in-Some+else-is_external+else-not-is_external+in-None-1 w ↦ rw w.nodes-is w.remove-external.ensures.updates.1
-  | in_default w ↦ rw w.nodes-is (sym (rw w.in_default.is at c.get.ensures.value))
-]
+-- the name is that of the node
+its_name : (g : _) (c : In_ok-push g) → g.V.SchemaNode.key_name c.in_ok-name.name ≡ g.V.SchemaNode.node_name c.args.node
+its_name g c = c.in_ok-name.ensures.name ∙ c.name.ensures.name
 
--- what is left then
-left : (g : _) (c : In_ok-insert g)
-    → c.match-get.nodes.entries ≡ remove_entry (is_at (g.K.Ord.cmp c.in_ok-name.name)) c.args.nodes.now.entries
-left g c = elim c.match-get.branch [
-  | in-Some+else-is_external+else-not-is_external+in-Some-1 w ↦ rw w.nodes-is w.remove-external.ensures.entries
-  | in-Some+else-is_external+else-not-is_external+in-None-1 w ↦ rw w.nodes-is w.remove-external.ensures.entries
-  | in_default w ↦
-      rw w.nodes-is (sym (nothing_to_take (is_at (g.K.Ord.cmp c.in_ok-name.name)) c.args.nodes.now.entries
-      (sym (rw w.in_default.is at c.get.ensures.value))))
-]
-
--- and at each key
-taken : (g : _) (c : In_ok-insert g) (key : _) → at_key g.K.PartialEq.eq c.match-get.nodes.entries key
-    ≡ cond (g.K.PartialEq.eq c.in_ok-name.name key) None (at_key g.K.PartialEq.eq c.args.nodes.now.entries key)
-taken g c =
-    let ties = g.met.K.Ord.matches_eq in
-    let before = c.args.nodes.now.entries in
-    let Taken = λ (entries : List (g.row.K.Denot × g.row.V.Denot)) (test : g.row.K.Denot → g.row.K.Denot → Bool). (key : g.row.K.Denot)
-    → lookup (test key) entries ≡ cond (test c.in_ok-name.name key) None (lookup (test key) before) in
-    elim c.match-get.branch [
-      | in-Some+else-is_external+else-not-is_external+in-Some-1 w ↦
-          rw w.nodes-is (by_equality g.K.Ord.cmp ties (Taken w.remove-external.new.self.entries) w.remove-external.ensures.updates.0)
-      | in-Some+else-is_external+else-not-is_external+in-None-1 w ↦
-          rw w.nodes-is (by_equality g.K.Ord.cmp ties (Taken w.remove-external.new.self.entries) w.remove-external.ensures.updates.0)
-      | in_default w ↦
-          rw w.nodes-is (nothing_taken g.met.K.Eq.laws before c.in_ok-name.name
-          (sym (found_at_key g.K.Ord.cmp ties before c.in_ok-name.name) ∙ sym (rw w.in_default.is at c.get.ensures.value)))
+-- there is room for it
+room_of : (g : _) (c : In_ok-push g) → Room g c
+room_of g c =
+    let node = g.V.SchemaNode in
+    let keys = c.args.keys.now.items in
+    let nodes = c.args.nodes.now.items in
+    let kept : keys ≡ [] → HasRoom g.K.Ord.cmp node.key_name node.node_name node.IsExternal keys nodes keys nodes c.in_ok-name.name c.args.node =
+    room_for_first g.met.K.Eq.laws g.K.Ord.cmp g.met.K.Ord.total g.met.K.Ord.matches_eq node.key_name node.node_name node.IsExternal
+    g.met.V.SchemaNode.same_key keys nodes c.requires.columns c.requires.sorted c.in_ok-name.name c.args.node (its_name g c) in
+    elim c.match-last.branch [
+      | in-Some-Some+then-eq+else-is_external+else-not-is_external w ↦ record {
+        front = w.pop.new.self.items;
+        others = w.pop-then-eq.new.self.items;
+        room = room_in_place g.met.K.Eq.laws g.K.Ord.cmp g.met.K.Ord.total g.met.K.Ord.matches_eq node.key_name node.node_name
+            node.IsExternal g.met.V.SchemaNode.same_key keys nodes c.requires.columns c.requires.sorted c.in_ok-name.name c.args.node
+            (its_name g c) w.pop.new.self.items w.pop-then-eq.new.self.items w.in-Some-Some.last.now w.in-Some-Some.old.now
+            (popped_last keys w.pop.new.self.items w.pop.result c.args.keys.now.len w.in-Some-Some.last.now c.args.keys.now.ok.0
+            w.pop.ensures.items w.pop.ensures.value (rw c.deref.ensures.value at w.in-Some-Some.ensures.value))
+            (popped_last nodes w.pop-then-eq.new.self.items w.pop-then-eq.result c.args.nodes.now.len w.in-Some-Some.old.now
+            c.args.nodes.now.ok.0 w.pop-then-eq.ensures.items w.pop-then-eq.ensures.value
+            (rw c.deref-2.ensures.value at w.in-Some-Some.ensures'.value))
+            (sym w.eq.ensures ∙ w.if-eq.true)
+            (λ external. false≢true (sym w.if-is_external.false ∙ w.is_external.ensures.1 external))
+            (w.is_external-then-eq.ensures.0 w.if-not-is_external.false);
+        of_keys = ap (λ it. it.items) w.keys-is;
+        of_nodes = ap (λ it. it.items) w.nodes-is;
+      }
+      | in-Some-Some+else-eq w ↦ record {
+        front = keys;
+        others = nodes;
+        room = room_behind g.met.K.Eq.laws g.K.Ord.cmp g.met.K.Ord.total g.met.K.Ord.matches_eq node.key_name node.node_name
+            node.IsExternal g.met.V.SchemaNode.same_key keys nodes c.requires.columns c.requires.sorted c.in_ok-name.name c.args.node
+            (its_name g c) (c.requires.behind c.in_ok-name.name (its_name g c)) w.in-Some-Some.last.now
+            (rw c.deref.ensures.value at w.in-Some-Some.ensures.value) (sym w.eq.ensures ∙ w.if-eq.false);
+        of_keys = ap (λ it. it.items) w.keys-is;
+        of_nodes = ap (λ it. it.items) w.nodes-is;
+      }
+      | in-Some+in-None-1 w ↦ record {
+        front = keys;
+        others = nodes;
+        room = kept (nil_from_length keys (sym c.requires.columns
+            ∙ ap length (empty_from_no_last nodes (rw c.deref-2.ensures.value at w.in-None-1.ensures.0))));
+        of_keys = ap (λ it. it.items) w.keys-is;
+        of_nodes = ap (λ it. it.items) w.nodes-is;
+      }
+      | in-None-3 w ↦ record {
+        front = keys;
+        others = nodes;
+        room = kept (empty_from_no_last keys (rw c.deref.ensures.value at w.in-None-1.ensures.0));
+        of_keys = ap (λ it. it.items) w.keys-is;
+        of_nodes = ap (λ it. it.items) w.nodes-is;
+      }
     ]
 
--- and what was put there
-given : (g : _) (c : In_ok-insert g) (key : _) → at_key g.K.PartialEq.eq c.insert.new.self.entries key
-    ≡ cond (g.K.PartialEq.eq c.in_ok-name.name key) (Some c.args.node) (at_key g.K.PartialEq.eq c.match-get.nodes.entries key)
-given g c = by_equality g.K.Ord.cmp g.met.K.Ord.matches_eq
-    (λ test. (key : _) → lookup (test key) c.insert.new.self.entries
-    ≡ cond (test c.in_ok-name.name key) (Some c.args.node) (lookup (test key) c.match-get.nodes.entries))
-    c.in_ok-insert.ensures.updates.0
+-- the last node stands at the name, where it stands under it
+old_stands : (g : _) (c : In-Some-Some g) (tie : g.K.PartialEq.eq c.in-Some-Some.last.now c.in_ok-name.name ≡ true) (key : g.row.K.Denot)
+    → g.V.SchemaNode.key_name key ≡ g.V.SchemaNode.node_name c.args.node
+    → at_key g.K.PartialEq.eq (zip c.args.keys.now.items c.args.nodes.now.items) key ≡ Some c.in-Some-Some.old.now
+old_stands g c tie =
+    let node = g.V.SchemaNode in
+    last_stands g.met.K.Eq.laws g.K.Ord.cmp g.met.K.Ord.total g.met.K.Ord.matches_eq node.key_name node.node_name node.IsExternal
+    g.met.V.SchemaNode.same_key c.args.keys.now.items c.args.nodes.now.items c.requires.columns c.requires.sorted c.in_ok-name.name
+    c.args.node (c.in_ok-name.ensures.name ∙ c.name.ensures.name) c.in-Some-Some.last.now c.in-Some-Some.old.now
+    (rw c.deref.ensures.value at c.in-Some-Some.ensures.value) (rw c.deref-2.ensures.value at c.in-Some-Some.ensures'.value) tie
 
 -- an external declaration of a name that is there changes nothing
 pub returns-then-is_external-clause-put : goal.returns-then-is_external-clause-put
 returns-then-is_external-clause-put g c = λ key same.
-    let d = (goal.at.returns-then-is_external-clause-put g c).In-Some in
-    let is = g.V.SchemaNode in
-    put_nothing g.met.K.Eq.laws is.key_name is.node_name is.IsExternal g.met.V.SchemaNode.same_key
-    c.args.nodes.now.entries c.in_ok-name.name key c.args.node (c.in_ok-name.ensures.name ∙ c.name.ensures.name) same
-    c.in-Some.old.now (stands g d) (c.is_external.ensures.0 c.if-is_external.true)
+    put_nothing g.V.SchemaNode.IsExternal c.args.node c.in-Some-Some.old.now _
+    (old_stands g (goal.at.returns-then-is_external-clause-put g c).In-Some-Some (sym c.eq.ensures ∙ c.if-eq.true) key same)
+    (c.is_external.ensures.0 c.if-is_external.true)
 
 -- two definitions of a name are a duplicate
 pub returns-then-not-is_external-clause-fault : goal.returns-then-not-is_external-clause-fault
@@ -77,54 +102,68 @@ returns-then-not-is_external-clause-fault g c =
       (
         c.in_ok-name.name,
         named,
-        defined_at g.V.SchemaNode.IsExternal _ c.in-Some.old.now
-            (stands g (goal.at.returns-then-not-is_external-clause-fault g c).In-Some)
-            (λ is. false≢true (sym c.if-not-is_external.true ∙ c.is_external-in-Some.ensures.1 is)),
+        defined_at g.V.SchemaNode.IsExternal _ c.in-Some-Some.old.now
+            (old_stands g (goal.at.returns-then-not-is_external-clause-fault g c).In-Some-Some (sym c.eq.ensures ∙ c.if-eq.true)
+            c.in_ok-name.name named)
+            (λ is. false≢true (sym c.if-not-is_external.true ∙ c.is_external-then-eq.ensures.1 is)),
       ),
     )
 
+pub returns-clause-sorted : goal.returns-clause-sorted
+returns-clause-sorted g c =
+    let node = g.V.SchemaNode in
+    let d = (goal.at.returns-clause-sorted g c).In_ok-push in
+    let room = room_of g d in
+    put_sorted g.met.K.Eq.laws g.K.Ord.cmp g.met.K.Ord.total g.met.K.Ord.matches_eq node.key_name node.node_name node.IsExternal
+    g.met.V.SchemaNode.same_key c.args.keys.now.items c.args.nodes.now.items c.requires.columns c.requires.sorted c.in_ok-name.name
+    c.args.node (its_name g d) room.front room.others room.room _ _
+    (c.in_ok-push.ensures.items ∙ ap (λ each. each ++ c.in_ok-name.name ∷ []) room.of_keys)
+    (c.in_ok-push-2.ensures.items ∙ ap (λ each. each ++ c.args.node ∷ []) room.of_nodes)
+
+pub returns-clause-keys : goal.returns-clause-keys
+returns-clause-keys g c =
+    let node = g.V.SchemaNode in
+    let d = (goal.at.returns-clause-keys g c).In_ok-push in
+    let room = room_of g d in
+    put_keys g.met.K.Eq.laws g.K.Ord.cmp g.met.K.Ord.total g.met.K.Ord.matches_eq node.key_name node.node_name node.IsExternal
+    g.met.V.SchemaNode.same_key c.args.keys.now.items c.args.nodes.now.items c.requires.columns c.requires.sorted c.in_ok-name.name
+    c.args.node (its_name g d) room.front room.others room.room _ _
+    (c.in_ok-push.ensures.items ∙ ap (λ each. each ++ c.in_ok-name.name ∷ []) room.of_keys)
+    (c.in_ok-push-2.ensures.items ∙ ap (λ each. each ++ c.args.node ∷ []) room.of_nodes)
+
 -- what stands at other names stays
 pub returns-clause-other : goal.returns-clause-other
-returns-clause-other g c = λ key apart.
-    let d = (goal.at.returns-clause-other g c).In_ok-insert in
-    let is = g.V.SchemaNode in
-    at_another g.met.K.Eq.laws is.key_name is.node_name is.IsExternal g.met.V.SchemaNode.same_key c.args.nodes.now.entries
-    c.match-get.nodes.entries c.insert.new.self.entries c.in_ok-name.name c.args.node
-    (c.in_ok-name.ensures.name ∙ c.name.ensures.name) (taken g d) (given g d) key apart
+returns-clause-other g c =
+    let node = g.V.SchemaNode in
+    let d = (goal.at.returns-clause-other g c).In_ok-push in
+    let room = room_of g d in
+    put_other g.met.K.Eq.laws g.K.Ord.cmp g.met.K.Ord.total g.met.K.Ord.matches_eq node.key_name node.node_name node.IsExternal
+    g.met.V.SchemaNode.same_key c.args.keys.now.items c.args.nodes.now.items c.requires.columns c.requires.sorted c.in_ok-name.name
+    c.args.node (its_name g d) room.front room.others room.room _ _
+    (c.in_ok-push.ensures.items ∙ ap (λ each. each ++ c.in_ok-name.name ∷ []) room.of_keys)
+    (c.in_ok-push-2.ensures.items ∙ ap (λ each. each ++ c.args.node ∷ []) room.of_nodes)
 
 -- a definition takes the place of an external declaration, or is the first
 pub returns-clause-put : goal.returns-clause-put
-returns-clause-put g c = λ key same.
-    let d = (goal.at.returns-clause-put g c).In_ok-insert in
-    let is = g.V.SchemaNode in
-    let before = c.args.nodes.now.entries in
-    let name = c.in_ok-name.name in
-    let named = c.in_ok-name.ensures.name ∙ c.name.ensures.name in
-    let found = found_at_key g.K.Ord.cmp g.met.K.Ord.matches_eq before name in
-    let after = at_its_own g.met.K.Eq.laws is.key_name is.node_name is.IsExternal g.met.V.SchemaNode.same_key before
-    c.match-get.nodes.entries c.insert.new.self.entries name c.args.node named (taken g d) (given g d) key same in
-    let replaces : (old : g.row.V.Denot) → at_key g.K.PartialEq.eq before name ≡ Some old → ¬ is.IsExternal c.args.node → is.IsExternal old → _ =
-    λ old there other is_external.
-    put_in_place g.met.K.Eq.laws is.key_name is.node_name is.IsExternal g.met.V.SchemaNode.same_key before name
-    key c.args.node named same old there other is_external _ after in
-    elim c.match-get.branch [
-      | in-Some+else-is_external+else-not-is_external+in-Some-1 w ↦
-          replaces w.in-Some.old.now (sym found ∙ sym w.in-Some.ensures.value)
-          (λ external. false≢true (sym w.if-is_external.false ∙ w.is_external.ensures.1 external))
-          (w.is_external-in-Some.ensures.0 w.if-not-is_external.false)
-      | in-Some+else-is_external+else-not-is_external+in-None-1 w ↦
-          replaces w.in-Some.old.now (sym found ∙ sym w.in-Some.ensures.value)
-          (λ external. false≢true (sym w.if-is_external.false ∙ w.is_external.ensures.1 external))
-          (w.is_external-in-Some.ensures.0 w.if-not-is_external.false)
-      | in_default w ↦
-          put_first g.met.K.Eq.laws is.key_name is.node_name is.IsExternal g.met.V.SchemaNode.same_key before name
-          key c.args.node named same (sym found ∙ sym (rw w.in_default.is at c.get.ensures.value)) _ after
-    ]
+returns-clause-put g c =
+    let node = g.V.SchemaNode in
+    let d = (goal.at.returns-clause-put g c).In_ok-push in
+    let room = room_of g d in
+    put_own g.met.K.Eq.laws g.K.Ord.cmp g.met.K.Ord.total g.met.K.Ord.matches_eq node.key_name node.node_name node.IsExternal
+    g.met.V.SchemaNode.same_key c.args.keys.now.items c.args.nodes.now.items c.requires.columns c.requires.sorted c.in_ok-name.name
+    c.args.node (its_name g d) room.front room.others room.room _ _
+    (c.in_ok-push.ensures.items ∙ ap (λ each. each ++ c.in_ok-name.name ∷ []) room.of_keys)
+    (c.in_ok-push-2.ensures.items ∙ ap (λ each. each ++ c.args.node ∷ []) room.of_nodes)
 
 -- each node keeps the location of its name
 pub returns-clause-located : goal.returns-clause-located
 returns-clause-located g c =
-    let d = (goal.at.returns-clause-located g c).In_ok-insert in
-    put_located g.K.Ord.cmp g.V.SchemaNode.IsLocatedAs c.args.nodes.now c.match-get.nodes c.insert.new.self c.in_ok-name.name
-    c.args.node _ (left g d) (absent g d) c.in_ok-insert.ensures.entries
+    let node = g.V.SchemaNode in
+    let d = (goal.at.returns-clause-located g c).In_ok-push in
+    let room = room_of g d in
+    put_located g.met.K.Eq.laws g.K.Ord.cmp g.met.K.Ord.total g.met.K.Ord.matches_eq node.key_name node.node_name node.IsExternal
+    g.met.V.SchemaNode.same_key c.args.keys.now.items c.args.nodes.now.items c.requires.columns c.requires.sorted c.in_ok-name.name
+    c.args.node (its_name g d) room.front room.others room.room _ _
+    (c.in_ok-push.ensures.items ∙ ap (λ each. each ++ c.in_ok-name.name ∷ []) room.of_keys)
+    (c.in_ok-push-2.ensures.items ∙ ap (λ each. each ++ c.args.node ∷ []) room.of_nodes) node.IsLocatedAs
     (c.in_ok-name.ensures.located c.args.node c.name.ensures.located)
