@@ -248,12 +248,12 @@ module _ (all : List Item) where
 
   -- where none is left, they are the entities of the actions
   pub entities_all : (left : List Item) (entities : Entities) → left ≡ [] → EntitiesSoFar all entities left
-      → (types : List (PlainName × SchemaEntityType)) → AreActionEntities (schema_with types all (entities_of entities))
+      → (types : List (PlainName × SchemaEntityType)) → AreActionEntities (schema_with types all (map plain_action_entity (entities_of entities)))
   entities_all left entities nothing so_far types = record {
     entities = λ it among.
         let entity = Contains-preimage plain_action_entity (entities_of entities) it among in
         let both = so_far.each (entity_uid entity.0) entity.0 (found_itself (entities_of entities) entity.0 once entity.1) in
-        let IsEntity : ActionEntity → Type 0 = IsEntityOfAction (schema_with types all (entities_of entities)) in
+        let IsEntity : ActionEntity → Type 0 = IsEntityOfAction (schema_with types all (map plain_action_entity (entities_of entities))) in
         let made : IsEntity (plain_action_entity entity.0) = record {
           defined = (plain_defines all (entity_uid entity.0)).0 (rw whole at both.1);
           attributes = both.0.attributes;

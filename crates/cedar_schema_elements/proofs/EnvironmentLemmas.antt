@@ -4,7 +4,7 @@ use Rattle.std.proofs.lemmas.List.{append-nil, map-append, map-id, take_more}
 use Rattle.std.proofs.lemmas.List.Concat.{flat_map_single}
 use Rattle.std.specs.declared.alloc.Global.{Global}
 use Rattle.std.specs.declared.rc.Rc.{Rc}
-use Rattle.cedar_schema_elements.specs.Words.{ActionKind, AreEnvironmentsOf, Entity, EntityType, EntityUID, Environment, IsRequestOf, PlainName, PlainUid, SchemaAction, SchemaEntityType, Twice, Ty, UnlinkedRequestEnv, ValidatorActionId, action_environments, defined_action, external_action, kind_context, kind_environments, kind_principals, kind_resources, owned_environment, plain_action_entry, schema_with, shared_name, type_name, with_principals, with_resources}
+use Rattle.cedar_schema_elements.specs.Words.{ActionKind, AreEnvironmentsOf, ActionEntity, EntityType, EntityUID, Environment, IsRequestOf, PlainName, PlainUid, SchemaAction, SchemaEntityType, Twice, Ty, UnlinkedRequestEnv, ValidatorActionId, action_environments, defined_action, external_action, kind_context, kind_environments, kind_principals, kind_resources, owned_environment, plain_action_entry, schema_with, shared_name, type_name, with_principals, with_resources}
 use Rattle.cedar_below.proofs.Lists.{Contains-preimage}
 use Rattle.cedar_declarations.proofs.OccurrenceLemmas.{Contains-flat_map, Contains-given, Contains-image, Contains-single, Twice-distinct}
 use Rattle.cedar_schema_elements.proofs.GivenLemmas.{all_differ, all_once}
@@ -120,7 +120,7 @@ with_context uid external_action context some = cc
 pub are_environments : (entries : List (EntityUID × ValidatorActionId)) (environments : List Environment)
     → environments ≡ action_environments (map plain_action_entry entries)
     → ((it : Environment) → ¬ Twice (action_environments (map plain_action_entry entries)) it)
-    → (types : List (PlainName × SchemaEntityType)) (entities : List Entity)
+    → (types : List (PlainName × SchemaEntityType)) (entities : List ActionEntity)
     → AreEnvironmentsOf (schema_with types entries entities) environments
 are_environments entries environments is once types entities =
     let AreAll : List Environment → Type 0 = AreEnvironmentsOf (schema_with types entries entities) in

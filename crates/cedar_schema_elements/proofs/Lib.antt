@@ -4,6 +4,7 @@ pub mod EntityTypeEquality
 mod EnvironmentLemmas
 mod GivenLemmas
 pub mod KeyLemmas
+pub mod ListedEntities
 pub mod NamedTypes
 pub mod SetLemmas
 pub mod UpperLemmas

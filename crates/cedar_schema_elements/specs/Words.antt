@@ -22,7 +22,7 @@ pub use Rattle.cedar_types.specs.Words.{attribute_of, fields_of, located, locate
 pub use Rattle.cedar_types.specs.declared.types.Type.{«Type»}
 pub use Rattle.cedar_declarations.specs.Words.{ActionEntity, ActionKind, AreActionEntities, AreEnvironmentsOf, Environment, Fault, IsDefined, IsDefinedKind, IsEntityOfAction, IsEnumerated, IsNamedBy, IsRequestOf, Names, ResolvesTo, SameActionKind, SchemaAction, SchemaEntityType, defined_action, duplicate_action, duplicate_entity_type, enumerated_kind, external_action, external_kind, fault_of, kind_fields, kind_openness, kind_tags, standard_kind}
 pub use Rattle.cedar_fragments.specs.Words.{IsUnresolvable, held_names}
-pub use Rattle.cedar_schema_elements.specs.ActionEntities.{IsEntityOf, Lists, named_values, plain_action_entity, schema_with}
+pub use Rattle.cedar_schema_elements.specs.ActionEntities.{IsEntityOf, Lists, listed_entities, named_values, plain_action_entity, schema_listing, schema_with}
 pub use Rattle.cedar_schema_elements.specs.ActionKind.{kind_context, kind_principals, kind_resources}
 pub use Rattle.cedar_schema_elements.specs.EntityTypeKind.{plain_kind, plain_standard, standard_attributes, standard_tags}
 pub use Rattle.cedar_schema_elements.specs.RequestEnv.{environment_of, owned_environment, shared_name}

@@ -1,6 +1,6 @@
 //! The entities of the actions of a schema.
 
-ghost use Rattle.std.specs.Prelude.{◌≡◌, ◌≢◌, IfOk, List, OnOk};
+ghost use Rattle.std.specs.Prelude.{◌≡◌, ◌≢◌, IfOk, List, OnOk, map};
 ghost use Rattle.cedar_schema_elements.specs.Words.{AreActionEntities, IsEntityOf, IsUpper, PlainName, SchemaEntityType, entities_of, plain_action_entity, schema_with, uid_of, upper_set};
 ghost use Rattle.cedar_below.specs.declared.entity_uid.EntityUID.{EntityUID as Key};
 
@@ -38,7 +38,8 @@ fn action_entity(alloc: Global, uppers: &mut Uppers<EntityUID>, uid: &EntityUID)
 /// of memory is the only refusal.
 pub fn action_entities(alloc: Global, actions: &Table<EntityUID, ValidatorActionId>) -> M<Entities>
     ensures { IfOk result (λ entities. (types : List (PlainName × SchemaEntityType))
-        → AreActionEntities (schema_with types actions.now.entries (entities_of entities))) }
+        → AreActionEntities (schema_with types actions.now.entries
+        (map plain_action_entity (entities_of entities)))) }
 {
     let mut uppers = upper_sets(alloc, actions)?;
     let mut entities = Entities::new(alloc);

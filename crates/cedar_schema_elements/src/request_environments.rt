@@ -1,8 +1,7 @@
 //! The environments of the requests that the actions of a schema are for.
 
 ghost use Rattle.std.specs.Prelude.{◌≡◌, ◌≢◌, ◌++◌, AllPairs, IfOk, List, OnOk, map};
-ghost use Rattle.cedar_schema_elements.specs.Words.{AreEnvironmentsOf, PlainName, SchemaEntityType, action_of, kind_resources, owned_environment, schema_with, shared_name, ty_of, type_name, uid_of, with_principals, with_resources};
-ghost use Rattle.cedar_below.specs.declared.entity.Entity.{Entity as ActionEntity};
+ghost use Rattle.cedar_schema_elements.specs.Words.{ActionEntity, AreEnvironmentsOf, PlainName, SchemaEntityType, action_of, kind_resources, owned_environment, schema_with, shared_name, ty_of, type_name, uid_of, with_principals, with_resources};
 
 use crate::action_id::ValidatorActionId;
 use crate::request_env::UnlinkedRequestEnv;

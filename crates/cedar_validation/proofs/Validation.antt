@@ -1,6 +1,6 @@
 -- A schema whose parts were closed and checked.
 use Rattle.std.proofs.Common.{◌≡◌, ◌⊎◌, List, [], inl, inr, map}
-use Rattle.cedar_validation.specs.Words.{AreActionEntities, Chain, ClosesAction, ClosesSchema, ClosesType, Entity, EntityType, EntityUID, Extensions, Fault, HoldsPairwise, IsClosed, IsSchemaFault, IsValidSchema, ListsDescendantAction, PlainUid, ValidatorActionId, ValidatorEntityType, out_of_memory, plain_action_entry, plain_entry, plain_schema}
+use Rattle.cedar_validation.specs.Words.{AreActionEntities, Chain, ClosesAction, ClosesSchema, ClosesType, ActionEntity, EntityType, EntityUID, Extensions, Fault, HoldsPairwise, IsClosed, IsSchemaFault, IsValidSchema, ListsDescendantAction, PlainUid, ValidatorActionId, ValidatorEntityType, out_of_memory, plain_action_entry, plain_entry, plain_schema}
 use Rattle.cedar_below.proofs.Chains.{refined}
 use Rattle.cedar_validation.proofs.Agreeing.{action_shape, actions_closed, chain_listed, fault_back, fault_forth, listed_chain, type_shape, types_closed}
 
@@ -10,7 +10,7 @@ Types = List (EntityType × ValidatorEntityType)
 abbrev Actions : Type 0
 Actions = List (EntityUID × ValidatorActionId)
 
-module _ (types closed_types : Types) (actions closed_actions : Actions) (entities : List Entity)
+module _ (types closed_types : Types) (actions closed_actions : Actions) (entities : List ActionEntity)
     (each_type : HoldsPairwise (ClosesType (plain_schema types actions entities)) (map plain_entry types) (map plain_entry closed_types))
     (each_action : HoldsPairwise (ClosesAction (plain_schema types actions entities)) (map plain_action_entry actions)
     (map plain_action_entry closed_actions)) where
@@ -43,6 +43,6 @@ module _ (types closed_types : Types) (actions closed_actions : Actions) (entiti
       fault (fault_forth extensions schema closed each_type each_action fault here)
 
   -- with the entities of its actions it closes the schema
-  pub closes_before : (made : List Entity) → AreActionEntities (plain_schema closed_types closed_actions made)
+  pub closes_before : (made : List ActionEntity) → AreActionEntities (plain_schema closed_types closed_actions made)
       → ClosesSchema (plain_schema types actions entities) (plain_schema closed_types closed_actions made)
   closes_before made are = record { entity_types = each_type; actions = each_action; action_entities = are }

@@ -2,7 +2,7 @@
 
 ghost use Rattle.std.specs.Prelude.{◌≡◌, ◌⊎◌, IfErr, IfOk, List, OnOk};
 ghost use Rattle.cedar_schema_elements.specs.ValidatorActionId as action_specs;
-ghost use Rattle.cedar_validation.specs.Words.{AreMentionsSound, AreNamesSound, ClosesSchema, Entity, IsClosed, IsRefusal, IsSchemaFault, IsValidSchema, entities_of, fault_of, out_of_memory, plain_parts, plain_schema};
+ghost use Rattle.cedar_validation.specs.Words.{AreMentionsSound, AreNamesSound, ClosesSchema, ActionEntity, IsClosed, IsRefusal, IsSchemaFault, IsValidSchema, fault_of, out_of_memory, plain_parts, plain_schema, whole_schema};
 ghost use Rattle.cedar_schema_elements.specs.ValidatorEntityType as type_specs;
 
 use crate::closing::{closed_actions, closed_types};
@@ -15,9 +15,9 @@ use crate::names::{
 };
 use crate::parts::Parts;
 use crate::request_types::check_actions;
-use cedar_below::{Entities, EntityType, EntityUID, Extensions};
+use cedar_below::{EntityType, EntityUID, Extensions};
 use cedar_declarations::SchemaError;
-use cedar_schema_elements::{ValidatorActionId, ValidatorEntityType, action_entities};
+use cedar_schema_elements::{ValidatorActionId, ValidatorEntityType};
 use cedar_table::Table;
 use std::alloc::Global;
 
@@ -28,8 +28,6 @@ pub struct Validated {
     pub entity_types: Table<EntityType, ValidatorEntityType>,
     /// The actions, each under its uid.
     pub actions: Table<EntityUID, ValidatorActionId>,
-    /// The entities of the actions.
-    pub action_entities: Entities,
 }
 
 /// Refuses names that may not stand, or not beside one another.
@@ -72,8 +70,7 @@ fn check_parts(alloc: Global, parts: &Parts, extensions: &Extensions) -> Result<
     check_actions(alloc, parts)
 }
 
-/// A schema of entity types and actions, checked: the same with all their descendants, and with the
-/// entities of its actions.
+/// A schema of entity types and actions, checked: the same with all their descendants.
 ///
 /// It is refused with `CycleInActionHierarchy` if an action is its own descendant, with
 /// `ActionEntityTypeDeclared` if an entity type has the base name `Action`, with
@@ -95,31 +92,29 @@ pub fn validate(
     extensions: &Extensions,
 ) -> Result<Validated, SchemaError>
     ensures fault { IfErr result (λ error.
-        (entities : List Entity) → (fault_of error ≡ out_of_memory)
+        (entities : List ActionEntity) → (fault_of error ≡ out_of_memory)
         ⊎ IsSchemaFault extensions.now (plain_schema entity_types.entries actions.entries entities)
         (fault_of error)) }
-    ensures valid { OnOk result ((entities : List Entity)
+    ensures valid { OnOk result ((entities : List ActionEntity)
         → IsValidSchema extensions.now
         (plain_schema entity_types.entries actions.entries entities)) }
     ensures types_located { IfOk result (λ it. type_specs.AreLocatedAsKeys entity_types.entries
         → type_specs.AreLocatedAsKeys it.entity_types.entries) }
     ensures actions_located { IfOk result (λ it. action_specs.AreLocatedAsKeys actions.entries
         → action_specs.AreLocatedAsKeys it.actions.entries) }
-    ensures closed { IfOk result (λ it. (entities : List Entity)
+    ensures closed { IfOk result (λ it. (entities : List ActionEntity)
         → ClosesSchema (plain_schema entity_types.entries actions.entries entities)
-        (plain_schema it.entity_types.entries it.actions.entries
-        (entities_of it.action_entities))) }
+        (whole_schema it.entity_types.entries it.actions.entries)) }
 {
     let parts = Parts {
         entity_types: closed_types(alloc, entity_types)?,
         actions: closed_actions(alloc, actions)?,
     };
     check_parts(alloc, &parts, extensions)?;
-    let action_entities = action_entities(alloc, &parts.actions)?;
+    parts.actions.keys_ascend();
     Ok(Validated {
         entity_types: parts.entity_types,
         actions: parts.actions,
-        action_entities,
     })
 }
 
@@ -131,10 +126,10 @@ pub fn validate_copies(
     extensions: &Extensions,
 ) -> Result<Validated, SchemaError>
     ensures fault { IfErr result (λ error.
-        (entities : List Entity) → (fault_of error ≡ out_of_memory)
+        (entities : List ActionEntity) → (fault_of error ≡ out_of_memory)
         ⊎ IsSchemaFault extensions.now
         (plain_schema entity_types.now.entries actions.now.entries entities) (fault_of error)) }
-    ensures valid { OnOk result ((entities : List Entity)
+    ensures valid { OnOk result ((entities : List ActionEntity)
         → IsValidSchema extensions.now
         (plain_schema entity_types.now.entries actions.now.entries entities)) }
     ensures types_located { IfOk result (λ it.
@@ -143,10 +138,9 @@ pub fn validate_copies(
     ensures actions_located { IfOk result (λ it.
         action_specs.AreLocatedAsKeys actions.now.entries
         → action_specs.AreLocatedAsKeys it.actions.entries) }
-    ensures closed { IfOk result (λ it. (entities : List Entity)
+    ensures closed { IfOk result (λ it. (entities : List ActionEntity)
         → ClosesSchema (plain_schema entity_types.now.entries actions.now.entries entities)
-        (plain_schema it.entity_types.entries it.actions.entries
-        (entities_of it.action_entities))) }
+        (whole_schema it.entity_types.entries it.actions.entries)) }
 {
     let entity_types = copied_types(entity_types)?;
     let actions = copied_actions(actions)?;

@@ -1,6 +1,6 @@
 use Rattle.std.proofs.Common.{◌≡◌, ◌⊎◌, List, inl, inr}
 use Rattle.std.proofs.lemmas.Result.{IfErr-weaker, IfOk-weaker, on_ok_weaker}
-use Rattle.cedar_validation.specs.Words.{ClosesSchema, Entity, entities_of, fault_of, plain_schema}
+use Rattle.cedar_validation.specs.Words.{ClosesSchema, ActionEntity, fault_of, plain_schema, whole_schema}
 use Rattle.cedar_validation.proofs.CopiedParts.{closes_as_copy, fault_of_copy, valid_as_copy}
 use Rattle.cedar_validation.proofs.CopyLemmas.{action_copies_located, type_copies_located}
 use Rattle.cedar_validation.proofs.validating.validate_copies.Goals as goal
@@ -47,5 +47,5 @@ returns-clause-closed c =
     IfOk-weaker c.validate.result _ _
     (λ it closes entities. closes_as_copy types c.in_ok-entity_types.entity_types.entries actions c.in_ok-actions.actions.entries
     c.in_ok-entity_types.ensures c.in_ok-actions.ensures entities
-    (plain_schema it.entity_types.entries it.actions.entries (entities_of it.action_entities)) (closes entities))
+    (whole_schema it.entity_types.entries it.actions.entries) (closes entities))
     c.validate.ensures.closed
