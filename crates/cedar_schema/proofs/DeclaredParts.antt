@@ -3,12 +3,12 @@ use Rattle.std.proofs.Common.{List, map, sym, subst, ◌∙◌, Contains}
 use Rattle.std.proofs.lemmas.Simd.{map-map}
 use Rattle.std.specs.List.Sorted.{IsStrictlySortedBy}
 use Rattle.std.specs.Map.{keys_of}
-use Rattle.cedar_schema.specs.Words.{AreActionEntities, AreDeclaredActions, AreDeclaredEntityTypes, Bag, Entity, EntityType, EntityUID, Extensions, IsDeclaredAction, IsDeclaredEntityType, IsDeclaredSchema, PlainName, PlainUid, SchemaAction, SchemaEntityType, ValidatorActionId, ValidatorEntityType, name_cmp, plain_action_entry, plain_entry, schema_with, type_name, uid_cmp, uid_of}
+use Rattle.cedar_schema.specs.Words.{AreActionEntities, AreDeclaredActions, AreDeclaredEntityTypes, Bag, ActionEntity, EntityType, EntityUID, Extensions, IsDeclaredAction, IsDeclaredEntityType, IsDeclaredSchema, PlainName, PlainUid, SchemaAction, SchemaEntityType, ValidatorActionId, ValidatorEntityType, name_cmp, plain_action_entry, plain_entry, schema_with, type_name, uid_cmp, uid_of}
 use Rattle.cedar_below.proofs.Lists.{Contains-preimage}
 
 -- the declared schema
 pub declared_parts : (bag : Bag) (extensions : Extensions) (types : List (EntityType × ValidatorEntityType))
-    (actions : List (EntityUID × ValidatorActionId)) (entities : List Entity)
+    (actions : List (EntityUID × ValidatorActionId)) (entities : List ActionEntity)
     → AreDeclaredEntityTypes bag extensions types → IsStrictlySortedBy name_cmp (map type_name (keys_of types))
     → AreDeclaredActions bag extensions actions → IsStrictlySortedBy uid_cmp (map uid_of (keys_of actions))
     → AreActionEntities (schema_with (map plain_entry types) actions entities)

@@ -1,12 +1,12 @@
 -- Schemas of the same entity types and actions, and the entities of actions that are made of copies.
 use Rattle.std.proofs.Common.{◌≡◌, ◌∷◌, [], Contains, List, map, refl, subst, sym, ◌∙◌}
 use Rattle.std.specs.List.Sorted.{IsStrictlySortedBy}
-use Rattle.cedar_schema.specs.Words.{ActionEntity, AreActionEntities, DefinesAction, Entity, EntityType, EntityUID, HoldsPairwise, ListsDescendantAction, PlainSchema, PlainUid, SameActionEntity, ValidatorActionId, ValidatorEntityType, plain_entry, schema_with, uid_cmp}
+use Rattle.cedar_schema.specs.Words.{ActionEntity, AreActionEntities, DefinesAction, EntityType, EntityUID, HoldsPairwise, ListsDescendantAction, PlainSchema, PlainUid, SameActionEntity, ValidatorActionId, ValidatorEntityType, plain_entry, schema_with, uid_cmp}
 use Rattle.cedar_declarations.proofs.TurnLemmas.{turn_forth}
 
 -- what holds of a schema holds of one of the same entity types and actions
 pub same_parts : (P : PlainSchema → Type 0) (types others : List (EntityType × ValidatorEntityType))
-    (actions other_actions : List (EntityUID × ValidatorActionId)) (entities : List Entity) → types ≡ others → actions ≡ other_actions
+    (actions other_actions : List (EntityUID × ValidatorActionId)) (entities : List ActionEntity) → types ≡ others → actions ≡ other_actions
     → P (schema_with (map plain_entry types) actions entities) → P (schema_with (map plain_entry others) other_actions entities)
 same_parts P types others actions other_actions entities same_types same_actions =
     subst P (λ i. schema_with (map plain_entry (same_types i)) (same_actions i) entities)

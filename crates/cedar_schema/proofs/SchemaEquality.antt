@@ -13,9 +13,9 @@ use Rattle.cedar_below.specs.contracts.entity_type.EntityTypePartialEq.TheImpl a
 use Rattle.cedar_below.specs.contracts.entity_uid.EntityUIDPartialEq.TheImpl as uid_eq
 use Rattle.cedar_schema_elements.proofs.EntityTypeEquality.{entity_types-Same}
 use Rattle.cedar_schema_elements.specs.contracts.entity_type.ValidatorEntityTypePartialEq.TheImpl as entity_type_eq
-use Rattle.cedar_declaration_laws.proofs.MereLemmas.{known_entities}
 use Rattle.cedar_declaration_laws.proofs.SameEntities.{same_entities}
 use Rattle.cedar_schema.specs.contracts.schema.ValidatorSchemaPartialEq.TheImpl as schema_eq
+use Rattle.cedar_schema.proofs.SchemaNames.{entities_known}
 use Rattle.cedar_types.proofs.EqualityLaws.{none}
 
 -- the test of two entries of the map of entity types
@@ -84,8 +84,8 @@ schemas-Same a b =
     (λ both. record {
       entity_types = both.0;
       actions = both.1;
-      action_entities = same_entities (schema_of a) (schema_of b) (known_entities (schema_of a) a.content.entities_of_actions)
-          (known_entities (schema_of b) b.content.entities_of_actions) both.1;
+      action_entities = same_entities (schema_of a) (schema_of b) (entities_known a)
+          (entities_known b) both.1;
     })
     (λ same. (same.entity_types, same.actions))
     (Decides-and _ _

@@ -5,7 +5,8 @@ use Rattle.std.proofs.Math.Logic.{∥∥₁_elim}
 use Rattle.std.proofs.Props.{props}
 use Rattle.std.specs.List.Sorted.{IsStrictlySortedBy}
 use Rattle.std.specs.Map.{keys_of}
-use Rattle.cedar_schema.specs.Words.{ActionEntity, ClosesAction, ClosesSchema, ClosesType, Entity, EntityType, EntityUID, HasNoReservedName, HoldsPairwise, IsInOrder, PlainName, PlainSchema, PlainUid, SameAction, SameEntityType, SchemaAction, SchemaEntityType, StandsUnderItsNames, ValidatorActionId, ValidatorEntityType, ValidatorSchema, action_of, entity_type_of, name_cmp, plain_action_entry, plain_entry, reserved_word, schema_of, schema_with, type_name, uid_cmp, uid_of}
+use Rattle.cedar_schema_elements.proofs.ListedEntities.{listed_are}
+use Rattle.cedar_schema.specs.Words.{ActionEntity, AreActionEntities, ClosesAction, ClosesSchema, ClosesType, EntityType, EntityUID, HasNoReservedName, HoldsPairwise, IsInOrder, PlainName, PlainSchema, PlainUid, SameAction, SameEntityType, SchemaAction, SchemaEntityType, StandsUnderItsNames, ValidatorActionId, ValidatorEntityType, ValidatorSchema, action_of, entity_type_of, name_cmp, plain_action_entry, plain_entry, reserved_word, schema_listing, schema_of, schema_with, type_name, uid_cmp, uid_of}
 use Rattle.cedar_below.proofs.Lists.{Contains-cons, Contains-preimage}
 use Rattle.cedar_below.proofs.Names.{entity_type_ord-name_cmp}
 use Rattle.cedar_below.proofs.Ordered.{IsStrictlySortedBy-map}
@@ -37,7 +38,7 @@ uids_of_actions_sorted actions =
     IsStrictlySortedBy-map ((entity_uid_ord.ghosts).cmp) uid_cmp uid_of entity_uid_ord-uid_cmp (keys_of actions)
 
 -- what is held by maps whose keys are sorted without duplicates is in order
-pub schema_in_order : (types : Types) (actions : Actions) (entities : List Entity)
+pub schema_in_order : (types : Types) (actions : Actions) (entities : List ActionEntity)
     → IsStrictlySortedBy ((entity_type_ord.ghosts).cmp) (keys_of types)
     → IsStrictlySortedBy ((entity_uid_ord.ghosts).cmp) (keys_of actions)
     → IsInOrder (schema_with (map plain_entry types) actions entities)
@@ -57,8 +58,29 @@ known_order schema = record {
   actions = ∥∥₁_elim schema.content.in_order (Prim.hlevel props) (λ order. order.actions);
 }
 
+-- the entities that a schema lists are those of its actions
+pub entities_known : (schema : ValidatorSchema) → AreActionEntities (schema_of schema)
+entities_known schema =
+    listed_are (map plain_entry schema.content.entity_types.entries) schema.content.action_ids.entries (known_order schema).actions
+
+-- actions that are pairwise the same stand under the same uids
+same_keys : (actions others : List (PlainUid × SchemaAction)) → HoldsPairwise SameAction actions others
+    → map (λ it. it.0) actions ≡ map (λ it. it.0) others
+same_keys [] [] same = refl
+same_keys (it ∷ actions) (other ∷ others) same = let rest = same_keys actions others same.1 in λ i. same.0.key i ∷ rest i
+same_keys _ _ same = absurd same
+
+-- and so are those of a copy of its actions
+pub entities_of_copy : (schema : ValidatorSchema) (types : List (PlainName × SchemaEntityType)) (actions : Actions)
+    → HoldsPairwise SameAction (map plain_action_entry actions) (schema_of schema).actions
+    → AreActionEntities (schema_listing types actions)
+entities_of_copy schema types actions same =
+    listed_are types actions
+    (subst (IsStrictlySortedBy uid_cmp) (sym (same_keys (map plain_action_entry actions) (schema_of schema).actions same))
+    (known_order schema).actions)
+
 -- a schema of entries that stand under their names does
-pub schema_under_names : (types : Types) (actions : Actions) (entities : List Entity)
+pub schema_under_names : (types : Types) (actions : Actions) (entities : List ActionEntity)
     → ((it : EntityType × ValidatorEntityType) → Contains types it → (entity_type_of it.1).name ≡ type_name it.0)
     → ((it : EntityUID × ValidatorActionId) → Contains actions it → (action_of it.1).uid ≡ uid_of it.0)
     → StandsUnderItsNames (schema_with (map plain_entry types) actions entities)

@@ -1,10 +1,10 @@
 use Rattle.std.specs.Prelude.{List, Option, map}
 use Rattle.cedar_schema_elements.specs.declared.action_id.ValidatorActionId.{ValidatorActionId}
-use Rattle.cedar_below.specs.Words.{PlainName, PlainUid, entities_of, name_cmp, type_name, uid_cmp, uid_of}
+use Rattle.cedar_below.specs.Words.{PlainName, PlainUid, name_cmp, type_name, uid_cmp, uid_of}
 use Rattle.cedar_below.specs.declared.entity_type.EntityType.{EntityType}
 use Rattle.cedar_below.specs.declared.entity_uid.EntityUID.{EntityUID}
 use Rattle.cedar_declarations.specs.PlainSchema.{PlainSchema}
-use Rattle.cedar_schema_elements.specs.Words.{plain_entry, schema_with}
+use Rattle.cedar_schema_elements.specs.Words.{plain_entry, schema_listing}
 use Rattle.cedar_table.specs.Entries.{get_by}
 use Rattle.cedar_schema_elements.specs.declared.entity_type.ValidatorEntityType.{ValidatorEntityType}
 use Rattle.cedar_schema.specs.declared.collecting.Located.{Located}
@@ -31,8 +31,8 @@ action_of_uid schema uid =
 -- what a schema stands for
 abbrev pub schema_of : ValidatorSchema → PlainSchema
 schema_of schema =
-    schema_with (map plain_entry schema.content.entity_types.entries)
-    schema.content.action_ids.entries (entities_of schema.content.action_entities)
+    schema_listing (map plain_entry schema.content.entity_types.entries)
+    schema.content.action_ids.entries
 
 -- what a schema shows of its fragments
 abbrev pub located_of : ValidatorSchema → Located

@@ -24,12 +24,12 @@ pub use Rattle.cedar_fragments.specs.declared.namespace.definition.ValidatorName
 pub use Rattle.cedar_fragments.specs.declared.namespace.entity_types.EntityTypeFragment.{EntityTypeFragment}
 pub use Rattle.cedar_fragments.specs.declared.namespace.fragment.ValidatorSchemaFragment.{ValidatorSchemaFragment}
 pub use Rattle.cedar_resolution.specs.Words.{DeclaredAction, DeclaredEntityType, collected_actions, collected_common, collected_entities, resolved_bag}
-pub use Rattle.cedar_schema_elements.specs.Words.{PlainEntityType, action_of, entity_type_of, kind_principals, kind_resources, name_type_loc, owned_environment, plain_action_entry, plain_entry, plain_kind, schema_with}
+pub use Rattle.cedar_schema_elements.specs.Words.{PlainEntityType, action_of, entity_type_of, kind_principals, kind_resources, name_type_loc, owned_environment, plain_action_entity, plain_action_entry, plain_entry, plain_kind, schema_listing, schema_with}
 pub use Rattle.cedar_schema_elements.specs.declared.action_id.ValidatorActionId.{ValidatorActionId}
 pub use Rattle.cedar_schema_elements.specs.declared.entity_type.ValidatorEntityType.{ValidatorEntityType}
 pub use Rattle.cedar_schema_elements.specs.declared.entity_type_kind.ValidatorEntityTypeKind.{ValidatorEntityTypeKind}
 pub use Rattle.cedar_queries.specs.Words.{AreAttributesOf, AreCleanTypes, AreDeclaredTypes, AreExactlyKnown, AreKnownOfAll, IsIncomplete, IsKnownType, IsKnownUid, MayBeIn, MayHaveAttribute, MayHaveTags, action_at, action_descendants, actions_for, all_principals, all_resources, context_at, declared_fields, descendants_of, environments_left, groups, has_name, is_nonempty, leaves_of, pending_types, schema_leaves, types_above, unresolved, unresolved_left}
-pub use Rattle.cedar_validation.specs.Words.{IsActionCopied, IsTypeCopied, last_named, last_of_uid}
+pub use Rattle.cedar_validation.specs.Words.{IsActionCopied, IsTypeCopied, last_named, last_of_uid, whole_schema}
 pub use Rattle.cedar_schema_writer.specs.Words.{AreProper, Refuses}
 pub use Rattle.cedar_elaboration.specs.Words.{AreElaborated, AreTypesOf, CommonTypesAreSound, Covers, elaborated_types, set_names}
 pub use Rattle.cedar_elaboration.specs.declared.type_scope.TypeScope.{TypeScope}

@@ -6,7 +6,7 @@ ghost use Rattle.cedar_schema.specs.Words.{AreKeysLocated, IsBuiltFrom, IsDeclar
 
 use crate::collecting::{Located, located_in};
 use crate::shared::Shared;
-use cedar_below::{Entities, EntityType, EntityUID, Extensions, InternalName};
+use cedar_below::{EntityType, EntityUID, Extensions, InternalName};
 use cedar_builder::{actions, entity_types};
 use cedar_declarations::SchemaError;
 use cedar_elaboration::{TypeScope, defined_common_types};
@@ -14,20 +14,17 @@ use cedar_fragments::defs::AllDefs;
 use cedar_fragments::namespace::ValidatorSchemaFragment;
 use cedar_names::json_schema::{ConditionalName, Type};
 use cedar_resolution::{Declarations, Resolved, collect_declarations, resolve_fragments};
-use cedar_schema_elements::{ValidatorActionId, ValidatorEntityType, action_entities};
+use cedar_schema_elements::{ValidatorActionId, ValidatorEntityType};
 use cedar_table::Table;
 use std::alloc::Global;
 
-/// What a schema holds: its entity types and its actions, each under its name, and the entities of
-/// its actions.
+/// What a schema holds: its entity types and its actions, each under its name.
 #[derive(Debug, Drop)]
 pub(crate) struct SchemaParts {
     /// The entity types, each with all its descendants.
     pub(crate) entity_types: Table<EntityType, ValidatorEntityType>,
     /// The actions, each with all its descendants.
     pub(crate) actions: Table<EntityUID, ValidatorActionId>,
-    /// The entities of the actions that are defined, each below all its ancestors.
-    pub(crate) action_entities: Entities,
     /// The common types and namespaces of the fragments, with where these were written.
     pub(crate) located: Shared<Located>,
 }
@@ -74,13 +71,11 @@ pub(crate) fn build_resolved(
     };
     let entity_types = entity_types(alloc, declared, &known)?;
     let actions = actions(alloc, declared_actions, &entity_types, &known)?;
-    let action_entities = action_entities(alloc, &actions)?;
     entity_types.keys_ascend();
     actions.keys_ascend();
     Ok(SchemaParts {
         entity_types,
         actions,
-        action_entities,
         located,
     })
 }

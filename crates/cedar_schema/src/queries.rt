@@ -19,7 +19,7 @@ impl ValidatorSchema {
     ghost use Rattle.std.specs.List.{flat_map};
     ghost use Rattle.std.specs.List.Sorted.{IsPermutation, IsStrictlySortedBy};
     ghost use Rattle.std.specs.Option.{option_copied, option_map};
-    ghost use Rattle.cedar_schema.specs.Words.{AreActionEntities, AreEnvironmentsOf, IsIncomplete, IsKnownType, MayBeIn, action_at, action_descendants, action_entries, action_of, action_of_uid, actions_for, all_principals, all_resources, context_at, descendants_of, entities_of, entity_type_named, entity_type_of, environments_left, groups, kind_principals, kind_resources, leaves_of, name_cmp, owned_environment, pending_types, schema_entries, schema_leaves, schema_of, schema_with, ty_of, type_loc, type_name, types_above, uid_cmp, uid_loc, uid_of, uid_type_loc, unresolved, unresolved_left};
+    ghost use Rattle.cedar_schema.specs.Words.{AreActionEntities, AreEnvironmentsOf, IsIncomplete, IsKnownType, MayBeIn, action_at, action_descendants, action_entries, action_of, action_of_uid, actions_for, all_principals, all_resources, context_at, descendants_of, entities_of, entity_type_named, entity_type_of, environments_left, groups, kind_principals, kind_resources, leaves_of, name_cmp, owned_environment, pending_types, plain_action_entity, schema_entries, schema_leaves, schema_of, schema_with, ty_of, type_loc, type_name, types_above, uid_cmp, uid_loc, uid_of, uid_type_loc, unresolved, unresolved_left};
     ghost use Rattle.cedar_schema_elements.specs.ValidatorActionId as action;
     ghost use Rattle.cedar_schema_elements.specs.ValidatorEntityType as types;
 
@@ -302,7 +302,7 @@ impl ValidatorSchema {
     pub fn action_entities(&self, alloc: Global, _extensions: &Extensions) -> M<Entities>
         ensures { IfOk result (λ entities. AreActionEntities
             (schema_with (schema_of self.now).entity_types (action_entries self.now)
-            (entities_of entities))) }
+            (map plain_action_entity (entities_of entities)))) }
     {
         action_entities(alloc, &self.content().action_ids)
     }

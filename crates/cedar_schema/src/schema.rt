@@ -2,10 +2,9 @@
 
 ghost use Rattle.std.specs.Prelude.{◌≡◌, ◌⊎◌, IfErr, IfOk, List, OnOk, map};
 ghost use Rattle.cedar_schema_elements.specs.ValidatorActionId as action;
-ghost use Rattle.cedar_below.specs.Entities.{entities_of};
-ghost use Rattle.cedar_declarations.specs.Words.{AreActionEntities, AreEnvironmentsOf, ClosesSchema, IsSchemaFault, IsValidSchema, fault_of, out_of_memory};
-ghost use Rattle.cedar_validation.specs.Words.{Entity, plain_schema};
-ghost use Rattle.cedar_schema_elements.specs.Words.{owned_environment, plain_entry, schema_with};
+ghost use Rattle.cedar_declarations.specs.Words.{ActionEntity, AreEnvironmentsOf, ClosesSchema, IsSchemaFault, IsValidSchema, fault_of, out_of_memory};
+ghost use Rattle.cedar_validation.specs.Words.{plain_schema, whole_schema};
+ghost use Rattle.cedar_schema_elements.specs.Words.{owned_environment, plain_entry, schema_listing};
 ghost use Rattle.cedar_schema_elements.specs.ValidatorEntityType as types;
 ghost use Rattle.cedar_declaration_laws.specs.EndToEnd.{IsInOrder, StandsUnderItsNames};
 
@@ -16,7 +15,7 @@ pub use crate::located_namespace::LocatedNamespace;
 pub use crate::located_type::LocatedType;
 use crate::raw::build_raw;
 use crate::shared::Shared;
-use cedar_below::{Entities, EntityType, EntityUID, Extensions, M};
+use cedar_below::{EntityType, EntityUID, Extensions, M};
 pub use cedar_declarations::{ContextOrShape, SchemaError, UnsupportedFeature};
 use cedar_fragments::namespace::ValidatorSchemaFragment;
 use cedar_names::json_schema::{ConditionalName, Fragment, NamespaceDefinition, RawName};
@@ -24,7 +23,7 @@ pub use cedar_queries::{
     CompleteError, IncompleteSchemaError, TypeIterator, UnresolvedDeclaration,
 };
 use cedar_schema_elements::{
-    UnlinkedRequestEnv, ValidatorActionId, ValidatorEntityType, action_entities, environments,
+    UnlinkedRequestEnv, ValidatorActionId, ValidatorEntityType, environments,
 };
 pub use cedar_schema_writer::WriteBackFault;
 use cedar_table::Table;
@@ -37,9 +36,9 @@ use std::collections::BTreeMap;
 
 /// A schema: its entity types and its actions.
 ///
-/// It holds two things beside them that follow of the actions, which it answers without looking
-/// further: the entities of the actions, and the environments of requests. A schema that was built
-/// from fragments also shows their common types and namespaces, with where these were written.
+/// It holds beside them the environments of requests, which follow of the actions, and answers
+/// these without looking further. A schema that was built from fragments also shows their common
+/// types and namespaces, with where these were written.
 ///
 /// An entity type or an action is located where it is defined, or else where an external
 /// declaration of it stands, and so is whatever lends its name. Equality ignores locations, and
@@ -57,22 +56,14 @@ pub(crate) struct Content {
     pub(crate) entity_types: Table<EntityType, ValidatorEntityType>,
     pub(crate) action_ids: Table<EntityUID, ValidatorActionId>,
     #[derive_where(skip(EqHashOrd))]
-    pub(crate) action_entities: Entities,
-    #[derive_where(skip(EqHashOrd))]
     pub(crate) environments: Vec<UnlinkedRequestEnv>,
-    ghost entities_of_actions: { ∥ AreActionEntities
-        (schema_with (map plain_entry entity_types.entries) action_ids.entries
-        (entities_of action_entities)) ∥₁ },
     ghost environments_of_actions: { ∥ AreEnvironmentsOf
-        (schema_with (map plain_entry entity_types.entries) action_ids.entries
-        (entities_of action_entities))
+        (schema_listing (map plain_entry entity_types.entries) action_ids.entries)
         (map owned_environment environments.items) ∥₁ },
     ghost in_order: { ∥ IsInOrder
-        (schema_with (map plain_entry entity_types.entries) action_ids.entries
-        (entities_of action_entities)) ∥₁ },
+        (schema_listing (map plain_entry entity_types.entries) action_ids.entries) ∥₁ },
     ghost under_names: { ∥ StandsUnderItsNames
-        (schema_with (map plain_entry entity_types.entries) action_ids.entries
-        (entities_of action_entities)) ∥₁ },
+        (schema_listing (map plain_entry entity_types.entries) action_ids.entries) ∥₁ },
     ghost types_located: { types.AreLocatedAsKeys entity_types.entries },
     ghost actions_located: { action.AreLocatedAsKeys action_ids.entries },
 }
@@ -93,7 +84,6 @@ impl Drop for Content {
         let Content {
             entity_types: _entity_types,
             action_ids: _action_ids,
-            action_entities: _action_entities,
             environments: _environments,
         } = self;
     }
@@ -113,7 +103,6 @@ impl Content {
         let Content {
             entity_types,
             action_ids,
-            action_entities: _entities,
             environments: _environments,
         } = self;
         (entity_types, action_ids)
@@ -138,7 +127,6 @@ impl ValidatorSchema {
         let content = Content {
             entity_types: Table::new(alloc),
             action_ids: Table::new(alloc),
-            action_entities: Entities::new(alloc),
             environments: Vec::new(alloc),
         };
         ValidatorSchema {
@@ -156,7 +144,6 @@ impl ValidatorSchema {
 
     /// The schema of what was built, with its environments.
     fn from_parts(alloc: Global, parts: SchemaParts) -> M<Self>
-        requires entities { AreActionEntities (parts_schema parts) }
         requires under_names { StandsUnderItsNames (parts_schema parts) }
         requires keys { AreKeysLocated parts.entity_types.entries parts.actions.entries }
         ensures schema { IfOk result (λ schema. schema_of schema ≡ parts_schema parts) }
@@ -168,7 +155,6 @@ impl ValidatorSchema {
         let SchemaParts {
             entity_types,
             actions,
-            action_entities,
             located,
         } = parts;
         let environments = environments(alloc, &actions)?;
@@ -177,7 +163,6 @@ impl ValidatorSchema {
         let content = Content {
             entity_types,
             action_ids: actions,
-            action_entities,
             environments,
         };
         Ok(ValidatorSchema {
@@ -390,18 +375,15 @@ impl ValidatorSchema {
     {
         let entity_types = types_by_name(alloc, Vec::from_iter(alloc, entity_types)?)?;
         let actions = actions_by_uid(alloc, Vec::from_iter(alloc, actions)?)?;
-        let action_entities = action_entities(alloc, &actions)?;
         let parts = SchemaParts {
             entity_types,
             actions,
-            action_entities,
             located: Shared::new(alloc, Located::nothing(alloc))?,
         };
         ValidatorSchema::from_parts(alloc, parts)
     }
 
-    /// The schema, checked, with all its descendants closed and the entities of its actions made
-    /// anew.
+    /// The schema, checked, with all its descendants closed.
     ///
     /// It is refused, memory aside, exactly where it isn't valid, and with a fault of it.
     /// Descendants count in any number of steps. The kinds of errors are:
@@ -432,12 +414,10 @@ impl ValidatorSchema {
         let Validated {
             entity_types,
             actions,
-            action_entities,
         } = validated(alloc, content, extensions)?;
         let parts = SchemaParts {
             entity_types,
             actions,
-            action_entities,
             located,
         };
         Ok(ValidatorSchema::from_parts(alloc, parts)?)
@@ -462,11 +442,9 @@ impl ValidatorSchema {
         let content = self.content();
         let alloc = *content.environments.allocator();
         let actions = copied_actions(&content.action_ids)?;
-        let action_entities = action_entities(alloc, &actions)?;
         let parts = SchemaParts {
             entity_types: copied_types(&content.entity_types)?,
             actions,
-            action_entities,
             located: Shared::new(alloc, self.located.value().clone()?)?,
         };
         ValidatorSchema::from_parts(alloc, parts)
@@ -507,22 +485,21 @@ fn validated(
     extensions: &Extensions,
 ) -> Result<Validated, SchemaError>
     ensures fault { IfErr result (λ error.
-        (entities : List Entity) → (fault_of error ≡ out_of_memory)
+        (entities : List ActionEntity) → (fault_of error ≡ out_of_memory)
         ⊎ IsSchemaFault extensions.now
         (plain_schema content.entity_types.entries content.action_ids.entries entities)
         (fault_of error)) }
-    ensures valid { OnOk result ((entities : List Entity)
+    ensures valid { OnOk result ((entities : List ActionEntity)
         → IsValidSchema extensions.now
         (plain_schema content.entity_types.entries content.action_ids.entries entities)) }
     ensures types_located { IfOk result (λ it. types.AreLocatedAsKeys content.entity_types.entries
         → types.AreLocatedAsKeys it.entity_types.entries) }
     ensures actions_located { IfOk result (λ it. action.AreLocatedAsKeys content.action_ids.entries
         → action.AreLocatedAsKeys it.actions.entries) }
-    ensures closed { IfOk result (λ it. (entities : List Entity)
+    ensures closed { IfOk result (λ it. (entities : List ActionEntity)
         → ClosesSchema
         (plain_schema content.entity_types.entries content.action_ids.entries entities)
-        (plain_schema it.entity_types.entries it.actions.entries
-        (entities_of it.action_entities))) }
+        (whole_schema it.entity_types.entries it.actions.entries)) }
 {
     match content.into_value() {
         Ok(content) => {

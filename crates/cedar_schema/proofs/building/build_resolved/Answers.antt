@@ -1,7 +1,9 @@
 use Rattle.std.proofs.Common.{◌≡◌, ◌⊎◌, map, refl}
-use Rattle.cedar_schema.specs.Words.{AreActionsOf, AreDeclaredEntityTypes, AreElaborated, AreTypesOf, CommonTypesAreSound, EntityType, Entries, InternalName, IsFault, IsReady, IsResolvedOver, TypeScope, ValidatorEntityType, collected_common, elaborated_types, entities_of, fault_of, held_names, out_of_memory, plain_entry, resolved_action_type, resolved_bag, resolved_reference}
+use Rattle.cedar_schema.specs.Words.{AreActionsOf, AreDeclaredEntityTypes, AreElaborated, AreTypesOf, CommonTypesAreSound, EntityType, Entries, InternalName, IsFault, IsReady, IsResolvedOver, TypeScope, ValidatorEntityType, collected_common, elaborated_types, fault_of, held_names, out_of_memory, plain_action_entry, plain_entry, resolved_action_type, resolved_bag, resolved_reference}
 use Rattle.std.proofs.lemmas.Result.{err_from_is_err_and}
 use Rattle.cedar_fragments.proofs.SoundFragments.{fragments_have_no_fault}
+use Rattle.cedar_schema_elements.specs.Words.{listed_entities}
+use Rattle.cedar_schema_elements.proofs.ListedEntities.{listed_of_keys}
 use Rattle.cedar_schema.proofs.DeclaredParts.{declared_parts}
 use Rattle.cedar_schema.proofs.ReadySteps.{actions_of, ready, types_of}
 use Rattle.cedar_schema.proofs.SchemaNames.{names_of_types_sorted, uids_of_actions_sorted}
@@ -116,8 +118,8 @@ returns-clause-declared c over =
     let built = c.in_ok-entity_types.ensures.declared bag given (ready_here here over _ refl refl written sound) in
     let acting = acting_here here over _ refl refl written sound c.in_ok-entity_types.entity_types built in
     declared_parts bag given c.in_ok-entity_types.entity_types.entries c.in_ok-actions.actions.entries
-    (entities_of c.in_ok-action_entities.action_entities) built
+    (listed_entities (map plain_action_entry c.in_ok-actions.actions.entries)) built
     (names_of_types_sorted c.in_ok-entity_types.entity_types.entries c.keys_ascend.ensures)
     (c.in_ok-actions.ensures.declared bag given acting)
     (uids_of_actions_sorted c.in_ok-actions.actions.entries c.keys_ascend-2.ensures)
-    (c.in_ok-action_entities.ensures (map plain_entry c.in_ok-entity_types.entity_types.entries))
+    (listed_of_keys (map plain_entry c.in_ok-entity_types.entity_types.entries) c.in_ok-actions.actions.entries c.keys_ascend-2.ensures)

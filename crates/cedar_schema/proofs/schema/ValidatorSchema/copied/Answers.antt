@@ -1,16 +1,11 @@
 use Rattle.std.proofs.Common.{map, subst, sym}
 use Rattle.std.proofs.lemmas.Result.{IfOk-weaker}
-use Rattle.cedar_schema.specs.Words.{PlainSchema, SameSchema, entities_of, plain_action_entry, plain_entry, schema_of, schema_with}
-use Rattle.cedar_declaration_laws.proofs.MereLemmas.{known_entities}
+use Rattle.cedar_schema.specs.Words.{PlainSchema, SameSchema, plain_action_entry, plain_entry, schema_listing, schema_of}
 use Rattle.cedar_declaration_laws.proofs.SameEntities.{same_entities}
-use Rattle.cedar_schema.proofs.SchemaNames.{known_names, same_under_names}
+use Rattle.cedar_schema.proofs.SchemaNames.{entities_known, entities_of_copy, known_names, same_under_names}
 use Rattle.cedar_schema.proofs.SchemaKeys.{keys_given}
 use Rattle.cedar_schema.proofs.schema.ValidatorSchema.copied.Goals as goal
 use Rattle.cedar_validation.proofs.CopyLemmas.{action_copies_located, actions_same, type_copies_located, types_same}
-
--- the entities are made of the copied actions
-pub from_parts-requires-clause-entities : goal.from_parts-requires-clause-entities
-from_parts-requires-clause-entities c = c.in_ok-action_entities.ensures (map plain_entry c.in_ok-copied_types.field-0.entries)
 
 -- the copies have the names of the originals, which stand under their own
 pub from_parts-requires-clause-under_names : goal.from_parts-requires-clause-under_names
@@ -33,13 +28,13 @@ returns-clause-schema c =
     let actions_copied = rw c.content-content.ensures at c.in_ok-actions.ensures in
     let types = c.in_ok-copied_types.field-0.entries in
     let actions = c.in_ok-actions.actions.entries in
-    let copied : PlainSchema = schema_with (map plain_entry types) actions (entities_of c.in_ok-action_entities.action_entities) in
+    let copied : PlainSchema = schema_listing (map plain_entry types) actions in
     let turn = actions_same self.content.action_ids.entries actions actions_copied in
     let same : SameSchema copied (schema_of self) = record {
       entity_types = types_same self.content.entity_types.entries types types_copied;
       actions = turn;
-      action_entities = same_entities copied (schema_of self) (c.in_ok-action_entities.ensures (map plain_entry types))
-          (known_entities (schema_of self) self.content.entities_of_actions) turn;
+      action_entities = same_entities copied (schema_of self) (entities_of_copy self (map plain_entry types) actions turn)
+          (entities_known self) turn;
     } in
     let P : PlainSchema → Type 0 = λ schema. SameSchema schema (schema_of self) in
     IfOk-weaker c.from_parts.result _ _ (λ copy is. subst P (sym is) same) c.from_parts.ensures.schema

@@ -2,20 +2,17 @@ use Rattle.std.proofs.Common.{ap, map, ◌∙◌}
 use Rattle.std.proofs.lemmas.Result.{IfOk-weaker}
 use Rattle.std.specs.BTreeMap.{is_at}
 use Rattle.std.specs.Map.{lookup}
-use Rattle.cedar_schema.specs.Words.{common_entries, entities_of, last_named, last_of_uid, name_cmp, namespace_entries, plain_entry, type_name, uid_cmp, uid_of}
+use Rattle.cedar_schema.specs.Words.{common_entries, last_named, last_of_uid, name_cmp, namespace_entries, plain_action_entry, type_name, uid_cmp, uid_of}
+use Rattle.cedar_schema_elements.specs.Words.{listed_entities}
 use Rattle.cedar_schema.proofs.SchemaKeys.{keys_given}
 use Rattle.cedar_schema.proofs.SchemaNames.{schema_under_names}
 use Rattle.cedar_schema.proofs.schema.ValidatorSchema.new.Goals as goal
-
--- the entities are made of these very actions
-pub from_parts-requires-clause-entities : goal.from_parts-requires-clause-entities
-from_parts-requires-clause-entities g c = c.in_ok-action_entities.ensures (map plain_entry c.in_ok-entity_types.entity_types.entries)
 
 -- each entity type is under its own name, and each action under its own uid
 pub from_parts-requires-clause-under_names : goal.from_parts-requires-clause-under_names
 from_parts-requires-clause-under_names g c =
     schema_under_names c.in_ok-entity_types.entity_types.entries c.in_ok-actions.actions.entries
-    (entities_of c.in_ok-action_entities.action_entities) c.in_ok-entity_types.ensures.under_names c.in_ok-actions.ensures.under_uids
+    (listed_entities (map plain_action_entry c.in_ok-actions.actions.entries)) c.in_ok-entity_types.ensures.under_names c.in_ok-actions.ensures.under_uids
 
 -- the lists are all that the iterators give, the last of a name counts, and no fragments are shown
 pub returns : goal.returns
