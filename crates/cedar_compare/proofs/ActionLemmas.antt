@@ -1,7 +1,7 @@
 -- Actions whose entities the new version of a schema lacks, and those that it keeps.
 use Rattle.std.proofs.Common.{◌≡◌, ◌⊎◌, List, [], ◌∷◌, inl, inr, refl, subst, sym, ◌∙◌, ⊎_elim, Contains}
 use Rattle.cedar_below.proofs.Lists.{Contains-cons}
-use Rattle.cedar_compare.specs.Words.{ActionEntity, AreTagsOf, DefinesAction, EntityTypeKind, Entries, Extensions, Has, IsActionCause, IsEntityOfAction, IsEntityOfKind, IsEntityOfType, IsLostAction, IsReal, KeepsAction, ListsApart, ListsDescendantAction, MayStandAbove, PlainCause, PlainSchema, PlainUid, action_above, attributes_outside, choice_gone, context_outside, enumerated_kind, external_kind, gone, map_value, record_of, standard_kind, tags_outside, type_above}
+use Rattle.cedar_compare.specs.Words.{ActionEntity, AreTagsOf, DefinesAction, EntityTypeKind, Entries, Extensions, Has, IsActionCause, IsEntityOfAction, IsEntityOfKind, IsEntityOfType, IsLostAction, IsReal, KeepsAction, ListsApart, ListsDescendantAction, MayStandAbove, PlainCause, PlainSchema, PlainUid, action_above, enumerated_kind, external_kind, gone, map_value, record_of, standard_kind}
 use Rattle.cedar_compare.proofs.ToldLemmas.{none_there}
 
 -- a list without members is empty

@@ -13,7 +13,7 @@ use Rattle.std.specs.declared.cmp.Ordering.TheVariants.{Less}
 use Rattle.cedar_below.proofs.Lists.{Contains-cons, Contains-cons_cases, Contains-preimage}
 use Rattle.cedar_below.proofs.Ordered.{IsStrictlySortedBy-map}
 use Rattle.cedar_below.proofs.PlainNames.{name_cmp-total, uid_cmp-total}
-use Rattle.cedar_compare.specs.Words.{ActionEntity, ActionKind, AreActionAnswers, AreActionEntities, AreAllRequests, AreAnswers, AreEnvironmentSubjects, AreLosses, Difference, Entity, EntityType, EntityTypeKind, EntityUID, Extensions, IsAnswer, IsCompleteSchema, IsEntityOfAction, IsKeyed, IsLoss, Keeps, PlainDifference, PlainName, PlainSchema, PlainUid, SchemaAction, SchemaEntityType, Subject, ValidatorActionId, ValidatorEntityType, ValidatorSchema, action_entries, action_lost, action_of, action_subject, action_subjects, defined_action, entity_lost, entity_type_of, entity_uid, enumerated_kind, environment_subject, external_action, external_actions, external_kind, external_types, is_external_kind, is_external_type, name_cmp, plain_action_entity, plain_action_entry, plain_difference, plain_entry, plain_type, request_lost, schema_entries, schema_of, schema_with, standard_kind, subject_cmp, type_name, type_subject, type_subjects, uid_cmp, uid_of, unresolved, unresolved_action, unresolved_type}
+use Rattle.cedar_compare.specs.Words.{ActionEntity, ActionKind, AreActionAnswers, AreActionEntities, AreAllRequests, AreAnswers, AreEnvironmentSubjects, AreLosses, Difference, Entity, EntityType, EntityTypeKind, EntityUID, Extensions, IsAnswer, IsCompleteSchema, IsEntityOfAction, IsKeyed, IsLoss, Keeps, PlainDifference, PlainName, PlainSchema, PlainUid, SchemaAction, SchemaEntityType, Subject, ValidatorActionId, ValidatorEntityType, ValidatorSchema, action_entries, action_lost, action_of, action_subject, action_subjects, defined_action, entity_lost, entity_type_of, entity_uid, environment_subject, external_action, external_actions, external_kind, external_types, is_external_kind, is_external_type, name_cmp, plain_action_entity, plain_action_entry, plain_difference, plain_entry, plain_type, request_lost, schema_entries, schema_of, schema_with, subject_cmp, type_name, type_subject, type_subjects, uid_cmp, uid_of, unresolved, unresolved_action, unresolved_type}
 use Rattle.cedar_compare.proofs.AllLemmas.{AreAllSubjects, RequestsSoFar, all_losses, nothing_lost, requests_more}
 use Rattle.cedar_compare.proofs.LeftLemmas.{SureSoFar}
 use Rattle.cedar_compare.proofs.SortedLemmas.{one_at}
@@ -114,7 +114,7 @@ module _ (extensions : Extensions) (old new : PlainSchema) where
   )
 
 -- an entity of one of a schema's actions is one of the same actions among other entities
-pub entity_of_action : (schema : ValidatorSchema) (types : List (PlainName × SchemaEntityType)) (entities : List Entity) (it : ActionEntity)
+pub entity_of_action : (schema : ValidatorSchema) (types : List (PlainName × SchemaEntityType)) (entities : List ActionEntity) (it : ActionEntity)
     → IsEntityOfAction (schema_with types (action_entries schema) entities) it → IsEntityOfAction (schema_of schema) it
 entity_of_action schema types entities it of = record {
   defined = of.defined;
@@ -125,9 +125,10 @@ entity_of_action schema types entities it of = record {
 
 -- so each entity of a schema's actions is one of its actions
 pub member_of_action : (schema : ValidatorSchema) (types : List (PlainName × SchemaEntityType)) (entities : List Entity) (it : Entity)
-    → AreActionEntities (schema_with types (action_entries schema) entities) → Contains entities it
+    → AreActionEntities (schema_with types (action_entries schema) (map plain_action_entity entities)) → Contains entities it
     → IsEntityOfAction (schema_of schema) (plain_action_entity it)
-member_of_action schema types entities it are there = entity_of_action schema types entities (plain_action_entity it)
+member_of_action schema types entities it are there =
+    entity_of_action schema types (map plain_action_entity entities) (plain_action_entity it)
     (are.entities (plain_action_entity it) (Contains-image plain_action_entity entities it there))
 
 -- the entity types stand below the actions
@@ -153,7 +154,7 @@ all_below schema entities subjects are one other first second =
 
 module _ (extensions : Extensions) (schema : ValidatorSchema) (new : PlainSchema) (entities : List Entity)
     (types actions requests lost : List Difference)
-    (among : AreActionEntities (schema_with (schema_of schema).entity_types (action_entries schema) entities))
+    (among : AreActionEntities (schema_with (schema_of schema).entity_types (action_entries schema) (map plain_action_entity entities)))
     (of_types : AreAnswers extensions (schema_of schema) new (type_subjects (schema_of schema)) (map plain_difference types))
     (of_actions : AreAnswers extensions (schema_of schema) new (action_subjects entities) (map plain_difference actions))
     (of_requests : AreAllRequests extensions (schema_of schema) new (map plain_difference requests))

@@ -1,5 +1,5 @@
 -- Two versions of a schema that are compared.
-use Rattle.std.specs.Prelude.{◌≡◌, List}
+use Rattle.std.specs.Prelude.{◌≡◌, List, map}
 use Rattle.cedar_below.specs.Words.{Entries, IsValue, PlainName, PlainUid, Tree, entities_of, uid_value}
 use Rattle.cedar_below.specs.declared.extension.Extensions.{Extensions}
 use Rattle.cedar_compare.specs.Fresh.{IsFreshIn}
@@ -7,7 +7,7 @@ use Rattle.cedar_compare.specs.Lookup.{IsKeyed}
 use Rattle.cedar_compare.specs.declared.versions.Versions.{Versions}
 use Rattle.cedar_declarations.specs.Words.{ActionEntity, AreActionEntities, EntityTypeKind, IsTypeIn, PlainSchema, standard_kind}
 use Rattle.cedar_schema.specs.ValidatorSchema.{action_entries, schema_of}
-use Rattle.cedar_schema_elements.specs.ActionEntities.{schema_with}
+use Rattle.cedar_schema_elements.specs.ActionEntities.{plain_action_entity, schema_with}
 use Rattle.cedar_type_rules.specs.Words.{IsInhabitedWith, Ty}
 use Rattle.cedar_types.specs.Samples.{value_trees}
 
@@ -31,7 +31,7 @@ pub record AreVersions (it : Versions) : Type 0 where
   pub new_keyed : IsKeyed (new_of it)
   pub sampled : IsSchemaSampled it.extensions.now (value_trees it.samples.now) (old_of it)
   pub new_actions : AreActionEntities (schema_with (new_of it).entity_types
-      (action_entries it.new.now) (entities_of it.new_actions.now))
+      (action_entries it.new.now) (map plain_action_entity (entities_of it.new_actions.now)))
 
 -- the kind is that of standard entity types
 abbrev pub IsStandard : EntityTypeKind → Type 0

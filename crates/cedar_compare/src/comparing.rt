@@ -1,7 +1,7 @@
 //! Two versions of a schema, compared.
 
 ghost use Rattle.std.specs.Prelude.{◌≡◌, ◌↔◌, [], IfErr, IfOk, IfSome, None, OnOk, map, string_bytes};
-ghost use Rattle.cedar_compare.specs.Words.{AreActionEntities, AreLosses, IsComparable, IsCompareFault, IsSchemaSampled, IsUnsampledType, IsVersionFault, Keeps, action_entries, entities_of, plain_difference, schema_of, schema_with, value_trees};
+ghost use Rattle.cedar_compare.specs.Words.{AreActionEntities, AreLosses, IsComparable, IsCompareFault, IsSchemaSampled, IsUnsampledType, IsVersionFault, Keeps, action_entries, entities_of, plain_action_entity, plain_difference, schema_of, schema_with, value_trees};
 
 use crate::compare_fault::{CompareFault, Version};
 use crate::difference::Difference;
@@ -77,9 +77,11 @@ fn lost<'a>(
 ) -> M<Vec<Difference>>
     requires old { IsComparable extensions.now (value_trees samples.now) (schema_of old.now) }
     requires old_actions { AreActionEntities (schema_with (schema_of old.now).entity_types
-        (action_entries old.now) (entities_of old_actions.now)) }
+        (action_entries old.now)
+        (map plain_action_entity (entities_of old_actions.now))) }
     requires new_actions { AreActionEntities (schema_with (schema_of new.now).entity_types
-        (action_entries new.now) (entities_of new_actions.now)) }
+        (action_entries new.now)
+        (map plain_action_entity (entities_of new_actions.now))) }
     ensures losses { IfOk result (λ lost. AreLosses extensions.now (schema_of old.now)
         (schema_of new.now) (map plain_difference lost.items)) }
     ensures kept { IfOk result (λ lost. (lost.items ≡ [])

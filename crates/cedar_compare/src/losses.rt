@@ -1,7 +1,7 @@
 //! What a new version of a schema takes away.
 
 ghost use Rattle.std.specs.Prelude.{◌≡◌, [], IfOk, map};
-ghost use Rattle.cedar_compare.specs.Words.{AreActionEntities, AreAllRequests, AreAnswers, AreLosses, AreVersions, Keeps, action_entries, action_subjects, entities_of, new_of, old_of, plain_difference, schema_with, type_subjects};
+ghost use Rattle.cedar_compare.specs.Words.{AreActionEntities, AreAllRequests, AreAnswers, AreLosses, AreVersions, Keeps, action_entries, action_subjects, entities_of, new_of, old_of, plain_action_entity, plain_difference, schema_with, type_subjects};
 
 use crate::action_uppers::action_uppers;
 use crate::actions::lost_action;
@@ -33,7 +33,8 @@ fn lost_types(versions: &Versions<'_>) -> M<Vec<Difference>>
 fn lost_actions(versions: &Versions<'_>, entities: &Entities) -> M<Vec<Difference>>
     requires versions { AreVersions versions.now }
     requires entities { AreActionEntities (schema_with (old_of versions.now).entity_types
-        (action_entries versions.now.old.now) (entities_of entities.now)) }
+        (action_entries versions.now.old.now)
+        (map plain_action_entity (entities_of entities.now))) }
     ensures { IfOk result (λ lost. AreAnswers versions.now.extensions.now (old_of versions.now)
         (new_of versions.now) (action_subjects (entities_of entities.now))
         (map plain_difference lost.items)) }
@@ -66,7 +67,8 @@ fn lost_requests(versions: &Versions<'_>) -> M<Vec<Difference>>
 pub(crate) fn losses(versions: &Versions<'_>, entities: &Entities) -> M<Vec<Difference>>
     requires versions { AreVersions versions.now }
     requires entities { AreActionEntities (schema_with (old_of versions.now).entity_types
-        (action_entries versions.now.old.now) (entities_of entities.now)) }
+        (action_entries versions.now.old.now)
+        (map plain_action_entity (entities_of entities.now))) }
     ensures losses { IfOk result (λ lost. AreLosses versions.now.extensions.now
         (old_of versions.now) (new_of versions.now) (map plain_difference lost.items)) }
     ensures kept { IfOk result (λ lost. (lost.items ≡ [])
