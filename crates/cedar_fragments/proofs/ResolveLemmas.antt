@@ -1,9 +1,9 @@
 -- The first possibility that is defined.
-use Rattle.std.proofs.Common.{◌≡◌, ℕ, ◌+◌, ◌<◌, ◌≤◌, List, [], ◌∷◌, ◌++◌, map, ap, sym, ◌∙◌, refl, inl, inr, length, get_or, take, drop, Contains, drop-cons, suc}
-use Rattle.std.proofs.lemmas.List.{get_or_default, map-append, map_more, take_all, take-append-drop}
+use Rattle.std.proofs.Common.{◌≡◌, ℕ, ◌+◌, ◌<◌, List, [], ◌∷◌, ◌++◌, map, ap, sym, ◌∙◌, refl, inl, inr, length, get_or, take, drop, drop-cons, suc}
+use Rattle.std.proofs.lemmas.List.{map-append, map_more, take-append-drop}
 use Rattle.std.specs.List.{AllByRecursion}
 use Rattle.cedar_declarations.specs.Occurrences.{IsFirst}
-use Rattle.cedar_fragments.proofs.SoundLemmas.{AllByRecursion-at, AllByRecursion-append}
+use Rattle.cedar_fragments.proofs.SoundLemmas.{AllByRecursion-append}
 
 module _ {A B : Type 0} (P : B → Type 0) (f : A → B) where
   -- after items of which it doesn't hold, the fact holds first of the next of which it does
@@ -27,18 +27,3 @@ module _ {A B : Type 0} (P : B → Type 0) (f : A → B) where
   none_more items i item lt is not_it none =
       rw (ap (λ each. map f (take i items) ++ f each ∷ []) is, ← map_more f items i item lt) at
       (AllByRecursion-append (λ other. ¬ P other) (map f (take i items)) (f item ∷ []) none (not_it, tt))
-
-  -- where it holds of none, it doesn't hold of any
-  pub none_of : (first : A) (items : List A) (i : ℕ) → length items ≤ i → ¬ P (f first)
-      → AllByRecursion (λ other. ¬ P other) (map f (take i items)) → (x : B) → Contains (f first ∷ map f items) x → ¬ P x
-  none_of first items i le not_first none x among =
-      AllByRecursion-at (λ other. ¬ P other) (f first ∷ map f items) x (not_first, rw (take_all i items le) at none) among
-
-  -- where it holds of the item at a place after those of which it doesn't, it holds first of the one taken from there
-  pub first_taken : (first : A) (items tail : List A) (i : ℕ) (seen taken : A) → tail ≡ items → i < length items
-      → seen ≡ get_or tail i seen → taken ≡ get_or tail i taken → ¬ P (f first)
-      → AllByRecursion (λ other. ¬ P other) (map f (take i items)) → P (f seen) → IsFirst P (f first ∷ map f items) (f taken)
-  first_taken first items tail i seen taken same lt sees takes not_first none holds =
-      let takes' : taken ≡ get_or items i taken = takes ∙ ap (λ each. get_or each i taken) same in
-      let is : seen ≡ taken = sees ∙ (ap (λ each. get_or each i seen) same ∙ (get_or_default items i seen taken lt ∙ sym takes')) in
-      first_at first items i taken lt takes' not_first none (rw is at holds)

@@ -82,16 +82,6 @@ pub record PlainSoFar (all : List EntityUID) (entries : Entries) (left : List En
   pub each : ArePlain (map uid_of all) entries
   pub listed : (uid : PlainUid) → Contains (map uid_of done) uid → IsUnqualified uid.ty → Contains (ids_of entries) uid.eid
 
--- at first none is
-pub PlainSoFar-none : (all left : List EntityUID) (entries : Entries) → all ≡ left → entries ≡ [] → PlainSoFar all entries left
-PlainSoFar-none all left entries same nothing =
-    record {
-      done = [];
-      split = same;
-      each = rw nothing tt;
-      listed = λ uid among. absurd (omega (arith, among.1));
-    }
-
 -- what is done with one more
 done_cases : (done : List EntityUID) (x : EntityUID) (uid : PlainUid) → Contains (map uid_of (done ++ x ∷ [])) uid
     → Contains (map uid_of done) uid ⊎ (uid_of x ≡ uid)
@@ -187,10 +177,6 @@ pub record PassedSoFar {A B : Type 0} (P : B → Type 0) (f : A → B) (all left
   pub each : (x : B) → Contains (map f done) x → P x
 
 module _ {A B : Type 0} (P : B → Type 0) (f : A → B) where
-  -- at first it is known of none
-  pub PassedSoFar-none : (all left : List A) → all ≡ left → PassedSoFar P f all left
-  PassedSoFar-none all left same = record { done = []; split = same; each = λ x among. absurd (omega (arith, among.1)) }
-
   -- it holds of one more
   pub PassedSoFar-more : (all left rest : List A) (x : A) → left ≡ x ∷ rest → P (f x) → PassedSoFar P f all left → PassedSoFar P f all rest
   PassedSoFar-more all left rest x is holds so_far =

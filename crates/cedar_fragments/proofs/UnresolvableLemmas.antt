@@ -1,7 +1,7 @@
 -- What can't be resolved in a part can't be in the whole.
 use Rattle.std.proofs.Common.{◌≡◌, List, [], ◌∷◌, map, ap, ◌∙◌, refl, inl, inr, Contains}
 use Rattle.cedar_below.proofs.Lists.{Contains-preimage}
-use Rattle.cedar_fragments.specs.Words.{ActionReference, AllDefs, Bag, Body, ConditionalName, Declaration, Entity, EntityUID, Fault, HasToResolve, HasToResolveIn, HoldsPairwise, InternalName, IsDefined, IsRefusedAmong, IsReserved, IsUnresolvable, Names, NoneIsReserved, PlainName, PlainUid, QualifyError, Reference, ReferenceType, ResolvesBody, ResolvesDeclaration, ResolvesReference, ResolvesTo, action_not_defined, declared_action, declared_as, held_names, name_of, out_of_memory, positional_reference, qualify_fault, reference_to_one, reserved_name, resolved_reference, type_not_defined, uid_of}
+use Rattle.cedar_fragments.specs.Words.{ActionReference, AllDefs, Bag, Body, Declaration, Entity, EntityUID, Fault, HasToResolve, HasToResolveIn, HoldsPairwise, InternalName, IsDefined, IsRefusedAmong, IsReserved, IsUnresolvable, Names, NoneIsReserved, PlainName, PlainUid, QualifyError, Reference, ReferenceType, ResolvesBody, ResolvesDeclaration, ResolvesReference, ResolvesTo, action_not_defined, declared_action, declared_as, held_names, name_of, out_of_memory, qualify_fault, reference_to_one, reserved_name, resolved_reference, type_not_defined, uid_of}
 use Rattle.cedar_declarations.proofs.OccurrenceLemmas.{Contains-image}
 use Rattle.cedar_declarations.proofs.ResolutionLemmas.{IsFirst-same}
 use Rattle.cedar_declarations.proofs.TurnLemmas.{turn_forth, turn_back}
@@ -55,23 +55,23 @@ action_unreserved defs uid among =
 same_name : (kind kind' : ReferenceType) (x y : PlainName) → reference_to_one kind x ≡ reference_to_one kind' y → x ≡ y
 same_name kind kind' x y is = let names : x ∷ [] ≡ y ∷ [] = ap (λ (it : Reference). it.possibilities) is in cc
 
-module _ (names : Names) (references : List ConditionalName) (resolved : List InternalName)
-    (turn : HoldsPairwise (ResolvesReference names) (map (positional_reference Entity) references) (map (resolved_reference Entity) resolved)) where
+module _ (names : Names) (references : List Reference) (resolved : List InternalName)
+    (turn : HoldsPairwise (ResolvesReference names) references (map (resolved_reference Entity) resolved)) where
   -- each name that some references are resolved by is one that a reference resolves to
   pub resolved_by : (item : InternalName) → Contains resolved item
-      → (reference : Reference) × Contains (map (positional_reference Entity) references) reference × ResolvesTo names reference (name_of item)
+      → (reference : Reference) × Contains references reference × ResolvesTo names reference (name_of item)
   resolved_by item among =
       let back = turn_back (ResolvesReference names) (λ y x. ResolvesReference names x y) (λ x y qualifies. qualifies)
-      (map (positional_reference Entity) references) (map (resolved_reference Entity) resolved) turn in
+      references (map (resolved_reference Entity) resolved) turn in
       let found = turn_forth (λ y x. ResolvesReference names x y) (map (resolved_reference Entity) resolved)
-      (map (positional_reference Entity) references) back (resolved_reference Entity item) (Contains-image (resolved_reference Entity) resolved item among) in
+      references back (resolved_reference Entity item) (Contains-image (resolved_reference Entity) resolved item among) in
       (found.0, found.1, rw (← same_name Entity found.0.kind (name_of item) found.2.0 found.2.2) at found.2.1)
 
   -- where none of the names is reserved, none of the references resolves to a reserved name
   pub none_reserved : AllByRecursion (λ name. ¬ IsReserved name) (map name_of resolved)
-      → NoneIsReserved names (Contains (map (positional_reference Entity) references))
+      → NoneIsReserved names (Contains references)
   none_reserved unreserved reference name among resolves =
-      let found = turn_forth (ResolvesReference names) (map (positional_reference Entity) references) (map (resolved_reference Entity) resolved) turn
+      let found = turn_forth (ResolvesReference names) references (map (resolved_reference Entity) resolved) turn
       reference among in
       let item = Contains-preimage (resolved_reference Entity) resolved found.0 found.1 in
       let same : name_of item.0 ≡ found.2.0 = same_name Entity reference.kind (name_of item.0) found.2.0 (item.2 ∙ found.2.2) in

@@ -7,7 +7,7 @@ pub use Rattle.cedar_below.specs.declared.internal_name.InternalName.{InternalNa
 pub use Rattle.cedar_below.specs.declared.loc.Loc.{Loc}
 pub use Rattle.cedar_below.specs.declared.name.Name.{Name}
 pub use Rattle.cedar_below.specs.declared.unreserved_id.UnreservedId.{UnreservedId}
-pub use Rattle.cedar_names.specs.Words.{ActionBody, ActionReference, AlikeConditional, AlikeEntity, AlikeFull, Body, Declaration, EntityBody, Expr, LocatesAlike, Locs, Reference, RefersAlike, ShowsSame, action, action_body, action_declarations, applies_to, attribute_locs, attribute_locs_step, common_declarations, common_type, common_type_text, conditional_reference, entity_declarations, entity_type, external, flag_and_expr, member, members_from, name_within, named, names_of, namespace_name, own_reference, parent_action, parent_actions, path_within, positional_attribute, positional_expr, positional_record, positional_reference, positional_variant, possibilities_of, raw_bag, raw_declarations, raw_entity_body, raw_expr, raw_fragment, raw_reference, record_expr, record_locs, record_locs_step, requests_by, set_expr, standard, type_expr, type_locs, type_locs_step, variant_locs, variant_locs_step}
+pub use Rattle.cedar_names.specs.Words.{ActionBody, ActionReference, AlikeConditional, AlikeEntity, AlikeFull, Body, Declaration, EntityBody, Expr, LocatesAlike, Locs, Reference, RefersAlike, ShowsSame, action, action_body, action_declarations, applies_to, attribute_locs, attribute_locs_step, common_declarations, common_type, common_type_text, conditional_reference, entity_declarations, entity_type, external, flag_and_expr, member, members_from, name_within, named, names_of, namespace_name, own_reference, parent_action, parent_actions, path_within, positional_attribute, positional_expr, positional_record, positional_reference, positional_variant, possibilities_of, raw_bag, raw_declarations, raw_entity_body, raw_expr, raw_fragment, raw_reference, record_expr, record_locs, record_locs_step, record_type_expr, requests_by, set_expr, standard, type_expr, type_locs, type_locs_step, variant_expr, variant_locs, variant_locs_step}
 pub use Rattle.cedar_names.specs.declared.json_schema.action_type.ActionType.{ActionType}
 pub use Rattle.cedar_names.specs.declared.json_schema.common_type_id.CommonTypeId.{CommonTypeId}
 pub use Rattle.cedar_names.specs.declared.json_schema.conditional_name.ConditionalName.{ConditionalName}

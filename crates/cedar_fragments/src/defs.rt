@@ -1,7 +1,7 @@
 //! The names that are defined, and what references resolve to.
 
 pub use all_defs::AllDefs;
-pub(crate) use resolve::resolve_at;
+pub(crate) use resolve::ResolveWithin;
 pub use resolve::{ResolveName, resolve_all};
 
 mod all_defs;

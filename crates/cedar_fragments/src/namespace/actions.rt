@@ -1,6 +1,6 @@
 //! The actions of a namespace.
 
-ghost use Rattle.std.specs.Prelude.{◌≡◌, ◌⊎◌, IfOk, IfErr, OnOk, map, Contains, string_bytes, [], Option};
+ghost use Rattle.std.specs.Prelude.{◌≡◌, ◌⊎◌, IfOk, IfErr, OnOk, map, string_bytes, [], Option};
 ghost use Rattle.cedar_fragments.specs.Words.{IsDefinitionFault, IsReserved, IsSound, NamesAllWithAttributes, PlainName, Reference, ReferenceType, action_body, action_declarations, action_defs, action_fragment_body, action_fragment_declarations, action_word, applies_to, fault_of, fragment_parent, fragment_requests, id_text, name_of, name_within, namespace_name, out_of_memory, parent_action, parent_actions, positional_reference, raw_reference, reserved_name, text_cmp, uid_of, with_attributes};
 ghost use Rattle.std.specs.List.{AllByRecursion};
 ghost use Rattle.std.specs.Slice.Iter.{iter_rest};
@@ -128,9 +128,10 @@ fn action_parents(
 }
 
 /// No requests, with the closed record without attributes for a context.
-fn no_requests(alloc: Global) -> ActionRequests<ConditionalName>
-    ensures { fragment_requests Conditional positional_reference (Some result)
-        ≡ applies_to Raw (raw_reference None) None None }
+fn no_requests(alloc: Global) -> ActionRequests<RawName>
+    ensures { (namespace : Option PlainName)
+        → fragment_requests Raw (raw_reference namespace) (Some result)
+        ≡ applies_to Raw (raw_reference namespace) namespace None }
 {
     let no_attributes = RecordType {
         attributes: BTreeMap::new(alloc),
@@ -146,48 +147,81 @@ fn no_requests(alloc: Global) -> ActionRequests<ConditionalName>
     }
 }
 
-/// The requests that are written of an action.
-fn written_requests(
+/// The requests that are written of an action; where none are written it is for none, and its
+/// context is the closed record without attributes.
+fn written_requests(alloc: Global, written: Option<ApplySpec<RawName>>) -> ActionRequests<RawName>
+    ensures { (namespace : Option PlainName)
+        → fragment_requests Raw (raw_reference namespace) (Some result)
+        ≡ applies_to Raw (raw_reference namespace) namespace written }
+{
+    match written {
+        Some(written) => ActionRequests {
+            principals: written.principal_types,
+            resources: written.resource_types,
+            context: written.context.0,
+        },
+        None => no_requests(alloc),
+    }
+}
+
+impl ActionFragment<RawName, ConditionalName> {
+    /// What is declared of an action without attributes that is written in a namespace, by the
+    /// names that are written, and references to its parents.
+    pub(crate) fn as_written(
+        alloc: Global,
+        namespace: Option<&InternalName>,
+        written: ActionType<RawName>,
+    ) -> M<Self>
+        requires { written.attributes ≡ None }
+        ensures { IfOk result (λ it.
+            action_fragment_body Raw (raw_reference (namespace_name namespace.entry)) Conditional
+            positional_reference it
+            ≡ action_body Raw (raw_reference (namespace_name namespace.entry))
+            (namespace_name namespace.entry) written) }
+    {
+        let ActionType {
+            applies_to,
+            member_of,
+            external,
+            loc,
+            ..
+        } = written;
+        let parents = action_parents(alloc, namespace, member_of)?;
+        let requests = if external {
+            None
+        } else {
+            Some(written_requests(alloc, applies_to))
+        };
+        Ok(ActionFragment {
+            requests,
+            parents,
+            loc,
+        })
+    }
+}
+
+/// The requests of an action by references, of those by names that are written in a namespace.
+fn conditional_requests(
     alloc: Global,
     namespace: Option<&InternalName>,
-    written: ApplySpec<RawName>,
+    requests: ActionRequests<RawName>,
 ) -> M<ActionRequests<ConditionalName>>
     ensures { IfOk result (λ it. fragment_requests Conditional positional_reference (Some it)
-        ≡ applies_to Raw (raw_reference (namespace_name namespace.entry))
-        (namespace_name namespace.entry) (Some written)) }
+        ≡ fragment_requests Raw (raw_reference (namespace_name namespace.entry)) (Some requests)) }
 {
-    let ApplySpec {
-        principal_types,
-        resource_types,
+    let ActionRequests {
+        principals,
+        resources,
         context,
-    } = written;
-    let principals = entity_references(alloc, namespace, principal_types)?;
-    let resources = entity_references(alloc, namespace, resource_types)?;
-    let context = context
-        .0
-        .conditionally_qualify_type_references(alloc, namespace)?;
+    } = requests;
+    let principals = entity_references(alloc, namespace, principals)?;
+    let resources = entity_references(alloc, namespace, resources)?;
+    let context = context.conditionally_qualify_type_references(alloc, namespace)?;
     Ok(ActionRequests {
         principals,
         resources,
         context,
     })
-}
-
-/// The requests that are written of an action; where none are written it is for none, and its
-/// context is the closed record without attributes.
-fn action_requests(
-    alloc: Global,
-    namespace: Option<&InternalName>,
-    written: Option<ApplySpec<RawName>>,
-) -> M<ActionRequests<ConditionalName>>
-    ensures { IfOk result (λ it. fragment_requests Conditional positional_reference (Some it)
-        ≡ applies_to Raw (raw_reference (namespace_name namespace.entry))
-        (namespace_name namespace.entry) written) }
-{
-    match written {
-        Some(written) => written_requests(alloc, namespace, written),
-        None => Ok(no_requests(alloc)),
-    }
 }
 
 impl ActionFragment<ConditionalName, ConditionalName> {
@@ -204,18 +238,14 @@ impl ActionFragment<ConditionalName, ConditionalName> {
             ≡ action_body Raw (raw_reference (namespace_name namespace.entry))
             (namespace_name namespace.entry) written) }
     {
-        let ActionType {
-            applies_to,
-            member_of,
-            external,
+        let ActionFragment {
+            requests,
+            parents,
             loc,
-            ..
-        } = written;
-        let parents = action_parents(alloc, namespace, member_of)?;
-        let requests = if external {
-            None
-        } else {
-            Some(action_requests(alloc, namespace, applies_to)?)
+        } = ActionFragment::as_written(alloc, namespace, written)?;
+        let requests = match requests {
+            None => None,
+            Some(requests) => Some(conditional_requests(alloc, namespace, requests)?),
         };
         Ok(ActionFragment {
             requests,

@@ -1,9 +1,9 @@
 //! The entity types of a namespace.
 
-ghost use Rattle.std.specs.Prelude.{◌≡◌, ◌⊎◌, IfOk, IfErr, OnOk, map, Contains, []};
+ghost use Rattle.std.specs.Prelude.{◌≡◌, ◌⊎◌, IfOk, IfErr, OnOk, Option, map, Contains, []};
 ghost use Rattle.std.specs.List.{AllByRecursion};
 ghost use Rattle.std.specs.Slice.Iter.{iter_rest};
-ghost use Rattle.cedar_fragments.specs.Words.{IsActionType, IsDefinitionFault, IsEntityTypeNameFault, IsSound, NamesNoAttributes, Reference, ReferenceType, entity_declarations, entity_parents, entity_type_declarations, entity_type_defs, fault_of, fragment_body, name_within, namespace_name, out_of_memory, path_within, positional_expr, positional_reference, raw_entity_body, raw_expr, raw_reference, reserved_word, standard, type_name, unreserved_id_text};
+ghost use Rattle.cedar_fragments.specs.Words.{IsActionType, IsDefinitionFault, IsEntityTypeNameFault, IsSound, NamesNoAttributes, PlainName, Reference, ReferenceType, entity_declarations, entity_parents, entity_type_declarations, entity_type_defs, fault_of, fragment_body, name_within, namespace_name, out_of_memory, path_within, positional_expr, positional_reference, raw_entity_body, raw_expr, raw_reference, reserved_word, type_name, unreserved_id_text};
 ghost use Rattle.cedar_names.specs.declared.json_schema.raw_name.RawName.{RawName as Raw};
 ghost use Rattle.std.specs.Option.{option_map};
 ghost use Rattle.cedar_names.specs.declared.json_schema.conditional_name.ConditionalName.{ConditionalName as Conditional};
@@ -15,8 +15,7 @@ use cedar_below::{Eid, EntityType, InternalName, Loc, M, NonEmpty, UnreservedId}
 use cedar_declarations::SchemaError;
 use cedar_names::json_schema;
 use cedar_names::json_schema::{
-    AttributesOrContext, ConditionalName, EntityTypeKind, RawName, ReferenceType,
-    StandardEntityType, Type,
+    AttributesOrContext, ConditionalName, EntityTypeKind, RawName, ReferenceType, Type,
 };
 use std::alloc::Global;
 use std::collections::BTreeMap;
@@ -118,33 +117,28 @@ fn tags_type(
     }
 }
 
-/// What is declared of a standard entity type that is written in a namespace.
-fn standard_fragment(
-    alloc: Global,
-    namespace: Option<&InternalName>,
-    written: StandardEntityType<RawName>,
-) -> M<EntityTypeFragment<ConditionalName>>
-    ensures { IfOk result (λ it. fragment_body Conditional positional_reference it
-        ≡ standard (map (raw_reference
-        (namespace_name namespace.entry) entity) written.member_of_types.items)
-        (raw_expr (namespace_name namespace.entry) written.shape.0)
-        (option_map (raw_expr (namespace_name namespace.entry)) written.tags)) }
-{
-    let StandardEntityType {
-        member_of_types,
-        shape,
-        tags,
-    } = written;
-    let parents = entity_references(alloc, namespace, member_of_types)?;
-    let attributes = shape
-        .0
-        .conditionally_qualify_type_references(alloc, namespace)?;
-    let tags = tags_type(alloc, namespace, tags)?;
-    Ok(EntityTypeFragment::Standard {
-        attributes: AttributesOrContext(attributes),
-        parents,
-        tags,
-    })
+impl EntityTypeFragment<RawName> {
+    /// What is declared of an entity type, by the names that are written.
+    pub(crate) fn as_written(alloc: Global, written: json_schema::EntityType<RawName>) -> Self
+        ensures { (namespace : Option PlainName)
+            → fragment_body Raw (raw_reference namespace) result
+            ≡ raw_entity_body namespace written }
+    {
+        match (written.kind, written.external) {
+            (EntityTypeKind::Standard(standard), false) => EntityTypeFragment::Standard {
+                attributes: standard.shape,
+                parents: standard.member_of_types,
+                tags: standard.tags,
+            },
+            (EntityTypeKind::Standard(standard), true) => EntityTypeFragment::External {
+                parents: standard.member_of_types,
+            },
+            (EntityTypeKind::Enum { choices }, false) => EntityTypeFragment::Enum(choices),
+            (EntityTypeKind::Enum { .. }, true) => EntityTypeFragment::External {
+                parents: Vec::new(alloc),
+            },
+        }
+    }
 }
 
 impl EntityTypeFragment<ConditionalName> {
@@ -157,17 +151,28 @@ impl EntityTypeFragment<ConditionalName> {
         ensures { IfOk result (λ it. fragment_body Conditional positional_reference it
             ≡ raw_entity_body (namespace_name namespace.entry) written) }
     {
-        match (written.kind, written.external) {
-            (EntityTypeKind::Standard(standard), false) => {
-                standard_fragment(alloc, namespace, standard)
+        match EntityTypeFragment::as_written(alloc, written) {
+            EntityTypeFragment::Standard {
+                attributes,
+                parents,
+                tags,
+            } => {
+                let parents = entity_references(alloc, namespace, parents)?;
+                let attributes = attributes
+                    .0
+                    .conditionally_qualify_type_references(alloc, namespace)?;
+                let tags = tags_type(alloc, namespace, tags)?;
+                Ok(EntityTypeFragment::Standard {
+                    attributes: AttributesOrContext(attributes),
+                    parents,
+                    tags,
+                })
             }
-            (EntityTypeKind::Standard(standard), true) => Ok(EntityTypeFragment::External {
-                parents: entity_references(alloc, namespace, standard.member_of_types)?,
-            }),
-            (EntityTypeKind::Enum { choices }, false) => Ok(EntityTypeFragment::Enum(choices)),
-            (EntityTypeKind::Enum { .. }, true) => Ok(EntityTypeFragment::External {
-                parents: Vec::new(alloc),
-            }),
+            EntityTypeFragment::Enum(choices) => Ok(EntityTypeFragment::Enum(choices)),
+            EntityTypeFragment::External { parents } => {
+                let parents = entity_references(alloc, namespace, parents)?;
+                Ok(EntityTypeFragment::External { parents })
+            }
         }
     }
 }

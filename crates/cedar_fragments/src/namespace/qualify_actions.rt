@@ -1,14 +1,14 @@
-//! Actions over conditional names become actions over full names.
+//! Actions over names that aren't resolved yet become actions over full names.
 
 ghost use Rattle.std.specs.Prelude.{◌≡◌, IfOk, IfErr, OnOk, MatchOption, Some, map, Contains, string_bytes};
 ghost use Rattle.std.specs.List.{flat_map};
-ghost use Rattle.cedar_fragments.specs.Words.{HasToResolveFor, HoldsPairwise, IsFirst, IsPrincipalOrResource, IsRequested, IsRequestedIn, IsUnresolvable, IsUnresolvableBag, IsUnresolvableIn, NoneIsReserved, PlainName, ResolvesBag, ResolvesBody, ResolvesParent, ResolvesReference, ResolvesRequests, action, action_fragment_body, action_fragment_declarations, action_fragment_locs, actions_locs, fault_of, fragment_parent, fragment_requests, held_names, name_of, names_of, no_locs, parent_locs, positional_reference, requests_locs, resolved_action_type, resolved_reference, type_name};
+ghost use Rattle.cedar_fragments.specs.Words.{HasToResolveFor, HoldsPairwise, IsFirst, IsPrincipalOrResource, IsRequested, IsRequestedIn, IsUnresolvable, IsUnresolvableBag, IsUnresolvableIn, NoneIsReserved, PlainName, ResolvesBag, ResolvesBody, ResolvesParent, ResolvesReference, ResolvesRequests, action, action_fragment_body, action_fragment_declarations, action_fragment_locs, actions_locs, fault_of, fragment_parent, fragment_requests, held_names, name_of, names_of, namespace_name, no_locs, parent_locs, positional_reference, requests_locs, resolved_action_type, resolved_reference, type_name};
 ghost use Rattle.cedar_below.specs.declared.entity_type.EntityType.{EntityType as ActionEntityType};
 ghost use Rattle.cedar_below.specs.declared.internal_name.InternalName.{InternalName as Full};
 ghost use Rattle.cedar_names.specs.declared.json_schema.conditional_name.ConditionalName.{ConditionalName as Conditional};
 ghost use Rattle.cedar_names.specs.declared.json_schema.reference_type.ReferenceType.TheVariants.{Entity as entity};
 
-use crate::defs::AllDefs;
+use crate::defs::{AllDefs, ResolveWithin};
 use crate::namespace::action_def::ActionDef;
 use crate::namespace::actions::{ActionFragment, ActionParent, ActionRequests, ActionsDef};
 use crate::namespace::qualify_types::{qualify_entity_types, qualify_type};
@@ -117,22 +117,25 @@ fn qualify_parents(
 
 /// The names of the entity types that principals or resources resolve to, which must not be
 /// reserved.
-fn qualify_requested(
-    names: Vec<ConditionalName>,
+fn qualify_requested<N: ResolveWithin + Drop>(
+    names: Vec<N>,
+    namespace: Option<&InternalName>,
     all_defs: &AllDefs,
 ) -> Result<Vec<InternalName>, SchemaError>
     ensures resolved { IfOk result (λ it.
         HoldsPairwise (ResolvesReference (held_names all_defs.now))
-        (map (positional_reference entity) names.items)
+        (map (N.refer (namespace_name namespace.entry) entity) names.items)
         (map (resolved_reference entity) it.items)) }
     ensures unreserved { OnOk result
         (NoneIsReserved (held_names all_defs.now)
-        (Contains (map (positional_reference entity) names.items))) }
+        (Contains (map (N.refer (namespace_name namespace.entry) entity) names.items))) }
     ensures fault { IfErr result (λ error. IsUnresolvable (held_names all_defs.now)
-        (Contains (map (positional_reference entity) names.items)) (λ parent.
-        ⊥) (Contains (map (positional_reference entity) names.items)) (fault_of error)) }
+        (Contains (map (N.refer (namespace_name namespace.entry) entity) names.items))
+        (λ parent. ⊥)
+        (Contains (map (N.refer (namespace_name namespace.entry) entity) names.items))
+        (fault_of error)) }
 {
-    let qualified = qualify_entity_types(names, all_defs)?;
+    let qualified = qualify_entity_types(names, namespace, all_defs)?;
     for name in &qualified {
         if name.is_reserved() {
             return Err(SchemaError::ReservedName(name.clone()?));
@@ -142,22 +145,25 @@ fn qualify_requested(
 }
 
 /// The same requests of an action, where each name is that of what it resolves to.
-fn qualify_requests(
-    requests: ActionRequests<ConditionalName>,
+fn qualify_requests<N: ResolveWithin + Drop>(
+    requests: ActionRequests<N>,
+    namespace: Option<&InternalName>,
     all_defs: &AllDefs,
 ) -> Result<ActionRequests<InternalName>, SchemaError>
     ensures resolved { IfOk result (λ it. ResolvesRequests (held_names all_defs.now)
-        (fragment_requests Conditional positional_reference (Some requests))
+        (fragment_requests N (N.refer (namespace_name namespace.entry)) (Some requests))
         (fragment_requests Full resolved_reference (Some it))) }
     ensures locs { IfOk result (λ it.
-        requests_locs Full no_locs (Some it) ≡ requests_locs Conditional no_locs (Some requests)) }
+        requests_locs Full no_locs (Some it) ≡ requests_locs N no_locs (Some requests)) }
     ensures unreserved { OnOk result (NoneIsReserved (held_names all_defs.now)
-        (IsPrincipalOrResource (fragment_requests Conditional positional_reference
+        (IsPrincipalOrResource (fragment_requests N (N.refer (namespace_name namespace.entry))
         (Some requests)))) }
     ensures fault { IfErr result (λ error. IsUnresolvable (held_names all_defs.now)
-        (HasToResolveFor (fragment_requests Conditional positional_reference (Some requests)))
+        (HasToResolveFor (fragment_requests N (N.refer (namespace_name namespace.entry))
+        (Some requests)))
         (λ parent. ⊥)
-        (IsPrincipalOrResource (fragment_requests Conditional positional_reference (Some requests)))
+        (IsPrincipalOrResource (fragment_requests N (N.refer (namespace_name namespace.entry))
+        (Some requests)))
         (fault_of error)) }
 {
     let ActionRequests {
@@ -165,14 +171,56 @@ fn qualify_requests(
         resources,
         context,
     } = requests;
-    let principals = qualify_requested(principals, all_defs)?;
-    let resources = qualify_requested(resources, all_defs)?;
-    let context = qualify_type(context, all_defs)?;
+    let principals = qualify_requested(principals, namespace, all_defs)?;
+    let resources = qualify_requested(resources, namespace, all_defs)?;
+    let context = qualify_type(context, namespace, all_defs)?;
     Ok(ActionRequests {
         principals,
         resources,
         context,
     })
+}
+
+impl<N: ResolveWithin + Drop> ActionFragment<N, ConditionalName> {
+    /// The same action, where each name that is written in the namespace is that of what it
+    /// resolves to.
+    pub(crate) fn qualify_within(
+        self,
+        namespace: Option<&InternalName>,
+        all_defs: &AllDefs,
+    ) -> Result<ActionFragment<InternalName, EntityType>, SchemaError>
+        ensures resolved { IfOk result (λ it. ResolvesBody (held_names all_defs.now)
+            (action (action_fragment_body N (N.refer (namespace_name namespace.entry)) Conditional
+            positional_reference self))
+            (action (action_fragment_body Full resolved_reference ActionEntityType
+            resolved_action_type it))) }
+        ensures locs { IfOk result (λ it.
+            action_fragment_locs Full no_locs ActionEntityType no_locs it
+            ≡ action_fragment_locs N no_locs Conditional no_locs self) }
+        ensures unreserved { OnOk result (NoneIsReserved (held_names all_defs.now)
+            (IsRequestedIn
+            (action (action_fragment_body N (N.refer (namespace_name namespace.entry)) Conditional
+            positional_reference self)))) }
+        ensures fault { IfErr result (λ error. IsUnresolvableIn (held_names all_defs.now)
+            (action (action_fragment_body N (N.refer (namespace_name namespace.entry)) Conditional
+            positional_reference self)) (fault_of error)) }
+    {
+        let ActionFragment {
+            requests,
+            parents,
+            loc,
+        } = self;
+        let parents = qualify_parents(parents, all_defs)?;
+        let requests = match requests {
+            None => None,
+            Some(requests) => Some(qualify_requests(requests, namespace, all_defs)?),
+        };
+        Ok(ActionFragment {
+            requests,
+            parents,
+            loc,
+        })
+    }
 }
 
 impl ActionFragment<ConditionalName, ConditionalName> {
@@ -204,21 +252,7 @@ impl ActionFragment<ConditionalName, ConditionalName> {
             (action (action_fragment_body Conditional positional_reference Conditional
             positional_reference self)) (fault_of error)) }
     {
-        let ActionFragment {
-            requests,
-            parents,
-            loc,
-        } = self;
-        let parents = qualify_parents(parents, all_defs)?;
-        let requests = match requests {
-            None => None,
-            Some(requests) => Some(qualify_requests(requests, all_defs)?),
-        };
-        Ok(ActionFragment {
-            requests,
-            parents,
-            loc,
-        })
+        self.qualify_within(None, all_defs)
     }
 }
 

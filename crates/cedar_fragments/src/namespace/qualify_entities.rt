@@ -1,12 +1,12 @@
-//! Common types and entity types over conditional names become those over full names.
+//! Common types and entity types over names that aren't resolved yet become those over full names.
 
 ghost use Rattle.std.specs.Prelude.{◌≡◌, IfOk, IfErr, Some};
 ghost use Rattle.std.specs.Option.{option_map};
 ghost use Rattle.cedar_below.specs.declared.internal_name.InternalName.{InternalName as Full};
-ghost use Rattle.cedar_fragments.specs.Words.{Expr, HasToResolve, HasToResolveIn, IsRefusedAmong, Refers, ResolvesBag, ResolvesEntityBody, ResolvesTags, common_type_declarations, common_types_locs, entity_fragment_locs, entity_type, entity_type_declarations, entity_types_locs, fragment_body, held_names, no_locs, positional_expr, positional_reference, resolved_expr, resolved_reference, tags_locs};
+ghost use Rattle.cedar_fragments.specs.Words.{Expr, HasToResolve, HasToResolveIn, IsRefusedAmong, Refers, ResolvesBag, ResolvesEntityBody, ResolvesTags, common_type_declarations, common_types_locs, entity_fragment_locs, entity_type, entity_type_declarations, entity_types_locs, fragment_body, held_names, namespace_name, no_locs, positional_reference, resolved_expr, resolved_reference, tags_locs, type_expr};
 ghost use Rattle.cedar_names.specs.declared.json_schema.conditional_name.ConditionalName.{ConditionalName as Conditional};
 
-use crate::defs::AllDefs;
+use crate::defs::{AllDefs, ResolveWithin};
 use crate::namespace::common_types::{CommonTypeDef, CommonTypeDefs};
 use crate::namespace::entity_type_def::EntityTypeDef;
 use crate::namespace::entity_types::{EntityTypeFragment, EntityTypesDef};
@@ -32,7 +32,7 @@ impl CommonTypeDefs<ConditionalName> {
         let mut defs = Vec::new(all_defs.alloc);
         for def in self.defs {
             let CommonTypeDef { name, ty } = def;
-            let ty = qualify_type(ty, all_defs)?;
+            let ty = qualify_type(ty, None, all_defs)?;
             defs.push(CommonTypeDef { name, ty })?;
         }
         Ok(CommonTypeDefs { defs })
@@ -40,24 +40,66 @@ impl CommonTypeDefs<ConditionalName> {
 }
 
 /// The same type of tags, if there is one, where each name is that of what it resolves to.
-fn qualify_tags(
-    tags: Option<Type<ConditionalName>>,
+fn qualify_tags<N: ResolveWithin + Drop>(
+    tags: Option<Type<N>>,
+    namespace: Option<&InternalName>,
     all_defs: &AllDefs,
 ) -> Result<Option<Type<InternalName>>, QualifyError>
-    ensures resolved { IfOk result (λ it.
-        ResolvesTags (held_names all_defs.now) (option_map positional_expr tags)
+    ensures resolved { IfOk result (λ it. ResolvesTags (held_names all_defs.now)
+        (option_map (type_expr N (N.refer (namespace_name namespace.entry))) tags)
         (option_map resolved_expr it)) }
-    ensures locs { IfOk result (λ it.
-        tags_locs Full no_locs it ≡ tags_locs Conditional no_locs tags) }
+    ensures locs { IfOk result (λ it. tags_locs Full no_locs it ≡ tags_locs N no_locs tags) }
     ensures refused { IfErr result (IsRefusedAmong (held_names all_defs.now)
-        (λ reference. (expr : Expr) × (option_map positional_expr tags ≡ Some expr)
+        (λ reference. (expr : Expr)
+        × (option_map (type_expr N (N.refer (namespace_name namespace.entry))) tags ≡ Some expr)
         × Refers expr reference)) }
 {
     match tags {
         None => Ok(None),
         Some(ty) => {
-            let ty = qualify_type(ty, all_defs)?;
+            let ty = qualify_type(ty, namespace, all_defs)?;
             Ok(Some(ty))
+        }
+    }
+}
+
+impl<N: ResolveWithin + Drop> EntityTypeFragment<N> {
+    /// The same entity type, where each name that is written in the namespace is that of what it
+    /// resolves to.
+    pub(crate) fn qualify_within(
+        self,
+        namespace: Option<&InternalName>,
+        all_defs: &AllDefs,
+    ) -> Result<EntityTypeFragment<InternalName>, QualifyError>
+        ensures resolved { IfOk result (λ it. ResolvesEntityBody (held_names all_defs.now)
+            (fragment_body N (N.refer (namespace_name namespace.entry)) self)
+            (fragment_body Full resolved_reference it)) }
+        ensures locs { IfOk result (λ it.
+            entity_fragment_locs Full no_locs it ≡ entity_fragment_locs N no_locs self) }
+        ensures refused { IfErr result (IsRefusedAmong (held_names all_defs.now)
+            (HasToResolveIn (entity_type
+            (fragment_body N (N.refer (namespace_name namespace.entry)) self)))) }
+    {
+        match self {
+            EntityTypeFragment::Standard {
+                attributes,
+                parents,
+                tags,
+            } => {
+                let parents = qualify_entity_types(parents, namespace, all_defs)?;
+                let attributes = qualify_type(attributes.0, namespace, all_defs)?;
+                let tags = qualify_tags(tags, namespace, all_defs)?;
+                Ok(EntityTypeFragment::Standard {
+                    attributes: AttributesOrContext(attributes),
+                    parents,
+                    tags,
+                })
+            }
+            EntityTypeFragment::Enum(choices) => Ok(EntityTypeFragment::Enum(choices)),
+            EntityTypeFragment::External { parents } => {
+                let parents = qualify_entity_types(parents, namespace, all_defs)?;
+                Ok(EntityTypeFragment::External { parents })
+            }
         }
     }
 }
@@ -77,27 +119,7 @@ impl EntityTypeFragment<ConditionalName> {
         ensures refused { IfErr result (IsRefusedAmong (held_names all_defs.now)
             (HasToResolveIn (entity_type (fragment_body Conditional positional_reference self)))) }
     {
-        match self {
-            EntityTypeFragment::Standard {
-                attributes,
-                parents,
-                tags,
-            } => {
-                let parents = qualify_entity_types(parents, all_defs)?;
-                let attributes = qualify_type(attributes.0, all_defs)?;
-                let tags = qualify_tags(tags, all_defs)?;
-                Ok(EntityTypeFragment::Standard {
-                    attributes: AttributesOrContext(attributes),
-                    parents,
-                    tags,
-                })
-            }
-            EntityTypeFragment::Enum(choices) => Ok(EntityTypeFragment::Enum(choices)),
-            EntityTypeFragment::External { parents } => {
-                let parents = qualify_entity_types(parents, all_defs)?;
-                Ok(EntityTypeFragment::External { parents })
-            }
-        }
+        self.qualify_within(None, all_defs)
     }
 }
 

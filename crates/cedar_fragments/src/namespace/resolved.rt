@@ -51,8 +51,7 @@ impl CommonTypeDefs<InternalName> {
         for (id, common) in written {
             let CommonType { ty, loc } = common;
             let name = full_name(all_defs.alloc, namespace, id.into_id().into_id(), loc)?;
-            let ty = ty.conditionally_qualify_type_references(all_defs.alloc, namespace)?;
-            let ty = qualify_type(ty, all_defs)?;
+            let ty = qualify_type(ty, namespace, all_defs)?;
             defs.push(CommonTypeDef { name, ty })?;
         }
         Ok(CommonTypeDefs { defs })
@@ -84,8 +83,8 @@ impl EntityTypesDef<InternalName> {
         let mut defs = Vec::with_capacity(alloc, written.len())?;
         for (id, declared) in written {
             let name = entity_type_name(alloc, namespace, id, declared.loc)?;
-            let fragment = EntityTypeFragment::from_raw_entity_type(alloc, namespace, declared)?;
-            let fragment = fragment.fully_qualify_type_references(all_defs)?;
+            let written = EntityTypeFragment::as_written(alloc, declared);
+            let fragment = written.qualify_within(namespace, all_defs)?;
             defs.push(EntityTypeDef { name, fragment })?;
         }
         Ok(EntityTypesDef { defs })
@@ -126,8 +125,8 @@ impl ActionsDef<InternalName, EntityType> {
         let ty = action_type_name(alloc, namespace)?;
         for (id, declared) in written {
             let uid = action_uid(&ty, id, declared.defn_loc)?;
-            let fragment = ActionFragment::from_raw_action(alloc, namespace, declared)?;
-            let fragment = fragment.fully_qualify_type_references(all_defs)?;
+            let written = ActionFragment::as_written(alloc, namespace, declared)?;
+            let fragment = written.qualify_within(namespace, all_defs)?;
             defs.push(ActionDef { uid, fragment })?;
         }
         Ok(ActionsDef { defs })

@@ -4,4 +4,4 @@ use Rattle.cedar_fragments.specs.Words.{IsReserved, name_of}
 use Rattle.cedar_fragments.proofs.namespace.qualify_actions.qualify_requested.Given as goal
 
 abbrev pub invariant-loop-name : goal.invariant-loop-name
-invariant-loop-name l = AllByRecursion (λ name. ¬ IsReserved name) (map name_of (take l.name-index l.name-items))
+invariant-loop-name g l = AllByRecursion (λ name. ¬ IsReserved name) (map name_of (take l.name-index l.name-items))

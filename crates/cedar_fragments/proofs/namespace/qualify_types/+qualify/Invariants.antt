@@ -1,11 +1,12 @@
 use Rattle.cedar_fragments.proofs.Pairwise.{RelatedSoFar}
 use Rattle.cedar_fragments.proofs.LocLemmas.{KeepsAttribute}
 use Rattle.cedar_fragments.proofs.QualifiedLemmas.{ResolvesAttribute}
-use Rattle.cedar_fragments.specs.Words.{ConditionalName, held_names, out-RecordType}
+use Rattle.cedar_fragments.specs.Words.{held_names, namespace_name, out-RecordType}
 use Rattle.cedar_fragments.proofs.namespace.qualify_types.+qualify.Given as goal
 
 abbrev pub invariant-qualify_record-loop-name : goal.invariant-qualify_record-loop-name
-invariant-qualify_record-loop-name l =
-    RelatedSoFar (ResolvesAttribute (held_names l.all_defs)) (out-RecordType ConditionalName l.fn.record_type).attributes.entries
-    l.attributes.entries l.name-iterator
-    × RelatedSoFar KeepsAttribute (out-RecordType ConditionalName l.fn.record_type).attributes.entries l.attributes.entries l.name-iterator
+invariant-qualify_record-loop-name g l =
+    let refer = g.N.ResolveWithin.refer (namespace_name l.namespace) in
+    let all = (out-RecordType g.row.N.Denot l.fn.record_type).attributes.entries in
+    RelatedSoFar (ResolvesAttribute (held_names l.all_defs) refer) all l.attributes.entries l.name-iterator
+    × RelatedSoFar KeepsAttribute all l.attributes.entries l.name-iterator

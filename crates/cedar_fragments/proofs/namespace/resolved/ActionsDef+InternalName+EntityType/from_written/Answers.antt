@@ -39,26 +39,26 @@ returns-in_err-uid-clause-fault c =
     (action_body RawName (raw_reference namespace) namespace c.in-Some.declared) _ among _ c.in_ok-ty.ensures c.in_err-uid.ensures.fault))
 
 -- no action has attributes
-pub from_raw_action-requires : goal.from_raw_action-requires
-from_raw_action-requires c =
+pub as_written-requires : goal.as_written-requires
+as_written-requires c =
     next_has_none c.args.written.entries c.loop-id.id-iterator c.next.new.self c.loop-id.invariant.done
     (c.in-Some.id, c.in-Some.declared) c.in_ok-refuse_attributes.ensures.none c.loop-id.invariant.split c.in-Some.ensures.steps
 
 -- what can't be resolved of an action can't be of all
-pub returns-in_err-fragment-2-clause-fault : goal.returns-in_err-fragment-2-clause-fault
-returns-in_err-fragment-2-clause-fault c =
+pub returns-in_err-fragment-clause-fault : goal.returns-in_err-fragment-clause-fault
+returns-in_err-fragment-clause-fault c =
     let names = held_names c.args.all_defs.now in
     let namespace = namespace_name c.args.namespace in
     let bag = action_declarations RawName (raw_reference namespace) namespace c.args.written.entries in
     let among = turn_among _ _ _ _ _ c.next.new.self _ (c.in-Some.id, c.in-Some.declared) c.in-Some.ensures.steps c.loop-id.invariant in
-    exit_holds _ _ _ c.from_residual-in_err-fragment-2.ensures.1
-    (inl (unresolvable_declaration names bag _ among _ (rw c.in_ok-fragment.ensures at c.in_err-fragment-2.ensures.fault)))
+    exit_holds _ _ _ c.from_residual-in_err-fragment.ensures.1
+    (inl (unresolvable_declaration names bag _ among _ (rw c.in_ok-written.ensures at c.in_err-fragment.ensures.fault)))
 
 -- it names no actions with attributes
-pub returns-in_err-fragment-2-clause-all_named : goal.returns-in_err-fragment-2-clause-all_named
-returns-in_err-fragment-2-clause-all_named c =
-    exit_holds _ _ _ c.from_residual-in_err-fragment-2.ensures.1
-    (none_named _ _ _ (unresolvable_names_none (held_names c.args.all_defs.now) _ _ _ _ c.in_err-fragment-2.ensures.fault))
+pub returns-in_err-fragment-clause-all_named : goal.returns-in_err-fragment-clause-all_named
+returns-in_err-fragment-clause-all_named c =
+    exit_holds _ _ _ c.from_residual-in_err-fragment.ensures.1
+    (none_named _ _ _ (unresolvable_names_none (held_names c.args.all_defs.now) _ _ _ _ c.in_err-fragment.ensures.fault))
 
 -- one more action is resolved
 pub loop-id-preserved : goal.loop-id-preserved
@@ -68,9 +68,9 @@ loop-id-preserved c =
     c.in_ok-push.ensures.items
     (resolves_action_within (held_names c.args.all_defs.now) namespace (string_bytes c.in-Some.id)
     (action (action_body RawName (raw_reference namespace) namespace c.in-Some.declared)) _ _
-    (action (action_fragment_body InternalName resolved_reference EntityType resolved_action_type c.in_ok-fragment-2.fragment))
-    (c.in_ok-uid.ensures.ty ∙ c.in_ok-ty.ensures) c.in_ok-uid.ensures.eid (ap action c.in_ok-fragment.ensures)
-    c.in_ok-fragment-2.ensures.resolved c.in_ok-fragment-2.ensures.unreserved)
+    (action (action_fragment_body InternalName resolved_reference EntityType resolved_action_type c.in_ok-fragment.fragment))
+    (c.in_ok-uid.ensures.ty ∙ c.in_ok-ty.ensures) c.in_ok-uid.ensures.eid (ap action c.in_ok-written.ensures)
+    c.in_ok-fragment.ensures.resolved c.in_ok-fragment.ensures.unreserved)
     c.loop-id.invariant
 
 -- at the end all actions are resolved

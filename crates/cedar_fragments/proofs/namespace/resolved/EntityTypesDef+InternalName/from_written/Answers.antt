@@ -18,14 +18,14 @@ returns-in_err-name-clause-fault c =
     c.in_err-name.ensures.fault))
 
 -- references that an entity type refuses can't be resolved in the declarations
-pub returns-in_err-fragment-2-clause-fault : goal.returns-in_err-fragment-2-clause-fault
-returns-in_err-fragment-2-clause-fault c =
+pub returns-in_err-fragment-clause-fault : goal.returns-in_err-fragment-clause-fault
+returns-in_err-fragment-clause-fault c =
     let names = held_names c.args.all_defs.now in
     let namespace = namespace_name c.args.namespace in
     let bag = entity_declarations RawName (raw_reference namespace) namespace c.args.written.entries in
     let among = turn_among _ _ _ _ _ c.next.new.self _ (c.in-Some.id, c.in-Some.declared) c.in-Some.ensures.steps c.loop-id.invariant in
-    exit_shows (IsWrittenFault names bag) _ _ c.from_residual-in_err-fragment-2.ensures.1
-    (inl (refused_declaration names bag _ among _ (rw c.in_ok-fragment.ensures at c.in_err-fragment-2.ensures.refused)))
+    exit_shows (IsWrittenFault names bag) _ _ c.from_residual-in_err-fragment.ensures.1
+    (inl (refused_declaration names bag _ among _ (rw (c.as_written-written.ensures namespace) at c.in_err-fragment.ensures.refused)))
 
 -- one more entity type is resolved
 pub loop-id-preserved : goal.loop-id-preserved
@@ -35,6 +35,6 @@ loop-id-preserved c =
     c.in_ok-push.ensures.items
     (resolves_within (held_names c.args.all_defs.now) namespace (unreserved_id_text c.in-Some.id)
     (entity_type (raw_entity_body namespace c.in-Some.declared)) _ _
-    (entity_type (fragment_body InternalName resolved_reference c.in_ok-fragment-2.fragment)) c.in_ok-name.ensures.name
-    (ap entity_type c.in_ok-fragment.ensures) c.in_ok-fragment-2.ensures.resolved)
+    (entity_type (fragment_body InternalName resolved_reference c.in_ok-fragment.fragment)) c.in_ok-name.ensures.name
+    (ap entity_type (c.as_written-written.ensures namespace)) c.in_ok-fragment.ensures.resolved)
     c.loop-id.invariant
