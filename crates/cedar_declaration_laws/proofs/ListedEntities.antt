@@ -14,12 +14,12 @@ decide_kind (defined_action principals resources context) = inl tt
 decide_kind external_action = inr (λ is. is)
 
 -- a schema has a defined action of the uid or hasn't
-pub decide_defines : (schema : PlainSchema) (uid : PlainUid) → IsDecided (DefinesAction schema uid)
+decide_defines : (schema : PlainSchema) (uid : PlainUid) → IsDecided (DefinesAction schema uid)
 decide_defines schema uid =
     decide_stands decide_uids schema.actions (λ action. IsDefinedKind action.kind) (λ action. decide_kind action.kind) uid
 
 -- a schema lists the one action among the descendants of the other or doesn't
-pub decide_lists : (schema : PlainSchema) (lower upper : PlainUid) → IsDecided (ListsDescendantAction schema lower upper)
+decide_lists : (schema : PlainSchema) (lower upper : PlainUid) → IsDecided (ListsDescendantAction schema lower upper)
 decide_lists schema lower upper =
     decide_stands decide_uids schema.actions (λ action. Contains action.descendants lower)
     (λ action. decide_among decide_uids action.descendants lower) upper

@@ -1,11 +1,10 @@
--- What is merely known of the entities of actions and of environments is known: what it says is found by search.
-use Rattle.std.proofs.Common.{◌≡◌, List, map, ap, inl, inr, refl}
+-- What is merely known of environments is known: what it says is found by search.
+use Rattle.std.proofs.Common.{◌≡◌, List, ap, inl, inr}
 use Rattle.std.proofs.Math.Logic.{∥∥₁_map, ∥∥₁_elim}
 use Rattle.std.proofs.Props.{props}
 use Rattle.std.proofs.lemmas.Grind.{not_there}
-use Rattle.cedar_declaration_laws.specs.Words.{ActionEntity, ActionKind, AreActionEntities, AreEnvironmentsOf, Entries, Environment, IsEntityOfAction, IsRequestOf, PlainSchema, defined_action, entry, external_action, no_entry}
+use Rattle.cedar_declaration_laws.specs.Words.{ActionKind, AreEnvironmentsOf, Environment, IsRequestOf, PlainSchema, defined_action, external_action}
 use Rattle.cedar_declaration_laws.proofs.ListDecisions.{decide_stands}
-use Rattle.cedar_declaration_laws.proofs.ListedEntities.{decide_defines, decide_lists}
 use Rattle.cedar_declaration_laws.proofs.TypeDecisions.{decide_like, decide_names, decide_types, decide_uids}
 use Rattle.cedar_type_rules.proofs.Decisions.{IsDecided, decide_among, decide_both}
 
@@ -13,32 +12,6 @@ use Rattle.cedar_type_rules.proofs.Decisions.{IsDecided, decide_among, decide_bo
 known : {A : Type 0} → IsDecided A → ∥ A ∥₁ → A
 known (inl a) mere = a
 known (inr none) mere = absurd (not_there mere none)
-
--- there is an entry or none
-decide_none : (entries : Entries) → IsDecided (entries ≡ no_entry)
-decide_none no_entry = inl refl
-decide_none (entry name value rest) = inr (λ none. absurd cc)
-
--- the entity of an action is known where it is merely known to be one
-known_entity : (schema : PlainSchema) (it : ActionEntity) → ∥ IsEntityOfAction schema it ∥₁ → IsEntityOfAction schema it
-known_entity schema it mere = record {
-  defined = known (decide_defines schema it.uid) (∥∥₁_map mere (λ is. is.defined));
-  attributes = known (decide_none it.attributes) (∥∥₁_map mere (λ is. is.attributes));
-  tags = known (decide_none it.tags) (∥∥₁_map mere (λ is. is.tags));
-  ancestors = λ upper. (
-    λ among. known (decide_lists schema it.uid upper) (∥∥₁_map mere (λ is. (is.ancestors upper).0 among)),
-    λ lists. known (decide_among decide_uids it.ancestors upper) (∥∥₁_map mere (λ is. (is.ancestors upper).1 lists)),
-  );
-}
-
--- the entities of the actions of a schema are known where they are merely known
-pub known_entities : (schema : PlainSchema) → ∥ AreActionEntities schema ∥₁ → AreActionEntities schema
-known_entities schema mere = record {
-  entities = λ it among. known_entity schema it (∥∥₁_map mere (λ all. all.entities it among));
-  each = λ uid defines. known (decide_among decide_uids (map (λ it. it.uid) schema.action_entities) uid)
-      (∥∥₁_map mere (λ all. all.each uid defines));
-  in_order = ∥∥₁_elim mere (Prim.hlevel props) (λ all. all.in_order);
-}
 
 -- environments are the same or not
 decide_environments : (a b : Environment) → IsDecided (a ≡ b)

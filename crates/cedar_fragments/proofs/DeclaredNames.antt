@@ -16,7 +16,6 @@ uid_declared uid body is =
     (λ i. record { ty = record { base = sym is i; path = path_within-namespace_of uid.ty.path i }; eid = uid.eid })
 
 module _ {P : Type 0} (read : Declaration → List P) where
-
   -- where each declaration gives a name, some give those names
   pub each_read : {D : Type 0} (f : D → Declaration) (key : D → P) → ((d : D) → read (f d) ≡ key d ∷ []) → (defs : List D)
       → flat_map read (map f defs) ≡ map key defs

@@ -12,7 +12,6 @@ pub mod NamespaceLemmas
 mod ReadySteps
 mod ResolvedOver
 pub mod SchemaEquality
-mod SameParts
 mod SchemaKeys
 mod SchemaNames
 pub mod ShownLemmas

@@ -29,7 +29,7 @@ pub use Rattle.cedar_schema_elements.specs.declared.action_id.ValidatorActionId.
 pub use Rattle.cedar_schema_elements.specs.declared.entity_type.ValidatorEntityType.{ValidatorEntityType}
 pub use Rattle.cedar_schema_elements.specs.declared.entity_type_kind.ValidatorEntityTypeKind.{ValidatorEntityTypeKind}
 pub use Rattle.cedar_queries.specs.Words.{AreAttributesOf, AreCleanTypes, AreDeclaredTypes, AreExactlyKnown, AreKnownOfAll, IsIncomplete, IsKnownType, IsKnownUid, MayBeIn, MayHaveAttribute, MayHaveTags, action_at, action_descendants, actions_for, all_principals, all_resources, context_at, declared_fields, descendants_of, environments_left, groups, has_name, is_nonempty, leaves_of, pending_types, schema_leaves, types_above, unresolved, unresolved_left}
-pub use Rattle.cedar_validation.specs.Words.{IsActionCopied, IsTypeCopied, last_named, last_of_uid, whole_schema}
+pub use Rattle.cedar_validation.specs.Words.{IsActionCopied, IsTypeCopied, last_named, last_of_uid}
 pub use Rattle.cedar_schema_writer.specs.Words.{AreProper, Refuses}
 pub use Rattle.cedar_elaboration.specs.Words.{AreElaborated, AreTypesOf, CommonTypesAreSound, Covers, elaborated_types, set_names}
 pub use Rattle.cedar_elaboration.specs.declared.type_scope.TypeScope.{TypeScope}

@@ -39,7 +39,8 @@ schema_with types actions entities = record {
 -- the uids of the actions that list the one among their descendants, in the order of the actions
 abbrev pub listed_uppers : List (PlainUid × SchemaAction) → PlainUid → List PlainUid
 listed_uppers actions lower = flat_map (λ it.
-    if list_any (λ below. is_eq (uid_cmp below lower)) it.1.descendants then it.0 ∷ [] else []) actions
+    if list_any (λ below. is_eq (uid_cmp below lower)) it.1.descendants then it.0 ∷ [] else [])
+    actions
 
 -- an entity where the action is defined, and none where it is external
 abbrev pub entity_if_defined : ActionKind → ActionEntity → List ActionEntity

@@ -2,7 +2,7 @@
 
 ghost use Rattle.std.specs.Prelude.{◌≡◌, Contains, IfErr, IfOk, IsTrue, List, OnOk, map};
 ghost use Rattle.cedar_schema_elements.specs.ValidatorActionId as action_specs;
-ghost use Rattle.cedar_validation.specs.Words.{Chain, ClosesAction, ClosesType, ActionEntity, HoldsPairwise, IsClosedOf, IsListFault, IsRefusal, LeadsTo, ListsDescendantAction, PlainUid, action_graph_fault, fault_of, plain_action_entry, plain_entry, plain_schema, type_graph_fault};
+ghost use Rattle.cedar_validation.specs.Words.{ActionEntity, Chain, ClosesAction, ClosesType, HoldsPairwise, IsClosedOf, IsListFault, IsRefusal, LeadsTo, ListsDescendantAction, PlainUid, action_graph_fault, fault_of, plain_action_entry, plain_entry, plain_schema, type_graph_fault};
 ghost use Rattle.cedar_schema_elements.specs.declared.action_id.ValidatorActionId.{ValidatorActionId as Action};
 ghost use Rattle.cedar_below.specs.declared.entity_type.EntityType.{EntityType as Name};
 ghost use Rattle.cedar_below.specs.declared.entity_uid.EntityUID.{EntityUID as Uid};
@@ -75,10 +75,12 @@ pub(crate) fn closed_types(
 ) -> Result<Types, SchemaError>
     ensures located { IfOk result (λ closed.
         type_specs.AreLocatedAsKeys types.entries → type_specs.AreLocatedAsKeys closed.entries) }
-    ensures closed { IfOk result (λ closed. (actions : List (Uid × Action)) (entities : List ActionEntity)
+    ensures closed { IfOk result (λ closed.
+        (actions : List (Uid × Action)) (entities : List ActionEntity)
         → HoldsPairwise (ClosesType (plain_schema types.entries actions entities))
         (map plain_entry types.entries) (map plain_entry closed.entries)) }
-    ensures fault { IfErr result (λ error. (actions : List (Uid × Action)) (entities : List ActionEntity)
+    ensures fault { IfErr result (λ error.
+        (actions : List (Uid × Action)) (entities : List ActionEntity)
         → IsRefusal (plain_schema types.entries actions entities) (fault_of error)) }
 {
     match closed_nodes::<EntityType, ValidatorEntityType>(alloc, types, false) {
@@ -95,13 +97,15 @@ pub(crate) fn closed_actions(
 ) -> Result<Actions, SchemaError>
     ensures located { IfOk result (λ closed. action_specs.AreLocatedAsKeys actions.entries
         → action_specs.AreLocatedAsKeys closed.entries) }
-    ensures closed { IfOk result (λ closed. (types : List (Name × Node)) (entities : List ActionEntity)
+    ensures closed { IfOk result (λ closed.
+        (types : List (Name × Node)) (entities : List ActionEntity)
         → HoldsPairwise (ClosesAction (plain_schema types actions.entries entities))
         (map plain_action_entry actions.entries) (map plain_action_entry closed.entries)) }
     ensures acyclic { OnOk result ((types : List (Name × Node)) (entities : List ActionEntity)
         (uid : PlainUid)
         → ¬ Chain (ListsDescendantAction (plain_schema types actions.entries entities)) uid uid) }
-    ensures fault { IfErr result (λ error. (types : List (Name × Node)) (entities : List ActionEntity)
+    ensures fault { IfErr result (λ error.
+        (types : List (Name × Node)) (entities : List ActionEntity)
         → IsRefusal (plain_schema types actions.entries entities) (fault_of error)) }
 {
     match closed_nodes::<EntityUID, ValidatorActionId>(alloc, actions, true) {

@@ -2,7 +2,7 @@
 
 ghost use Rattle.std.specs.Prelude.{◌≡◌, ◌⊎◌, IfErr, IfOk, List, OnOk};
 ghost use Rattle.cedar_schema_elements.specs.ValidatorActionId as action_specs;
-ghost use Rattle.cedar_validation.specs.Words.{AreMentionsSound, AreNamesSound, ClosesSchema, ActionEntity, IsClosed, IsRefusal, IsSchemaFault, IsValidSchema, fault_of, out_of_memory, plain_parts, plain_schema, whole_schema};
+ghost use Rattle.cedar_validation.specs.Words.{ActionEntity, AreMentionsSound, AreNamesSound, ClosesSchema, IsClosed, IsRefusal, IsSchemaFault, IsValidSchema, fault_of, out_of_memory, plain_parts, plain_schema, whole_schema};
 ghost use Rattle.cedar_schema_elements.specs.ValidatorEntityType as type_specs;
 
 use crate::closing::{closed_actions, closed_types};

@@ -1,6 +1,6 @@
 use Rattle.std.proofs.Common.{◌≡◌, ◌⊎◌, List, inl, inr}
 use Rattle.std.proofs.lemmas.Result.{IfErr-weaker, IfOk-weaker, on_ok_weaker}
-use Rattle.cedar_validation.specs.Words.{ClosesSchema, ActionEntity, fault_of, plain_schema, whole_schema}
+use Rattle.cedar_validation.specs.Words.{ActionEntity, ClosesSchema, fault_of, plain_schema, whole_schema}
 use Rattle.cedar_validation.proofs.CopiedParts.{closes_as_copy, fault_of_copy, valid_as_copy}
 use Rattle.cedar_validation.proofs.CopyLemmas.{action_copies_located, type_copies_located}
 use Rattle.cedar_validation.proofs.validating.validate_copies.Goals as goal
