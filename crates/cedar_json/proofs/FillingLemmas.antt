@@ -1,5 +1,5 @@
 -- Pairs that wait before they are put into a map.
-use Rattle.std.proofs.Common.{◌≡◌, ℕ, suc, ◌-◌, ◌++◌, List, [], ◌∷◌, length, get_or, Bool, true, false, ltb, ltb-true, ltb-false, All, subst, refl, ap, sym, ◌∙◌, arith}
+use Rattle.std.proofs.Common.{◌≡◌, ◌≤◌, ℕ, suc, ◌-◌, ◌++◌, List, [], ◌∷◌, length, get_or, Bool, true, false, ltb, ltb-true, ltb-false, All, subst, refl, ap, sym, ◌∙◌, arith}
 use Rattle.std.specs.BTreeMap.{insert_entry}
 use Rattle.std.specs.Cmp.{IsTotalOrder}
 use Rattle.std.specs.Ordering.{ordering_reverse}
@@ -26,9 +26,23 @@ module _ {K V : Type 0} (R : K → K → Ordering) where
   all_put_push entries [] key value = refl
   all_put_push entries (pair ∷ pairs) key value = all_put_push (insert_entry R entries pair.0 pair.1) pairs key value
 
+  -- where the first pair is put, all put together stay the same
+  pub all_put_first : (entries first : List (K × V)) (pairs rest : List (K × V)) (pair : K × V)
+      → first ≡ insert_entry R entries pair.0 pair.1 → pairs ≡ pair ∷ rest → all_put R first rest ≡ all_put R entries pairs
+  all_put_first entries first pairs rest pair put is = rw (put, is) refl
+
+  -- where no pair waits, the entries are all there are
+  pub all_put_none : (entries pairs : List (K × V)) → length pairs ≤ 0 → all_put R entries pairs ≡ entries
+  all_put_none entries [] none = refl
+  all_put_none entries (pair ∷ pairs) none = absurd (omega (arith, none))
+
   -- keys behind the first one ascend too
   pub ascending_tail : (pair : K × V) (pairs : List (K × V)) → IsAscending R (pair ∷ pairs) → IsAscending R pairs
   ascending_tail pair pairs all i j d less within = all (suc i) (suc j) d (omega arith) (omega arith)
+
+  -- so do those that are left where the first pair leaves
+  pub ascending_rest : (pairs rest : List (K × V)) (pair : K × V) → pairs ≡ pair ∷ rest → IsAscending R pairs → IsAscending R rest
+  ascending_rest pairs rest pair is all = ascending_tail pair rest (subst (λ these. IsAscending R these) is all)
 
   -- a key that is greater than all extends them
   pub ascending_push : (pairs : List (K × V)) (key : K) (value : V) → IsAscending R pairs → All (λ (pair : K × V). R pair.0 key ≡ Less) pairs

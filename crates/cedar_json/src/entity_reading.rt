@@ -4,7 +4,6 @@ ghost use Rattle.std.specs.Prelude.{◌≡◌, ◌≢◌, Option, Some, None, Ma
 ghost use Rattle.json.specs.Find.{as_str, get};
 ghost use Rattle.json.specs.Value.{value_view};
 ghost use Rattle.cedar_json.specs.Words.{Entity, IsTrueOf, Reference, Text, WrittenEntity, body_by, choices_in, eid_text, empty_record, entity_of, entity_reference, items_of, raw_expr, raw_record, raw_reference, shape_in, standard_of, tags_in, written_entity, written_kind};
-ghost use Rattle.cedar_names.specs.declared.json_schema.entity_type.EntityTypeKind.TheVariants as kind;
 
 use crate::annotations::check_annotations;
 use crate::described::{Described, field_or_else};
@@ -130,20 +129,20 @@ fn read_standard(
     alloc: Global,
     value: &Value<'_>,
     cursor: Cursor<'_>,
-) -> Result<StandardEntityType<RawName>, Fault>
+) -> Result<EntityTypeKind<RawName>, Fault>
     ensures value { MatchResult result
-        (λ it. standard_of (value_view value.now) ≡ Some (written_kind (kind.Standard it)))
+        (λ kind. standard_of (value_view value.now) ≡ Some (written_kind kind))
         (λ fault. fault ≢ Fault.Memory → standard_of (value_view value.now) ≡ None) }
     ensures place { IfErr result (λ fault. IsTrueOf fault (value_view value.now)) }
 {
     let member_of_types = field_or_else(alloc, value, "memberOfTypes", Vec::new(alloc), cursor)?;
     let shape = shape_field(alloc, value, "shape", cursor)?;
     let tags = tags_field(alloc, value, cursor)?;
-    Ok(StandardEntityType {
+    Ok(EntityTypeKind::Standard(StandardEntityType {
         member_of_types,
         shape,
         tags,
-    })
+    }))
 }
 
 /// What a declaration says by its field `enum`.
@@ -161,7 +160,7 @@ fn read_kind(
 {
     let Some(held) = value.get("enum") else {
         check_fields(alloc, value, Row::OfEntityType)?;
-        return Ok(EntityTypeKind::Standard(read_standard(alloc, value, cursor)?));
+        return read_standard(alloc, value, cursor);
     };
     check_fields(alloc, value, Row::OfEnumeratedType)?;
     match read_choices(alloc, held, cursor.field(value, "enum")) {

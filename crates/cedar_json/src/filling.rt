@@ -19,7 +19,6 @@ const MOST_WAITING: usize = 16;
 ///
 /// A node of a map that is full is split in its middle, so that ascending keys leave each node half
 /// full. So every other pair of ascending ones waits until its node was split, and fills it then.
-#[derive(Drop)]
 pub(crate) struct Filling<K: Ord, V> {
     map: BTreeMap<K, V>,
     /// The pairs that wait, in ascending order.
@@ -34,6 +33,17 @@ impl<K: Ord, V> Model for Filling<K, V> {
     ghost view = { λ it. all_put K.cmp it.map.entries it.waiting.items };
 
     ghost invariant = { λ it. IsAscending K.cmp it.waiting.items };
+}
+
+// Written out: proofs of what holds a filling then see one call, and nothing of its parts.
+impl<K: Ord + Drop, V: Drop> Drop for Filling<K, V> {
+    fn drop(self) {
+        let Filling {
+            map: _map,
+            waiting: _waiting,
+            has_waited: _,
+        } = self;
+    }
 }
 
 /// Whether a key is greater than those of all pairs that wait.
@@ -113,10 +123,15 @@ impl<K: Ord + Drop, V: Drop> Filling<K, V> {
     }
 
     /// The map of all pairs.
-    pub(crate) fn finish(mut self) -> M<BTreeMap<K, V>>
+    pub(crate) fn finish(self) -> M<BTreeMap<K, V>>
         ensures { IfOk result (λ map. map.entries ≡ self) }
     {
-        put_all_but(0, &mut self.map, &mut self.waiting)?;
-        Ok(self.map)
+        let Filling {
+            mut map,
+            mut waiting,
+            has_waited: _,
+        } = self;
+        put_all_but(0, &mut map, &mut waiting)?;
+        Ok(map)
     }
 }

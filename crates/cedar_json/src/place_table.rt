@@ -31,7 +31,7 @@ struct Entry {
 
 /// Where the values of a text stand, in the order in which they begin.
 #[derive(Drop)]
-pub(crate) struct Places {
+pub(crate) struct ValuePlaces {
     source: u32,
     entries: Vec<Entry>,
 }
@@ -105,9 +105,9 @@ impl Listing {
     }
 }
 
-impl Places {
+impl ValuePlaces {
     /// The places of a text that is JSON, or out of memory.
-    pub(crate) fn of(alloc: Global, text: &str, source: u32) -> M<Places> {
+    pub(crate) fn of(alloc: Global, text: &str, source: u32) -> M<ValuePlaces> {
         let mut scratch = Scratch::new(alloc);
         let mut reader = Reader::new(text, &mut scratch)?;
         let mut listing = Listing {
@@ -125,7 +125,7 @@ impl Places {
             listing.take(token, place)?;
             start = next;
         }
-        Ok(Places {
+        Ok(ValuePlaces {
             source,
             entries: listing.entries,
         })
@@ -151,7 +151,7 @@ impl Places {
 /// The number of a value of a text, which a reader has beside the value.
 #[derive(Clone, Copy)]
 pub(crate) struct Cursor<'p> {
-    places: &'p Places,
+    places: &'p ValuePlaces,
     number: usize,
 }
 

@@ -109,24 +109,17 @@ pub(crate) fn stop_of(alloc: Global, text: &str) -> M<Stop>
         is_whole: false,
     };
     let mut up_to = reader.offset().min(text.len());
+    let mut too_deep = false;
     while let Some(token) = reader.next() {
         if !nesting.fits(&token) {
-            return Ok(Stop {
-                up_to,
-                too_deep: false,
-            });
+            break;
         }
-        if begins_part(&token) && nesting.open.len() >= MAX_DEPTH {
-            return Ok(Stop {
-                up_to,
-                too_deep: true,
-            });
+        too_deep = begins_part(&token) && nesting.open.len() >= MAX_DEPTH;
+        if too_deep {
+            break;
         }
         nesting.pass(&token)?;
         up_to = reader.offset().min(text.len());
     }
-    Ok(Stop {
-        up_to,
-        too_deep: false,
-    })
+    Ok(Stop { up_to, too_deep })
 }

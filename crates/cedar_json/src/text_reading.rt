@@ -7,7 +7,7 @@ ghost use Rattle.json.specs.Value.{value_view};
 ghost use Rattle.cedar_json.specs.Words.{Describes, IsFaultOf, IsRepeatIn, IsTrueOf, WrittenFragment, fragment_of, written_fragment};
 
 use crate::fault::{Fault, FaultKind, Step};
-use crate::place_table::Places;
+use crate::place_table::ValuePlaces;
 use crate::repeated_keys::{Repeat, check_keys};
 use crate::stop::stop_of;
 use crate::taken::Taken;
@@ -80,7 +80,7 @@ fn repeat_at(
         (¬ HasUniqueKeys j) × IsRepeatIn (Repeat.At steps member) j) }
     ensures { IsFaultOf text.now result }
 {
-    let Ok(places) = Places::of(alloc, text, source) else {
+    let Ok(places) = ValuePlaces::of(alloc, text, source) else {
         return JsonSchemaFault::Memory;
     };
     match place_at(alloc, value, places.cursor(), steps, Some(member)) {
@@ -111,7 +111,7 @@ fn twice_in_object(alloc: Global, text: &str, source: u32) -> JsonSchemaFault
 fn out_of_shape(
     alloc: Global,
     text: &str,
-    places: &Places,
+    places: &ValuePlaces,
     steps: Vec<Step>,
     fault: FaultKind,
 ) -> JsonSchemaFault
@@ -143,10 +143,12 @@ fn fragment_in(
     ensures exact { IfErr result (λ fault. fault ≢ JsonSchemaFault.Memory
         → fragment_of (value_view value.entry) ≡ None) }
 {
-    let Ok(places) = Places::of(alloc, text, source) else {
+    let Ok(places) = ValuePlaces::of(alloc, text, source) else {
         return Err(JsonSchemaFault::Memory);
     };
-    match Taken::take(alloc, &mut value, places.cursor()) {
+    let taken = Taken::take(alloc, &mut value, places.cursor());
+    drop(value);
+    match taken {
         Ok(namespaces) => Ok(Fragment(namespaces)),
         Err(Fault::At(steps, fault)) => Err(out_of_shape(alloc, text, &places, steps, fault)),
         Err(Fault::Memory) => Err(JsonSchemaFault::Memory),

@@ -33,3 +33,16 @@ returns g c =
     (λ is. is ∙ ap (all_put cmp ready.map.entries) c.in_ok-push_back.ensures.items
     ∙ all_put_push cmp ready.map.entries ready.waiting.items c.args.key c.args.value
     ∙ ap (λ entries. insert_entry cmp entries c.args.key c.args.value) (c.in_ok-make_way.ensures.entries ∙ c.self.view_is)) c.put_all_but.ensures.entries
+
+-- the pairs that wait ascend where the map is out of memory
+pub invariant_of-self : goal.invariant_of-self
+invariant_of-self g c = c.make_way.ensures.ascending c.self.invariant
+
+-- and where the pair is put at once
+pub invariant_of-self-then-not-self : goal.invariant_of-self-then-not-self
+invariant_of-self-then-not-self g c = c.make_way.ensures.ascending c.self.invariant
+
+-- a pair that can't wait changes none that does
+pub invariant_of-self-in_err-push_back : goal.invariant_of-self-in_err-push_back
+invariant_of-self-in_err-push_back g c =
+    subst (λ pairs. IsAscending g.K.Ord.cmp pairs) (sym c.in_err-push_back.ensures.items) (c.make_way.ensures.ascending c.self.invariant)

@@ -1,7 +1,8 @@
 use Rattle.std.proofs.Common.{Bool, [], ◌∷◌, ◌++◌, map, cond, ap, sym, ◌∙◌, Vec, Global}
 use Rattle.std.proofs.lemmas.List.{append-nil, map-append}
-use Rattle.cedar_json.proofs.TypeMarkLemmas.{record_marks-begun}
-use Rattle.cedar_json.specs.Words.{WrittenAt, marked, open_record}
+use Rattle.cedar_json.proofs.InTurn.{IsListing-done, IsListing-next}
+use Rattle.cedar_json.proofs.TypeMarkLemmas.{entry_marks, record_marks-begun}
+use Rattle.cedar_json.specs.Words.{WrittenAt, marked, open_record, record_marks}
 use Rattle.cedar_json.proofs.places.type_listing.+types.Goals as goal
 use Rattle.cedar_json.proofs.places.type_listing.+types.Goals.{list_record-then-record_type+in_ok-push, list_record-else-record_type}
 
@@ -20,3 +21,17 @@ list_record-loop-attribute-init t c =
           ap (λ (list : Vec WrittenAt Global). map marked list.items) w.list-is
           ∙ (sym (append-nil before) ∙ ap with_own (sym w.if-record_type.false))
     ])
+
+-- what is in the type of one more attribute is listed
+pub list_record-loop-attribute-preserved : goal.list_record-loop-attribute-preserved
+list_record-loop-attribute-preserved t c =
+    IsListing-next entry_marks (map marked c.loop-attribute.list.items) (map marked c.list_type.new.list.items)
+    (map marked c.args.list.now.items ++ record_marks c.args.record_type.now c.args.loc) (c.in-Some.field-0-0.now, c.in-Some.attribute.now)
+    c.loop-attribute.attribute-iterator c.next.new.self c.in-Some.ensures.steps c.in_ok-list_type.ensures c.loop-attribute.invariant
+
+-- where no attribute is left, all is listed
+pub list_record-returns : goal.list_record-returns
+list_record-returns t c =
+    IsListing-done entry_marks (map marked c.loop-attribute.list.items)
+    (map marked c.args.list.now.items ++ record_marks c.args.record_type.now c.args.loc) c.loop-attribute.attribute-iterator
+    c.in-None.ensures.steps.0 c.loop-attribute.invariant

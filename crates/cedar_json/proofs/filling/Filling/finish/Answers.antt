@@ -1,0 +1,14 @@
+use Rattle.std.proofs.Common.{sym, ◌∙◌}
+use Rattle.std.proofs.lemmas.Result.{IfOk-from_err}
+use Rattle.cedar_json.proofs.FillingLemmas.{all_put_none}
+use Rattle.cedar_json.proofs.filling.Filling.finish.Goals as goal
+
+-- out of memory gives no map
+pub returns-in_err-put_all_but : goal.returns-in_err-put_all_but
+returns-in_err-put_all_but g c = IfOk-from_err c.from_residual.result _ c.from_residual.ensures.0
+
+-- where no pair waits any more, the map has all pairs
+pub returns : goal.returns
+returns g c =
+    sym (all_put_none g.K.Ord.cmp c.put_all_but.new.map.entries c.put_all_but.new.waiting.items c.in_ok-put_all_but.ensures.kept)
+    ∙ c.in_ok-put_all_but.ensures.entries ∙ c.self.view_is
