@@ -233,6 +233,19 @@ pub record HasRoom {K Name Node : Type 0} (cmp : K → K → Ordering) (key_name
       ⊎ ((last : K) × (old : Node) × (key_name last ≡ node_name it) × (¬ IsExternal it) × IsExternal old
       × (zip keys nodes ≡ zip front others ++ (last, old) ∷ []))
 
+-- a node is put behind columns under its name
+pub record IsPutBehind {K Name Node : Type 0} (eq : K → K → Bool) (cmp : K → K → Ordering) (key_name : K → Name)
+    (node_name : Node → Name) (IsExternal : Node → Type 0) (keys : List K) (nodes : List Node) (name : K) (it : Node)
+    (new_keys : List K) (new_nodes : List Node) : Type 1 where
+  pub sorted : IsStrictlySortedBy cmp new_keys
+  pub from : (key : K) → Contains new_keys key → Contains keys key ⊎ (key_name key ≡ node_name it)
+  pub other : (key : K) → key_name key ≢ node_name it
+      → at_key eq (zip new_keys new_nodes) key ≡ at_key eq (zip keys nodes) key
+  pub own : (key : K) → key_name key ≡ node_name it
+      → IsPut IsExternal it (at_key eq (zip keys nodes) key) (at_key eq (zip new_keys new_nodes) key)
+  pub located : (IsLocatedAs : K → Node → Type 0) → IsLocatedAs name it → AreLocated IsLocatedAs (zip keys nodes)
+      → AreLocated IsLocatedAs (zip new_keys new_nodes)
+
 module _ {K Name Node : Type 0} {eq : K → K → Bool} (laws : IsEquivalence eq) (cmp : K → K → Ordering) (total : IsTotalOrder cmp)
     (ties : (a b : K) → eq a b ≡ is_eq (cmp a b)) (key_name : K → Name) (node_name : Node → Name) (IsExternal : Node → Type 0)
     (same_key : (a b : K) → IsTrue (eq a b) ↔ (key_name a ≡ key_name b)) (keys : List K) (nodes : List Node)
@@ -311,11 +324,11 @@ module _ {K Name Node : Type 0} {eq : K → K → Bool} (laws : IsEquivalence eq
     after_is = (λ i. zip (is_keys i) (is_nodes i)) ∙ zip_behind front others name it room.len
 
     -- the keys are in order with the name behind
-    pub put_sorted : IsStrictlySortedBy cmp new_keys
+    put_sorted : IsStrictlySortedBy cmp new_keys
     put_sorted = subst (IsStrictlySortedBy cmp) (sym is_keys) (sorted_behind cmp front name room.sorted room.below)
 
     -- they are those that were there, and the name
-    pub put_keys : (key : K) → Contains new_keys key → Contains keys key ⊎ (key_name key ≡ node_name it)
+    put_keys : (key : K) → Contains new_keys key → Contains keys key ⊎ (key_name key ≡ node_name it)
     put_keys key among = elim (Contains-append_cases front (name ∷ []) key (subst (λ each. Contains each key) is_keys among)) [
       | inl before ↦ inl (room.from key before)
       | inr here ↦ elim (Contains-cons_cases name [] key here) [
@@ -325,7 +338,7 @@ module _ {K Name Node : Type 0} {eq : K → K → Bool} (laws : IsEquivalence eq
     ]
 
     -- at other names stands what stood there
-    pub put_other : (key : K) → key_name key ≢ node_name it
+    put_other : (key : K) → key_name key ≢ node_name it
         → at_key eq (zip new_keys new_nodes) key ≡ at_key eq (zip keys nodes) key
     put_other key apart =
         ap (λ entries. at_key eq entries key) after_is
@@ -339,7 +352,7 @@ module _ {K Name Node : Type 0} {eq : K → K → Bool} (laws : IsEquivalence eq
         ]))
 
     -- at its own the node is put
-    pub put_own : (key : K) → key_name key ≡ node_name it
+    put_own : (key : K) → key_name key ≡ node_name it
         → IsPut IsExternal it (at_key eq (zip keys nodes) key) (at_key eq (zip new_keys new_nodes) key)
     put_own key same = elim room.before [
       | inl kept ↦ put_first laws cmp total ties key_name node_name IsExternal same_key front others name it named room.below key same
@@ -349,7 +362,7 @@ module _ {K Name Node : Type 0} {eq : K → K → Bool} (laws : IsEquivalence eq
     ]
 
     -- each is still located as its key
-    pub put_located : (IsLocatedAs : K → Node → Type 0) → IsLocatedAs name it → AreLocated IsLocatedAs (zip keys nodes)
+    put_located : (IsLocatedAs : K → Node → Type 0) → IsLocatedAs name it → AreLocated IsLocatedAs (zip keys nodes)
         → AreLocated IsLocatedAs (zip new_keys new_nodes)
     put_located IsLocatedAs at located =
         let before : AreLocated IsLocatedAs (zip front others) = elim room.before [
@@ -358,6 +371,16 @@ module _ {K Name Node : Type 0} {eq : K → K → Bool} (laws : IsEquivalence eq
               (subst (AreLocated IsLocatedAs) replaced.5 located)
         ] in
         subst (AreLocated IsLocatedAs) (sym after_is) (located_behind IsLocatedAs (zip front others) name it before at)
+
+    -- so the node is put
+    pub put_behind : IsPutBehind eq cmp key_name node_name IsExternal keys nodes name it new_keys new_nodes
+    put_behind = record {
+      sorted = put_sorted;
+      from = put_keys;
+      other = put_other;
+      own = put_own;
+      located = put_located;
+    }
 
 -- columns of keys in order, each with a node at its place that is located as it is, none above the key of a declaration that is
 -- left, and these in order

@@ -1,6 +1,6 @@
 -- The types of declared schemas are clean: what an expression is elaborated as has no any-set.
 use Rattle.std.proofs.Common.{◌≡◌, Option, None, Some, inl, inr, subst}
-use Rattle.cedar_declaration_laws.specs.Words.{ActionKind, AreClean, AreDeclaredTags, DeclaredTypesAreClean, Defined, ElaboratesTo, EntityBody, EntityTypeKind, Expr, Fields, IsClean, IsContextOf, IsDeclaredActionKind, IsDeclaredKind, IsTypeOfKind, Members, MembersElaborateTo, Requests, Ty, as_common, as_entity, as_extension, as_long, as_member, as_no_member, as_record, as_set, as_text, as_truth, defined_action, elsewhere, enumerated, external, requests, standard, standard_kind}
+use Rattle.cedar_declaration_laws.specs.Words.{ActionKind, AreClean, AreDeclaredTags, DeclaredTypesAreClean, Defined, ElaboratesTo, EntityBody, EntityTypeKind, Expr, Fields, IsClean, IsContextOf, IsDeclaredActionKind, IsDeclaredKind, IsTypeOfKind, Members, MembersElaborateTo, Requests, Ty, as_common, as_entity, as_extension, as_long, as_member, as_no_member, as_record, as_set, as_text, as_truth, defined_action, elsewhere, requests, standard, standard_kind}
 
 mutual
   -- a type that is elaborated is clean

@@ -3,7 +3,7 @@
 use Rattle.std.proofs.Common.{◌≡◌, false, List, [], ◌∷◌, Option, Some, None, ap, ◌∙◌, refl, inl, inr, arith}
 use Rattle.std.proofs.lemmas.Bool.{false≢true}
 use Rattle.std.specs.Option.{option_zip}
-use Rattle.cedar_declaration_laws.specs.Words.{ActionKind, AnyBool, AreRequestsWritten, AreTagsWritten, Bag, ClosedAttributes, CountsInEntity, CountsInRequests, EntityBody, EntityTypeKind, Expr, Extensions, False, Fields, FieldsMentionEntity, FieldsMentionExtensionType, HasEntityType, HasOpenRecord, HasToResolve, IsAtEntityTypePosition, IsContextOf, IsConvertedBack, IsCounted, IsKindWritten, IsNameWrittenIn, IsNamedAgain, IsPrincipalOrResource, IsPrincipalOrResourceOf, IsTypeOfKind, IsTypeWrittenIn, IsValidSchema, IsWritable, ListsDescendant, Members, MembersHaveOpenRecord, MembersMentionExtension, MembersRefer, MentionsEntity, MentionsExtension, MentionsExtensionType, OpenAttributes, PlainName, PlainSchema, Reference, Refers, Requests, Text, True, Ty, any_entity, any_set, defined_action, definitions, elsewhere, end, enumerated, enumerated_kind, extension_expr, extension_of, extension_written, external, external_action, external_kind, field, fields_written, full_name, long, long_expr, member, named, never, no_member, record_expr, record_of, requests, set_expr, set_of, standard, standard_kind, text, text_expr, truth, truth_expr, type_written, union_of}
+use Rattle.cedar_declaration_laws.specs.Words.{ActionKind, AnyBool, AreRequestsWritten, AreTagsWritten, Bag, ClosedAttributes, CountsInEntity, CountsInRequests, EntityBody, EntityTypeKind, Expr, Extensions, False, Fields, FieldsMentionEntity, FieldsMentionExtensionType, HasEntityType, HasOpenRecord, HasToResolve, IsAtEntityTypePosition, IsContextOf, IsConvertedBack, IsCounted, IsKindWritten, IsNameWrittenIn, IsNamedAgain, IsPrincipalOrResource, IsPrincipalOrResourceOf, IsTypeOfKind, IsTypeWrittenIn, IsValidSchema, IsWritable, ListsDescendant, Members, MembersHaveOpenRecord, MembersMentionExtension, MembersRefer, MentionsEntity, MentionsExtension, MentionsExtensionType, OpenAttributes, PlainName, PlainSchema, Reference, Refers, Requests, Text, True, Ty, any_entity, any_set, defined_action, definitions, elsewhere, end, extension_expr, extension_of, extension_written, external_action, field, fields_written, full_name, long, long_expr, member, named, never, no_member, record_expr, record_of, requests, set_expr, set_of, standard, standard_kind, text, text_expr, truth, truth_expr, type_written, union_of}
 use Rattle.cedar_declaration_laws.proofs.EntriesConvertedBack.{action_written_by, type_written_by}
 use Rattle.cedar_declaration_laws.proofs.KindsConvertedBack.{mentioned_again, request_known}
 use Rattle.cedar_declaration_laws.proofs.NamesConvertedBack.{from_schema}

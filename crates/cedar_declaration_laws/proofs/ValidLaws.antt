@@ -2,7 +2,7 @@
 use Rattle.std.proofs.Common.{◌≡◌, ◌≢◌, ◌⊎◌, List, [], ◌∷◌, Option, Some, None, map, ap, sym, subst, ◌∙◌, refl, inl, inr, arith, Contains}
 use Rattle.std.proofs.lemmas.List.Elements.{Contains-append_right, Contains-append_cases}
 use Rattle.cedar_below.proofs.Lists.{Contains-cons, Contains-cons_cases, Contains-preimage}
-use Rattle.cedar_declaration_laws.specs.Words.{ActionBody, ActionKind, AreDeclaredTags, Bag, Chain, ClosesAction, ClosesSchema, ClosesType, CountsInEntity, CountsInRequests, ElaboratesTo, EntityBody, EntitySays, EntityTypeKind, Expr, Extensions, HasAction, HasEntityType, HasParent, HasParentAction, HoldsPairwise, IsActionType, IsAtEntityTypePosition, IsContextOf, IsCounted, IsDeclaredActionKind, IsDeclaredKind, IsDeclaredSchema, IsDescendant, IsDescendantAction, IsEnumerated, IsExternal, IsExternalType, IsIllFormed, IsOfKind, IsPrincipalOrResource, IsPrincipalOrResourceOf, IsTypeIn, IsTypeOfKind, IsUnknownType, IsValidSchema, ListsDescendant, ListsDescendantAction, PlainName, PlainSchema, PlainUid, PositionsFit, Reference, Requests, ResolvesTo, SchemaAction, SchemaEntityType, Text, Ty, TypeNamesFit, action_cycle, action_entity_type, action_shadowing, action_uids, declared_actions, declared_common, declared_entities, declared_types, defined_action, defined_names, definitions, elsewhere, enumerated, enumerated_below, enumerated_kind, extension_types, external, external_below_enumerated, invalid_action_type, one, record_of, requests, standard, standard_kind, type_shadowing, undeclared_action_descendant, undeclared_entity_types, unknown_extension_type}
+use Rattle.cedar_declaration_laws.specs.Words.{ActionBody, ActionKind, AreDeclaredTags, Bag, Chain, ClosesAction, ClosesSchema, ClosesType, CountsInEntity, CountsInRequests, ElaboratesTo, EntityBody, EntitySays, EntityTypeKind, Expr, Extensions, HasAction, HasEntityType, HasParent, HasParentAction, HoldsPairwise, IsActionType, IsAtEntityTypePosition, IsContextOf, IsCounted, IsDeclaredActionKind, IsDeclaredKind, IsDeclaredSchema, IsDescendant, IsDescendantAction, IsEnumerated, IsExternal, IsExternalType, IsIllFormed, IsOfKind, IsPrincipalOrResource, IsPrincipalOrResourceOf, IsTypeIn, IsTypeOfKind, IsUnknownType, IsValidSchema, ListsDescendant, ListsDescendantAction, PlainName, PlainSchema, PlainUid, PositionsFit, Reference, Requests, ResolvesTo, SchemaAction, SchemaEntityType, Text, Ty, TypeNamesFit, action_cycle, action_entity_type, action_shadowing, action_uids, declared_actions, declared_common, declared_entities, declared_types, defined_action, defined_names, definitions, elsewhere, enumerated, enumerated_below, extension_types, external, external_below_enumerated, invalid_action_type, one, record_of, requests, standard, standard_kind, type_shadowing, undeclared_action_descendant, undeclared_entity_types, unknown_extension_type}
 use Rattle.cedar_below.proofs.Chains.{first_step, refined}
 use Rattle.cedar_declarations.proofs.DeclarationLemmas.{entity_declaration, action_declaration}
 use Rattle.cedar_declaration_laws.proofs.EnumeratedLemmas.{enumerated_parent}

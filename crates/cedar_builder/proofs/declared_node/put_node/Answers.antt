@@ -3,9 +3,9 @@ use Rattle.std.proofs.lemmas.Bool.{false≢true}
 use Rattle.std.proofs.lemmas.List.{nil_from_length}
 use Rattle.std.specs.List.{zip}
 use Rattle.cedar_builder.specs.Words.{at_key}
-use Rattle.cedar_builder.proofs.NodesPut.{HasRoom, defined_at, empty_from_no_last, last_stands, popped_last, put_keys, put_located, put_nothing, put_other, put_own, put_sorted, room_behind, room_for_first, room_in_place}
+use Rattle.cedar_builder.proofs.NodesPut.{HasRoom, IsPutBehind, defined_at, empty_from_no_last, last_stands, popped_last, put_behind, put_nothing, room_behind, room_for_first, room_in_place}
 use Rattle.cedar_builder.proofs.declared_node.put_node.Goals as goal
-use Rattle.cedar_builder.proofs.declared_node.put_node.Goals.{In-Some-Some, In_ok-push, in-Some-Some+then-eq+else-is_external+else-not-is_external, in-Some-Some+else-eq, in-Some+in-None-1, in-None-3}
+use Rattle.cedar_builder.proofs.declared_node.put_node.Goals.{In-Some-Some, In_ok-push, In_ok-push-2, in-Some-Some+then-eq+else-is_external+else-not-is_external, in-Some-Some+else-eq, in-Some+in-None-1, in-None-3}
 
 -- where the node is put
 record Room (g : _) (c : In_ok-push g) : Type 0 where
@@ -109,61 +109,34 @@ returns-then-not-is_external-clause-fault g c =
       ),
     )
 
-pub returns-clause-sorted : goal.returns-clause-sorted
-returns-clause-sorted g c =
+-- once both are pushed the node is put
+put : (g : _) (c : In_ok-push-2 g)
+    → IsPutBehind g.K.PartialEq.eq g.K.Ord.cmp g.V.SchemaNode.key_name g.V.SchemaNode.node_name g.V.SchemaNode.IsExternal
+    c.args.keys.now.items c.args.nodes.now.items c.in_ok-name.name c.args.node c.push.new.self.items c.push-2.new.self.items
+put g c =
     let node = g.V.SchemaNode in
     let d = (goal.at.returns-clause-sorted g c).In_ok-push in
     let room = room_of g d in
-    put_sorted g.met.K.Eq.laws g.K.Ord.cmp g.met.K.Ord.total g.met.K.Ord.matches_eq node.key_name node.node_name node.IsExternal
+    put_behind g.met.K.Eq.laws g.K.Ord.cmp g.met.K.Ord.total g.met.K.Ord.matches_eq node.key_name node.node_name node.IsExternal
     g.met.V.SchemaNode.same_key c.args.keys.now.items c.args.nodes.now.items c.requires.columns c.requires.sorted c.in_ok-name.name
     c.args.node (its_name g d) room.front room.others room.room _ _
     (c.in_ok-push.ensures.items ∙ ap (λ each. each ++ c.in_ok-name.name ∷ []) room.of_keys)
     (c.in_ok-push-2.ensures.items ∙ ap (λ each. each ++ c.args.node ∷ []) room.of_nodes)
 
+pub returns-clause-sorted : goal.returns-clause-sorted
+returns-clause-sorted g c = (put g c).sorted
+
 pub returns-clause-keys : goal.returns-clause-keys
-returns-clause-keys g c =
-    let node = g.V.SchemaNode in
-    let d = (goal.at.returns-clause-keys g c).In_ok-push in
-    let room = room_of g d in
-    put_keys g.met.K.Eq.laws g.K.Ord.cmp g.met.K.Ord.total g.met.K.Ord.matches_eq node.key_name node.node_name node.IsExternal
-    g.met.V.SchemaNode.same_key c.args.keys.now.items c.args.nodes.now.items c.requires.columns c.requires.sorted c.in_ok-name.name
-    c.args.node (its_name g d) room.front room.others room.room _ _
-    (c.in_ok-push.ensures.items ∙ ap (λ each. each ++ c.in_ok-name.name ∷ []) room.of_keys)
-    (c.in_ok-push-2.ensures.items ∙ ap (λ each. each ++ c.args.node ∷ []) room.of_nodes)
+returns-clause-keys g c = (put g c).from
 
 -- what stands at other names stays
 pub returns-clause-other : goal.returns-clause-other
-returns-clause-other g c =
-    let node = g.V.SchemaNode in
-    let d = (goal.at.returns-clause-other g c).In_ok-push in
-    let room = room_of g d in
-    put_other g.met.K.Eq.laws g.K.Ord.cmp g.met.K.Ord.total g.met.K.Ord.matches_eq node.key_name node.node_name node.IsExternal
-    g.met.V.SchemaNode.same_key c.args.keys.now.items c.args.nodes.now.items c.requires.columns c.requires.sorted c.in_ok-name.name
-    c.args.node (its_name g d) room.front room.others room.room _ _
-    (c.in_ok-push.ensures.items ∙ ap (λ each. each ++ c.in_ok-name.name ∷ []) room.of_keys)
-    (c.in_ok-push-2.ensures.items ∙ ap (λ each. each ++ c.args.node ∷ []) room.of_nodes)
+returns-clause-other g c = (put g c).other
 
 -- a definition takes the place of an external declaration, or is the first
 pub returns-clause-put : goal.returns-clause-put
-returns-clause-put g c =
-    let node = g.V.SchemaNode in
-    let d = (goal.at.returns-clause-put g c).In_ok-push in
-    let room = room_of g d in
-    put_own g.met.K.Eq.laws g.K.Ord.cmp g.met.K.Ord.total g.met.K.Ord.matches_eq node.key_name node.node_name node.IsExternal
-    g.met.V.SchemaNode.same_key c.args.keys.now.items c.args.nodes.now.items c.requires.columns c.requires.sorted c.in_ok-name.name
-    c.args.node (its_name g d) room.front room.others room.room _ _
-    (c.in_ok-push.ensures.items ∙ ap (λ each. each ++ c.in_ok-name.name ∷ []) room.of_keys)
-    (c.in_ok-push-2.ensures.items ∙ ap (λ each. each ++ c.args.node ∷ []) room.of_nodes)
+returns-clause-put g c = (put g c).own
 
 -- each node keeps the location of its name
 pub returns-clause-located : goal.returns-clause-located
-returns-clause-located g c =
-    let node = g.V.SchemaNode in
-    let d = (goal.at.returns-clause-located g c).In_ok-push in
-    let room = room_of g d in
-    put_located g.met.K.Eq.laws g.K.Ord.cmp g.met.K.Ord.total g.met.K.Ord.matches_eq node.key_name node.node_name node.IsExternal
-    g.met.V.SchemaNode.same_key c.args.keys.now.items c.args.nodes.now.items c.requires.columns c.requires.sorted c.in_ok-name.name
-    c.args.node (its_name g d) room.front room.others room.room _ _
-    (c.in_ok-push.ensures.items ∙ ap (λ each. each ++ c.in_ok-name.name ∷ []) room.of_keys)
-    (c.in_ok-push-2.ensures.items ∙ ap (λ each. each ++ c.args.node ∷ []) room.of_nodes) node.IsLocatedAs
-    (c.in_ok-name.ensures.located c.args.node c.name.ensures.located)
+returns-clause-located g c = (put g c).located g.V.SchemaNode.IsLocatedAs (c.in_ok-name.ensures.located c.args.node c.name.ensures.located)
