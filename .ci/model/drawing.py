@@ -43,29 +43,29 @@ class Drawing:
         for number, namespace in enumerate(namespaces):
             letters = ["E", "F", "String", "ipaddr"] if self.chance(0.3) else list("ABCD")
             ids = [f"{it}{'' if self.chance(0.15) else number}" for it in letters]
-            actions = [f"{it}{number}" for it in "uvw"]
+            actions = [f"{it}{'' if self.chance(0.05) else number}" for it in "uvw"]
             for kind, its in (("entity", ids), ("common", ids), ("action", actions)):
                 self.names[kind] += [(namespace, id) for id in self.some(its, 3)]
+            if self.chance(0.01):
+                self.names["entity"].append((namespace, "Action"))
         documents = [{} for _ in range(self.random.randint(1, 3))]
         for kind, names in self.names.items():
             for at, (namespace, id) in enumerate(names):
-                for _ in range(2 if self.chance(0.05) else 1):
-                    self.declare(self.random.choice(documents), kind, at, namespace, id)
+                for again in [False, True] if self.chance(0.1) else [False]:
+                    body = self.body(kind, at, namespace)
+                    if again and kind != "common" and self.chance(0.8):
+                        body["external"] = True
+                    declare(self.random.choice(documents), kind, namespace, id, body)
         return documents
 
-    def declare(self, document, kind, at, namespace, id):
-        """Declares something. Common types and actions know mostly of those before them."""
+    def body(self, kind, at, namespace):
+        """A declaration in a namespace. Common types and actions know mostly of those before."""
         self.namespace, all_names = namespace, self.names
         if self.chance(0.95) and kind != "entity":
             self.names = {**all_names, kind: all_names[kind][:at]}
-        definition = document.setdefault(namespace, {"entityTypes": {}, "actions": {}})
-        if kind == "entity":
-            definition["entityTypes"][id] = self.entity_type()
-        elif kind == "action":
-            definition["actions"][id] = self.action()
-        elif id != "String":
-            definition.setdefault("commonTypes", {})[id] = self.type(2)
-        self.names = all_names
+        draw = {"entity": self.entity_type, "common": lambda: self.type(2), "action": self.action}
+        body, self.names = draw[kind](), all_names
+        return body
 
     def name(self, kind):
         """The name of something of a kind, as it may be written in the namespace."""
@@ -145,6 +145,8 @@ class Drawing:
     def parent(self):
         """A parent of an action."""
         namespace, id = self.random.choice(self.names["action"])
+        if self.chance(0.03):
+            return {"id": "nosuch"}
         if namespace == self.namespace and self.chance(0.5):
             return {"id": id, "type": None} if self.chance(0.2) else {"id": id}
         return {"id": id, "type": within(namespace, "Action")}
@@ -217,6 +219,16 @@ class Drawing:
             at = self.random.choice(list(part))
             held = part.pop(at)
             part.update({} if how == "drop" else {at: value} if how == "replace" else {key: held})
+
+
+FIELDS = {"entity": "entityTypes", "common": "commonTypes", "action": "actions"}
+
+
+def declare(document, kind, namespace, id, body):
+    """Declares something of a kind in a document, under an id that may stand there."""
+    definition = document.setdefault(namespace, {"entityTypes": {}, "actions": {}})
+    if (kind, id) != ("common", "String"):
+        definition.setdefault(FIELDS[kind], {})[id] = body
 
 
 def definitions(documents):
