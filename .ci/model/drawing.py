@@ -11,6 +11,7 @@ VALUES = [None, True, 0, 1.5, -(2**63), 2**63, "", "A", "A::B", "__cedar", "__ce
 VALUES += ["9x", "é", [], [1], ["A"], [""], {}, {"a": None}, {"note": "x"}, {"a b": ""}]
 VALUES += [{"__entity": {"type": "A", "id": "x"}}, {"__extn": {"fn": "ip", "arg": "x"}}]
 VALUES += [{"type": "String"}, {"type": "Set"}, {"type": "Record", "attributes": {}}]
+FIELDS = {"entity": "entityTypes", "common": "commonTypes", "action": "actions"}
 FORMS = "plain plain entity either common extension set record".split()
 KEYS = "enum external annotations type element attributes required shape tags id name x".split()
 KEYS += "memberOf memberOfTypes appliesTo principalTypes context additionalAttributes".split()
@@ -219,9 +220,6 @@ class Drawing:
             at = self.random.choice(list(part))
             held = part.pop(at)
             part.update({} if how == "drop" else {at: value} if how == "replace" else {key: held})
-
-
-FIELDS = {"entity": "entityTypes", "common": "commonTypes", "action": "actions"}
 
 
 def declare(document, kind, namespace, id, body):

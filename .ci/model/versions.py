@@ -13,11 +13,12 @@ def may_be_all(old, new, ty):
 
 def keeps_entities(old, new, ty):
     """Whether each entity of a type in one version is one in the other."""
-    kind, its = old.kinds[ty], new.kinds.get(ty)
-    if its is None or its == "enum":
-        return its is not None and kind == "enum" and may_be_all(old, new, ty)
+    if ty not in new.kinds:
+        return False
+    if new.kinds[ty] == "enum":
+        return may_be_all(old, new, ty)
     fields = new.attributes[ty].fields.values()
-    if kind == "enum":
+    if old.kinds[ty] == "enum":
         return not any(field.required for field in fields)
     tags = ty not in old.tags or ty in new.tags and is_included(old.tags[ty], new.tags[ty])
     above = all(it in new.above[ty] and may_be_all(old, new, it) for it in old.above[ty])
