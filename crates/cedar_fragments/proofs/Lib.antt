@@ -23,3 +23,4 @@ pub mod SoundFragments
 pub mod SoundLemmas
 pub mod SoundNames
 pub mod UnresolvableLemmas
+pub mod WrittenNames

@@ -13,7 +13,7 @@ pub use entity_type_def::EntityTypeDef;
 pub(crate) use entity_types::entity_type_name;
 pub use entity_types::{EntityTypeFragment, EntityTypesDef};
 pub use fragment::ValidatorSchemaFragment;
-pub(crate) use full_name::full_name;
+pub(crate) use full_name::{full_name, name_in};
 pub use namespaces::Namespaces;
 
 mod action_def;

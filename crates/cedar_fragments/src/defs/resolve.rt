@@ -31,7 +31,7 @@ fn declared<'a>(
 
 /// The name with its location, shared with what declares it in a kind that a reference of the kind
 /// permits, if something does.
-fn shared_name(
+pub(crate) fn shared_name(
     all_defs: &AllDefs,
     kind: ReferenceType,
     name: &InternalName,
@@ -47,7 +47,7 @@ fn shared_name(
 
 /// The first of some names that is defined in a kind that a reference of the kind permits, if one
 /// is.
-fn first_defined(
+pub(crate) fn first_defined(
     names: &NonEmpty<InternalName>,
     kind: ReferenceType,
     all_defs: &AllDefs,

@@ -22,6 +22,20 @@ fn namespace_path(alloc: Global, namespace: Option<&InternalName>) -> M<Vec<Id>>
     Ok(path)
 }
 
+/// The full name of an id in a namespace.
+pub(crate) fn name_in(
+    alloc: Global,
+    namespace: Option<&InternalName>,
+    id: Id,
+    loc: Option<Loc>,
+) -> M<InternalName>
+    ensures name { IfOk result (λ name.
+        name_of name ≡ name_within (namespace_name namespace.entry) (id_text id)) }
+    ensures loc { IfOk result (λ name. name_loc name ≡ loc) }
+{
+    Ok(InternalName::new(id, namespace_path(alloc, namespace)?, loc))
+}
+
 /// The full name of an id in a namespace, shared, so that all that will speak of what is declared
 /// under it shares it.
 pub(crate) fn full_name(
@@ -34,5 +48,5 @@ pub(crate) fn full_name(
         name_of name ≡ name_within (namespace_name namespace.entry) (id_text id)) }
     ensures loc { IfOk result (λ name. name_loc name ≡ loc) }
 {
-    InternalName::new(id, namespace_path(alloc, namespace)?, loc).into_shared()
+    name_in(alloc, namespace, id, loc)?.into_shared()
 }
