@@ -1,25 +1,65 @@
 -- Parents and descent of actions, as edges and in the bag.
-use Rattle.std.proofs.Common.{◌≡◌, List, map, ap, sym, ◌∙◌, refl, inl, Contains, inr}
+use Rattle.std.proofs.Common.{◌≡◌, List, [], ◌∷◌, Option, map, ap, sym, subst, ◌∙◌, inl, inr, Contains}
 use Rattle.std.proofs.lemmas.Simd.{map-map}
-use Rattle.cedar_builder.specs.Words.{ActionBody, ActionReference, AreActionsOf, Bag, Chain, EntityType, EntityUID, Entries, Extensions, HasParentAction, InternalName, IsActionParent, IsDescendantAction, NamesAction, PlainUid, TypeScope, ValidatorEntityType, action_fragment_body, action_uids, declared_actions, more, one, parents_in, plain_edge, reference_to_action, resolved_action_type, resolved_reference, uid_of, DeclaredAction}
+use Rattle.std.specs.Global.{Box}
+use Rattle.cedar_below.proofs.Lists.{Contains-preimage}
+use Rattle.cedar_below.proofs.TurnLemmas.{turn_weaker}
 use Rattle.cedar_below.proofs.Uids.{entity_uid_eq-same}
 use Rattle.cedar_below.specs.contracts.entity_uid.EntityUIDPartialEq.TheImpl as uid_eq
+use Rattle.cedar_builder.specs.Words.{ActionBody, ActionFragment, ActionReference, AreActionsOf, Bag, Chain, EntityType, EntityUID, Entries, Extensions, Fault, HasParentAction, HoldsPairwise, IsActionParent, IsDescendantAction, IsEdgeOf, IsFirst, IsParentActionFault, IsParentFault, Names, NamesAction, PlainName, PlainUid, Reference, ReferenceType, SameItems, Text, TypeScope, ValidatorEntityType, Written, action_uids, declared_actions, held_names, more, one, parents_in, requests_in, uid_of, written_action_body, written_actions}
 use Rattle.cedar_declarations.proofs.OccurrenceLemmas.{Contains-image}
+use Rattle.cedar_declarations.proofs.ResolutionLemmas.{IsFirst-like, IsFirst-same}
+use Rattle.cedar_declarations.proofs.TurnLemmas.{turn_back, turn_forth}
 use Rattle.cedar_builder.proofs.NodeParents as any
 use Rattle.cedar_builder.specs.ActionNodes.{IsAbove}
 
--- the uid of an action with the parents that are declared
-abbrev pub listed : DeclaredAction → PlainUid × List ActionReference
-listed it = (uid_of it.value.0, (action_fragment_body InternalName resolved_reference EntityType resolved_action_type it.value.1).parents)
-
--- the edges are those to what is declared from its parents
-abbrev pub AreEdges : List DeclaredAction → List (EntityUID × EntityUID) → Type 0
-AreEdges declared edges = map (plain_edge uid_of reference_to_action) edges
-    ≡ parents_in (map listed declared)
-
 -- the parents of what is declared
-abbrev parents_of : ActionBody → List ActionReference
+abbrev pub parents_of : ActionBody → List ActionReference
 parents_of body = body.parents
+
+-- the edges are those to what is declared from what its parents name, of some actions
+abbrev pub AreEdges : List PlainUid → List (PlainUid × ActionBody) → List (EntityUID × EntityUID) → Type 0
+AreEdges actions declared edges =
+    HoldsPairwise (IsEdgeOf uid_of (NamesAction actions)) edges (parents_in (map (any.with_parents parents_of) declared))
+
+-- of declarations by the names that are written
+module _ (N : Type 0) (refer : Option PlainName → ReferenceType → N → Reference) where
+  -- the uid of an action with the parents that are declared
+  abbrev pub listed : Box (EntityUID × Written (ActionFragment N N)) → PlainUid × List ActionReference
+  listed it = (uid_of it.value.0, (written_action_body N refer it.value.1).parents)
+
+  -- each with its parents are the declarations with theirs
+  same_listed : (items : List (Box (EntityUID × Written (ActionFragment N N))))
+      → map listed items ≡ map (any.with_parents parents_of) (written_actions N refer items)
+  same_listed items = sym (map-map (any.with_parents parents_of) _ items)
+
+  -- edges to what is listed are those of the declarations
+  pub edges_declared : (actions : List PlainUid) (items : List (Box (EntityUID × Written (ActionFragment N N))))
+      (edges : List (EntityUID × EntityUID)) → HoldsPairwise (IsEdgeOf uid_of (NamesAction actions)) edges (parents_in (map listed items))
+      → AreEdges actions (written_actions N refer items) edges
+  edges_declared actions items edges are =
+      subst (λ all. HoldsPairwise (IsEdgeOf uid_of (NamesAction actions)) edges (parents_in all)) (same_listed items) are
+
+  -- and so is why their parents are refused
+  pub fault_declared : (names : Names) (items : List (Box (EntityUID × Written (ActionFragment N N)))) (fault : Fault)
+      → IsParentFault (IsParentActionFault names) (parents_in (map listed items)) fault
+      → IsParentFault (IsParentActionFault names) (parents_in (map (any.with_parents parents_of) (written_actions N refer items))) fault
+  fault_declared names items fault refused =
+      subst (λ all. IsParentFault (IsParentActionFault names) (parents_in all) fault) (same_listed items) refused
+
+  -- each with the requests that it is for are the declarations with theirs
+  pub requests_declared : (items : List (Box (EntityUID × Written (ActionFragment N N))))
+      → map (λ it. (uid_of it.value.0, (written_action_body N refer it.value.1).applies_to)) items ≡ requests_in (written_actions N refer items)
+  requests_declared items = sym (map-map (λ (it : PlainUid × ActionBody). (it.0, it.1.applies_to)) _ items)
+
+  -- a declared uid is that of an action
+  pub keys_declared : (items : List (Box (EntityUID × Written (ActionFragment N N)))) (uid : PlainUid)
+      → Contains (map (λ it. it.0) (written_actions N refer items)) uid → (key : EntityUID) × (uid_of key ≡ uid)
+  keys_declared items uid among =
+      let entry = Contains-preimage (λ (it : PlainUid × ActionBody). it.0) (written_actions N refer items) uid among in
+      let item = Contains-preimage (λ (it : Box (EntityUID × Written (ActionFragment N N))). (uid_of it.value.0, written_action_body N refer it.value.1))
+      items entry.0 entry.1 in
+      (item.0.value.0, ap (λ (it : PlainUid × ActionBody). it.0) item.2 ∙ entry.2)
 
 -- a chain of edges to an action is one to each of the same uid
 pub chain_to_same : (edges : List (EntityUID × EntityUID)) {upper lower : EntityUID} (other : EntityUID)
@@ -36,58 +76,91 @@ descendant_declared bag {lower = lower} (one step) =
 descendant_declared bag {lower = lower} (more step rest) =
     Contains-image (λ (it : PlainUid × ActionBody). it.0) (declared_actions bag) (lower, step.1.0) step.1.1
 
-module _ (bag : Bag) (extensions : Extensions) (declared : List DeclaredAction)
+-- a fact holds of the first item of which it does
+first_holds : {A : Type 0} (P : A → Type 0) (xs : List A) (x : A) → IsFirst P xs x → P x
+first_holds P [] x none = absurd none
+first_holds P (first ∷ rest) x found = elim found [ inl here ↦ subst P here.0 here.1 | inr later ↦ first_holds P rest x later.1 ]
+
+-- of some actions a type is that of one by the id of a reference
+abbrev IsTypeOf : List PlainUid → ActionReference → PlainName → Type 0
+IsTypeOf actions reference ty = Contains actions (record { ty = ty; eid = reference.id })
+
+-- what a reference names is one of the actions
+pub named_among : (actions : List PlainUid) (reference : ActionReference) (uid : PlainUid) → NamesAction actions reference uid
+    → Contains actions uid
+named_among actions reference uid names =
+    let Is : Text → Type 0 = λ eid. Contains actions (record { ty = uid.ty; eid = eid }) in
+    subst Is (sym names.1) (first_holds (IsTypeOf actions reference) reference.ty.possibilities uid.ty names.0)
+
+-- a reference names one action
+once : (actions : List PlainUid) (reference : ActionReference) (uid other : PlainUid) → NamesAction actions reference uid
+    → NamesAction actions reference other → uid ≡ other
+once actions reference uid other names others =
+    let ty : uid.ty ≡ other.ty = IsFirst-same (IsTypeOf actions reference) reference.ty.possibilities uid.ty other.ty names.0 others.0 in
+    let eid : uid.eid ≡ other.eid = names.1 ∙ sym others.1 in
+    λ i. record { ty = ty i; eid = eid i }
+
+-- of the same actions it names the same
+names_alike : (held actions : List PlainUid) → SameItems held actions → (reference : ActionReference) (uid : PlainUid)
+    → NamesAction held reference uid → NamesAction actions reference uid
+names_alike held actions same reference uid names = (
+  IsFirst-like (IsTypeOf held reference) (IsTypeOf actions reference) (λ ty. (same (record { ty = ty; eid = reference.id })).0)
+      (λ ty. (same (record { ty = ty; eid = reference.id })).1) reference.ty.possibilities uid.ty names.0,
+  names.1,
+)
+
+module _ (bag : Bag) (extensions : Extensions) (declared : List (PlainUid × ActionBody))
     (types : Entries EntityType ValidatorEntityType) (scope : TypeScope)
     (ready : AreActionsOf bag extensions declared types scope) where
-  -- a parent by its uid alone is declared
-  parent_declared : (lower upper : PlainUid) → IsActionParent bag lower (reference_to_action upper)
-      → Contains (action_uids bag) upper
-  parent_declared lower upper parent =
-      let found = ready.named lower (reference_to_action upper) parent in
-      elim found.1.0 [ inl here ↦ here.1 | inr later ↦ absurd later.1 ]
+  -- each of the parents that are listed is one by a declaration
+  pub listed_parent : (uid : PlainUid) (reference : ActionReference)
+      → Contains (parents_in (map (any.with_parents parents_of) declared)) (uid, reference) → IsActionParent bag uid reference
+  listed_parent uid reference among =
+      any.parent_from parents_of (declared_actions bag) uid reference
+      (subst (λ all. Contains (parents_in (map (any.with_parents parents_of) all)) (uid, reference)) ready.actions among)
 
-  module _ (edges : List (EntityUID × EntityUID)) (are : AreEdges declared edges) where
+  module _ (edges : List (EntityUID × EntityUID)) (are : AreEdges (held_names scope.defs.now).actions declared edges) where
     -- the edges are those of the bag
-    in_bag : map (plain_edge uid_of reference_to_action) edges ≡ parents_in (map (any.with_parents parents_of) (declared_actions bag))
-    in_bag = are ∙ ap parents_in (sym (map-map (any.with_parents parents_of) _ declared) ∙ ap (map (any.with_parents parents_of)) ready.actions)
+    in_bag : AreEdges (action_uids bag) (declared_actions bag) edges
+    in_bag = subst (λ all. AreEdges (action_uids bag) all edges) ready.actions
+        (turn_weaker (IsEdgeOf uid_of (NamesAction (held_names scope.defs.now).actions)) (IsEdgeOf uid_of (NamesAction (action_uids bag)))
+        (λ edge it is. (is.0, names_alike (held_names scope.defs.now).actions (action_uids bag) ready.names.actions it.1 (uid_of edge.0) is.1))
+        edges (parents_in (map (any.with_parents parents_of) declared)) are)
 
-    -- a parent of an action in the bag is named
-    resolves : (lower upper : PlainUid) → IsActionParent bag lower (reference_to_action upper)
-        → NamesAction (action_uids bag) (reference_to_action upper) upper
-    resolves lower upper parent = (inl (refl, parent_declared lower upper parent), refl)
+    -- each parent in the bag names an action
+    pub parent_named : (uid : PlainUid) (reference : ActionReference) → IsActionParent bag uid reference
+        → (upper : PlainUid) × NamesAction (action_uids bag) reference upper
+    parent_named uid reference parent =
+        let all = parents_in (map (any.with_parents parents_of) (declared_actions bag)) in
+        let IsOf = IsEdgeOf uid_of (NamesAction (action_uids bag)) in
+        let back = turn_back IsOf (λ it edge. IsOf edge it) (λ edge it is. is) edges all in_bag in
+        let found = turn_forth (λ it edge. IsOf edge it) all edges back (uid, reference)
+        (any.parent_to parents_of (declared_actions bag) uid reference parent) in
+        (uid_of found.0.0, found.2.1)
 
-    -- and nothing else
-    alone : (uid other : PlainUid) → NamesAction (action_uids bag) (reference_to_action uid) other → uid ≡ other
-    alone uid other names =
-        let ty : uid.ty ≡ other.ty = elim names.0 [ inl here ↦ here.0 | inr later ↦ absurd later.1 ] in
-        λ i. record { ty = ty i; eid = sym names.1 i }
+    -- the upper action of an edge is a parent of the lower
+    edge_has_parent : (upper lower : EntityUID) → IsAbove edges upper lower → HasParentAction bag (uid_of lower) (uid_of upper)
+    edge_has_parent = any.edge_has_parent (uid_eq.ghosts).eq uid_of entity_uid_eq-same parents_of (NamesAction (action_uids bag))
+        (declared_actions bag) edges in_bag
 
     -- the upper action of an edge is declared
     pub edge_declared : (upper lower : EntityUID) → IsAbove edges upper lower → Contains (action_uids bag) (uid_of upper)
     edge_declared upper lower above =
-        parent_declared (uid_of lower) (uid_of upper) (any.edge_parent (uid_eq.ghosts).eq uid_of entity_uid_eq-same reference_to_action
-        parents_of (declared_actions bag) edges in_bag upper lower above)
+        let parent = edge_has_parent upper lower above in named_among (action_uids bag) parent.0 (uid_of upper) parent.2
 
     -- and so is the lower
     pub lower_declared : (upper lower : EntityUID) → IsAbove edges upper lower → Contains (action_uids bag) (uid_of lower)
     lower_declared upper lower above =
-        let parent = any.edge_parent (uid_eq.ghosts).eq uid_of entity_uid_eq-same reference_to_action parents_of (declared_actions bag)
-        edges in_bag upper lower above in
+        let parent = (edge_has_parent upper lower above).1 in
         Contains-image (λ (it : PlainUid × ActionBody). it.0) (declared_actions bag) (uid_of lower, parent.0) parent.1
-
-    -- a parent of an action is so by an edge
-    pub parent_edge : (lower upper : PlainUid) → HasParentAction bag lower upper → (edge : EntityUID × EntityUID)
-        × Contains edges edge × (uid_of edge.0 ≡ upper) × (uid_of edge.1 ≡ lower)
-    parent_edge = any.parent_edge (uid_eq.ghosts).eq uid_of entity_uid_eq-same reference_to_action parents_of (declared_actions bag) edges in_bag
-        (NamesAction (action_uids bag)) resolves alone
 
     -- what a chain of edges leads to is a descendant
     pub chain_descends : {upper lower : EntityUID} → Chain (IsAbove edges) upper lower → IsDescendantAction bag (uid_of lower) (uid_of upper)
-    chain_descends = any.chain_descends (uid_eq.ghosts).eq uid_of entity_uid_eq-same reference_to_action parents_of (declared_actions bag) edges
-        in_bag (NamesAction (action_uids bag)) resolves alone
+    chain_descends = any.chain_descends (uid_eq.ghosts).eq uid_of entity_uid_eq-same parents_of (NamesAction (action_uids bag))
+        (declared_actions bag) edges in_bag
 
     -- a chain of edges leads to each descendant
     pub descends_by_chain : {lower upper : PlainUid} → IsDescendantAction bag lower upper → (key : EntityUID)
         → upper ≡ uid_of key → (uid : EntityUID) × (uid_of uid ≡ lower) × Chain (IsAbove edges) key uid
-    descends_by_chain = any.descends_by_chain (uid_eq.ghosts).eq uid_of entity_uid_eq-same reference_to_action parents_of (declared_actions bag)
-        edges in_bag (NamesAction (action_uids bag)) resolves alone
+    descends_by_chain = any.descends_by_chain (uid_eq.ghosts).eq uid_of entity_uid_eq-same parents_of (NamesAction (action_uids bag))
+        (declared_actions bag) edges in_bag (once (action_uids bag))

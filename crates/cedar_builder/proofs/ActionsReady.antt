@@ -1,5 +1,5 @@
 -- What the steps promise, read of a bag for which they are ready.
-use Rattle.std.proofs.Common.{◌≡◌, ◌⊎◌, ◌↔◌, List, Option, None, Some, IsSome, map, ap, sym, subst, ◌∙◌, refl, inl, inr, Contains}
+use Rattle.std.proofs.Common.{◌≡◌, ◌⊎◌, ◌↔◌, List, [], ◌∷◌, Option, None, Some, IsSome, map, ap, sym, subst, ◌∙◌, refl, inl, inr, Contains}
 use Rattle.std.proofs.lemmas.List.Elements.{Contains-append_cases}
 use Rattle.std.proofs.lemmas.List.Folds.{flat_map-map}
 use Rattle.std.proofs.lemmas.Simd.{map-map}
@@ -7,18 +7,20 @@ use Rattle.cedar_table.specs.Entries.{Entries as TableEntries}
 use Rattle.std.specs.List.{flat_map}
 use Rattle.cedar_schema_elements.proofs.SetLemmas.{list_any-uids}
 use Rattle.cedar_schema_elements.specs.ValidatorActionId.{parts_of}
-use Rattle.cedar_builder.specs.Words.{ActionBody, ActionKind, ActionRequests, ActionSays, ActionsAreSound, AreActionsOf, AreNamed, AreReady, AreSoundRequests, Bag, CountsInRequests, Covers, Entity, EntityType, EntityUID, Expr, Extensions, Fault, InternalName, IsActionType, IsAtEntityTypePosition, IsCollected, IsCollectedAt, IsCollectingFault, IsCounted, IsDeclaredAction, IsDeclaredActionKind, IsDefined, IsDescendantAction, IsElaboratedAction, IsElaboratedKind, IsFault, IsNameFault, IsNamedBy, IsPrincipalOrResource, IsRequestsFault, PlainName, PlainUid, Reference, Requests, ResolvesTo, SameAction, SaysTogether, Twice, TypeScope, ValidatorActionId, ValidatorEntityType, action_definition_in, action_of, action_uids, context_not_record, declared_actions, declared_entities, defined_action, defined_actions, defined_in, defined_names, definition_in, definitions, duplicate_action, elsewhere, extensions_in_scope, external_action, fragment_requests, is_action_definition, name_of, names_in, names_of, out_of_memory, plain_action_entry, reference_to_one, requests, requests_in, resolved_reference, uid_of, DeclaredAction}
-use Rattle.cedar_below.proofs.Lists.{Contains-preimage}
+use Rattle.cedar_builder.specs.Words.{ActionBody, ActionKind, ActionReference, ActionSays, ActionsAreSound, AreActionsOf, AreNamed, AreReady, AreSoundRequests, Bag, CountsInRequests, Covers, Entity, EntityType, EntityUID, Expr, Extensions, Fault, IsActionParent, IsActionType, IsAtEntityTypePosition, IsCollected, IsCollectedAt, IsCollectingFault, IsCounted, IsDeclaredAction, IsDeclaredActionKind, IsDefined, IsDescendantAction, IsElaboratedAction, IsElaboratedKind, IsFault, IsNamedBy, IsParentActionFault, IsParentFault, IsPlaceFault, IsPrincipalOrResource, IsRequestsFault, Names, NamesNoAction, PlainName, PlainUid, Reference, Requests, ResolvesTo, SameAction, SaysTogether, Twice, TypeScope, ValidatorActionId, ValidatorEntityType, action_definition_in, action_not_defined, action_of, action_uids, context_not_record, declared_actions, declared_entities, defined_action, defined_actions, defined_in, defined_names, definition_in, definitions, duplicate_action, elsewhere, extensions_in_scope, external_action, held_names, is_action_definition, names_in, names_of, out_of_memory, parents_in, plain_action_entry, requests, requests_in, reserved_name, type_not_defined, uid_of}
+use Rattle.cedar_below.proofs.Lists.{Contains-cons, Contains-preimage}
 use Rattle.cedar_below.specs.contracts.entity_uid.EntityUIDPartialEq.TheImpl as uid_eq
 use Rattle.cedar_declarations.proofs.DeclarationLemmas.{action_declaration}
 use Rattle.cedar_declarations.proofs.Definitions.{declared_definition, said_definition}
 use Rattle.cedar_declarations.proofs.OccurrenceLemmas.{Contains-image, Contains-single}
-use Rattle.cedar_declarations.proofs.ResolutionLemmas.{elaborated_once}
-use Rattle.cedar_builder.proofs.ActionParents.{AreEdges, chain_descends, chain_to_same, descendant_declared, descends_by_chain, edge_declared, lower_declared}
+use Rattle.cedar_declarations.proofs.ResolutionLemmas.{IsFirst-same, elaborated_once, first_defined}
+use Rattle.cedar_elaboration.proofs.ScopeLemmas.{same_resolves}
+use Rattle.cedar_builder.proofs.ActionParents.{AreEdges, chain_descends, chain_to_same, descendant_declared, descends_by_chain, edge_declared, listed_parent, lower_declared, parent_named, parents_of}
 use Rattle.cedar_builder.proofs.ActionsTogether.{definitions_alike}
+use Rattle.cedar_builder.proofs.NodeParents.{with_parents}
 use Rattle.cedar_builder.proofs.NodesCollected.{by_test}
 use Rattle.cedar_builder.proofs.NodesLinked.{alike_after, alike_before, collected_apart, descendants}
-use Rattle.cedar_builder.proofs.ReadyLemmas.{action_type, expr_fault}
+use Rattle.cedar_builder.proofs.ReadyLemmas.{action_type, expr_fault, type_fault}
 use Rattle.cedar_builder.specs.ActionNodes.{AreLinked, IsLinkingFault, has_descendant, node_at}
 use Rattle.cedar_builder.specs.ActionSteps.{HasNoRecord}
 
@@ -40,17 +42,6 @@ GivesAction scope applies_to it = IsElaboratedAction scope (uid_in it) applies_t
 -- a declaration with the requests that it is for
 abbrev requested : PlainUid × ActionBody → Entry
 requested it = (it.0, it.1.applies_to)
-
--- a principal or a resource over full names is a reference to one name
-one_place : (it : Option (ActionRequests InternalName)) (reference : Reference)
-    → IsPrincipalOrResource (fragment_requests InternalName resolved_reference it) reference
-    → (name : PlainName) × (reference ≡ reference_to_one Entity name)
-one_place None reference place = absurd place
-one_place (Some it) reference place = elim place [ inl here ↦ from it.principals.items here | inr there ↦ from it.resources.items there ] where
-  from : (names : List InternalName) → Contains (map (resolved_reference Entity) names) reference
-      → (name : PlainName) × (reference ≡ reference_to_one Entity name)
-  from names among =
-      let found = Contains-preimage (resolved_reference Entity) names reference among in (name_of found.0, sym found.2)
 
 -- the definitions of a bag, by the test
 bag_definitions : (bag : Bag) → flat_map (definition_in is_action_definition) (requests_in (declared_actions bag)) ≡ defined_actions bag
@@ -82,15 +73,37 @@ abbrev pub AreCollected : TypeScope → List Entry → List (EntityUID × Valida
 AreCollected scope entries nodes =
     (key : EntityUID) → IsCollectedAt is_action_definition IsExternal uid_in (GivesAction scope) entries (uid_of key) (node_at nodes key)
 
-module _ (bag : Bag) (extensions : Extensions) (declared : List DeclaredAction)
+module _ (bag : Bag) (extensions : Extensions) (declared : List (PlainUid × ActionBody))
     (types : TableEntries EntityType ValidatorEntityType) (scope : TypeScope)
-    (ready : AreActionsOf bag extensions declared types scope) where
+    (ready : AreActionsOf bag extensions declared types scope)
+    (keyed : (uid : PlainUid) → Contains (map (λ it. it.0) declared) uid → (key : EntityUID) × (uid_of key ≡ uid)) where
   abbrev Entries : List Entry
-  Entries = map (λ it. (uid_of it.value.0, fragment_requests InternalName resolved_reference it.value.1.requests)) declared
+  Entries = requests_in declared
+
+  -- the names that are in scope
+  abbrev held : Names
+  held = held_names scope.defs.now
+
+  -- what resolves over these does so over those of the bag
+  resolves : (reference : Reference) (name : PlainName) → ResolvesTo held reference name → ResolvesTo (defined_names bag extensions) reference name
+  resolves = same_resolves held (defined_names bag extensions) ready.names
+
+  -- and the other way round
+  held_resolves : (reference : Reference) (name : PlainName) → ResolvesTo (defined_names bag extensions) reference name → ResolvesTo held reference name
+  held_resolves = same_resolves (defined_names bag extensions) held (record {
+    common = λ name. ((ready.names.common name).1, (ready.names.common name).0);
+    entities = λ name. ((ready.names.entities name).1, (ready.names.entities name).0);
+    actions = λ uid. ((ready.names.actions uid).1, (ready.names.actions uid).0);
+  })
+
+  -- a reference resolves to one name
+  one_name : (reference : Reference) (name other : PlainName) → ResolvesTo (defined_names bag extensions) reference name
+      → ResolvesTo (defined_names bag extensions) reference other → name ≡ other
+  one_name reference = IsFirst-same (IsDefined (defined_names bag extensions) reference.kind) reference.possibilities
 
   -- those of the bag, each with the requests that it is for
   same_entries : Entries ≡ requests_in (declared_actions bag)
-  same_entries = sym (map-map requested _ declared) ∙ ap requests_in ready.actions
+  same_entries = ap requests_in ready.actions
 
   -- a declared action of the bag is among those that are handed in
   among_collected : (uid : PlainUid) (body : ActionBody) → Contains (declared_actions bag) (uid, body)
@@ -116,20 +129,7 @@ module _ (bag : Bag) (extensions : Extensions) (declared : List DeclaredAction)
 
   -- a declared uid is that of an action that is handed in
   key_of : (uid : PlainUid) → Contains (action_uids bag) uid → (key : EntityUID) × (uid_of key ≡ uid)
-  key_of uid among =
-      let entry = Contains-preimage (λ (it : Entry). it.0) Entries uid (rw same_uids among) in
-      let item = Contains-preimage (λ (it : DeclaredAction). (uid_of it.value.0, _)) declared entry.0 entry.1 in
-      (item.0.value.0, ap (λ (it : Entry). it.0) item.2 ∙ entry.2)
-
-  -- a principal or a resource that is handed in is a reference to one name
-  one_placed : (uid : PlainUid) (applies_to : Requests) (reference : Reference) → Contains Entries (uid, applies_to)
-      → IsPrincipalOrResource applies_to reference → (name : PlainName) × (reference ≡ reference_to_one Entity name)
-  one_placed uid applies_to reference among place =
-      let item = Contains-preimage
-      (λ (it : DeclaredAction). (uid_of it.value.0, fragment_requests InternalName resolved_reference it.value.1.requests))
-      declared (uid, applies_to) among in
-      one_place item.0.value.1.requests reference
-      (rw (ap (λ (it : Entry). it.1) item.2) place)
+  key_of uid among = keyed uid (rw ready.actions among)
 
   -- what counts in a declaration counts in the bag
   counted : (uid : PlainUid) (applies_to : Requests) (expr : Expr) → Contains Entries (uid, applies_to)
@@ -152,31 +152,12 @@ module _ (bag : Bag) (extensions : Extensions) (declared : List DeclaredAction)
       → CountsInRequests applies_to expr → Covers (definitions bag extensions) scope expr
   known_counted uid applies_to expr among counts = ready.knows expr (counted uid applies_to expr among counts)
 
-  -- a reference to one name that has to be an entity type resolves to it
-  one_resolves : (name : PlainName) → IsAtEntityTypePosition bag (reference_to_one Entity name)
-      → ResolvesTo (defined_names bag extensions) (reference_to_one Entity name) name
-  one_resolves name place =
-      let found = ready.placed (reference_to_one Entity name) place in
-      elim found.1 [ inl here ↦ inl (refl, here.1) | inr later ↦ absurd later.1 ]
-
   -- the names of principals or resources are those that these resolve to
-  names_resolved : (uid : PlainUid) (applies_to : Requests) (references : List Reference) (names : List PlainName)
-      → Contains Entries (uid, applies_to)
-      → ((reference : Reference) → Contains references reference → IsPrincipalOrResource applies_to reference)
-      → AreNamed references names → (name : PlainName)
+  names_resolved : (references : List Reference) (names : List PlainName) → AreNamed held references names → (name : PlainName)
       → Contains names name ↔ IsNamedBy (names_of (definitions bag extensions)) references name
-  names_resolved uid applies_to references names among place named name = (
-    λ there.
-        let it = (named name).0 there in (
-          reference_to_one Entity name,
-          it,
-          one_resolves name (placed uid applies_to (reference_to_one Entity name) among
-              (place (reference_to_one Entity name) it)),
-        ),
-    λ by.
-        let alone = one_placed uid applies_to by.0 among (place by.0 by.1) in
-        let same : alone.0 ≡ name = elim (rw alone.1 at by.2) [ inl here ↦ here.0 | inr later ↦ absurd later.1 ] in
-        (named name).1 (rw (alone.1, same) at by.1),
+  names_resolved references names named name = (
+    λ there. let it = (named name).0 there in (it.0, it.1, resolves it.0 name it.2),
+    λ by. (named name).1 (by.0, by.1, held_resolves by.0 name by.2),
   )
 
   -- the kind of an action is the declared one
@@ -188,8 +169,8 @@ module _ (bag : Bag) (extensions : Extensions) (declared : List DeclaredAction)
   said_kind uid (requests principals resources context) (defined_action principal_types resource_types ty) says elaborated =
       let all = requests principals resources context in
       let among = said_definition (by_test is_action_definition) Entries uid all refl says in (
-        names_resolved uid all principals principal_types among (λ reference there. inl there) elaborated.0,
-        names_resolved uid all resources resource_types among (λ reference there. inr there) elaborated.1,
+        names_resolved principals principal_types elaborated.0,
+        names_resolved resources resource_types elaborated.1,
         elaborated.2 (definitions bag extensions) (known_counted uid all context among refl),
       )
 
@@ -222,24 +203,52 @@ module _ (bag : Bag) (extensions : Extensions) (declared : List DeclaredAction)
     ]
   ]
 
-  -- a refused name of a principal or a resource is a fault of the bag
-  name_fault : (uid : PlainUid) (applies_to : Requests) (name : PlainName) (fault : Fault) → Contains Entries (uid, applies_to)
-      → IsPrincipalOrResource applies_to (reference_to_one Entity name) → IsNameFault (names_in types) name fault
-      → IsFault bag extensions fault
-  name_fault uid applies_to name fault among place refused =
-      let is_placed = placed uid applies_to (reference_to_one Entity name) among place in
-      let resolves = one_resolves name is_placed in
-      let is_defined : IsDefined (defined_names bag extensions) Entity name =
-      elim resolves [ inl here ↦ here.1 | inr later ↦ absurd later.1 ] in
+  -- a refusal of a principal or a resource is a fault of the bag, unless memory ran out
+  place_fault : (uid : PlainUid) (applies_to : Requests) (reference : Reference) (fault : Fault) → Contains Entries (uid, applies_to)
+      → IsPrincipalOrResource applies_to reference → IsPlaceFault held (names_in types) reference fault
+      → (fault ≡ out_of_memory) ⊎ IsFault bag extensions fault
+  place_fault uid applies_to reference fault among place refused =
+      let is_placed = placed uid applies_to reference among place in
       elim refused [
-        | inl reserved ↦ absurd (elim is_defined [ inl common ↦ common.0 | inr is_entity ↦ ready.unreserved name is_entity.1 reserved.1 ])
-        | inr undeclared ↦ rw undeclared.0 (
-          (λ wrong. cc),
-          λ each there.
-              rw (← Contains-single name each there)
-              (undeclared_action_type name undeclared.1 is_defined, reference_to_one Entity name, is_placed, resolves),
-        )
+        | inl at_fault ↦ type_fault bag extensions held ready.names ready.unreserved reference is_placed fault at_fault
+        | inr undeclared ↦
+            let name = undeclared.0 in
+            let resolved = resolves reference name undeclared.2.1 in
+            let kinds = (first_defined (defined_names bag extensions) reference.kind reference.possibilities name resolved).1 in
+            inr (rw undeclared.1 (
+              (λ wrong. cc),
+              λ each there.
+                  rw (← Contains-single name each there)
+                  (undeclared_action_type name undeclared.3 (rw undeclared.2.0 at kinds), reference, is_placed, resolved),
+            ))
       ]
+
+  -- a refusal of a parent of an action is a fault of the bag, unless memory ran out
+  parent_refused : (uid : PlainUid) (reference : ActionReference) → IsActionParent bag uid reference → (fault : Fault)
+      → IsParentActionFault held reference fault → (fault ≡ out_of_memory) ⊎ IsFault bag extensions fault
+  parent_refused uid reference parent (type_not_defined []) refused = absurd (refused.0 refl)
+  parent_refused uid reference parent (type_not_defined (first ∷ rest)) refused =
+      absurd (refused.1 first (Contains-cons first rest first (inl refl))).0
+  parent_refused uid reference parent (action_not_defined actions) refused = inr (
+    refused.0,
+    λ carried among.
+        let found = refused.1 carried among in
+        let nothing : NamesNoAction (action_uids bag) found.0 = λ ty possible action.
+        found.3 ty possible ((ready.names.actions (record { ty = ty; eid = found.0.id })).1 action) in
+        (uid, found.0, rw found.1 at parent, found.2, nothing),
+  )
+  parent_refused uid reference parent (reserved_name name) refused = absurd refused.1
+  parent_refused uid reference parent out_of_memory refused = inl refl
+  parent_refused uid reference parent _ refused = absurd refused
+
+  -- so is one of the parents of all
+  pub parent_fault : (fault : Fault)
+      → IsParentFault (IsParentActionFault held) (parents_in (map (with_parents parents_of) declared)) fault
+      → (fault ≡ out_of_memory) ⊎ IsFault bag extensions fault
+  parent_fault fault refused = elim refused [
+    | inl wanting ↦ inl wanting
+    | inr one ↦ parent_refused one.0 one.1 (listed_parent bag extensions declared types scope ready one.0 one.1 one.2) fault one.3
+  ]
 
   -- a refusal of declarations is a fault of the bag, unless memory ran out
   pub collecting_fault : (fault : Fault) → IsCollectingFault is_action_definition uid_of (λ key. IsRequestsFault scope (names_in types) (uid_of key)) duplicate_action Entries fault
@@ -251,14 +260,14 @@ module _ (bag : Bag) (extensions : Extensions) (declared : List DeclaredAction)
       | inr (inl expr) ↦ expr_fault bag extensions (extensions_in_scope scope) ready.extensions ready.unreserved expr.0 fault (counted (uid_of one.0) one.1 expr.0 one.2 expr.1)
           (expr.2.each (definitions bag extensions) (known_counted (uid_of one.0) one.1 expr.0 one.2 expr.1))
       | inr (inr (inl context)) ↦ inr (rw context.0 (context_fault (uid_of one.0) one.1 one.2 context.1))
-      | inr (inr (inr name)) ↦ inr (name_fault (uid_of one.0) one.1 name.0 fault one.2 name.1 name.2)
+      | inr (inr (inr place)) ↦ place_fault (uid_of one.0) one.1 place.0 fault one.2 place.1 place.2
     ]
     | inr (inr twice) ↦ inr (rw twice.1 (rw same_definitions at twice.2))
   ]
 
   module _ (before : List (EntityUID × ValidatorActionId)) (collected : AreCollected scope Entries before)
       (once : (uid : PlainUid) → ¬ Twice (defined_in is_action_definition Entries) uid)
-      (edges : List (EntityUID × EntityUID)) (are : AreEdges declared edges) where
+      (edges : List (EntityUID × EntityUID)) (are : AreEdges held.actions declared edges) where
     -- a declared uid has an action
     stands : (key : EntityUID) → Contains (action_uids bag) (uid_of key) → IsSome (node_at before key)
     stands key among = by (node_at before key) (collected key) where
@@ -337,12 +346,10 @@ module _ (bag : Bag) (extensions : Extensions) (declared : List DeclaredAction)
         place_declared : (uid : PlainUid) (body : ActionBody) (reference : Reference) (name : PlainName)
             → Contains (declared_actions bag) (uid, body) → IsPrincipalOrResource body.applies_to reference
             → ResolvesTo (defined_names bag extensions) reference name → Contains (map (λ it. it.0) (declared_entities bag)) name
-        place_declared uid body reference name among place resolves =
-            let there = among_collected uid body among in
-            let alone = one_placed uid body.applies_to reference there place in
-            let same : alone.0 ≡ name = elim (rw alone.1 at resolves) [ inl here ↦ here.0 | inr later ↦ absurd later.1 ] in
-            (ready.entity_types name).0
-            (rw same at ((sound uid body.applies_to there).entity_types alone.0 (rw alone.1 at place)))
+        place_declared uid body reference name among place resolved =
+            let found = (sound uid body.applies_to (among_collected uid body among)).placed reference place in
+            let same : found.0 ≡ name = one_name reference found.0 name (resolves reference found.0 found.1) resolved in
+            (ready.entity_types name).0 (rw same at found.2)
 
         -- what is certain of the declarations
         pub certain : ActionsAreSound bag extensions
@@ -356,5 +363,13 @@ module _ (bag : Bag) (extensions : Extensions) (declared : List DeclaredAction)
           extension_types = λ uid body expr among counts word mentioned.
               rw ready.extensions at
               ((sound uid body.applies_to (among_collected uid body among)).extensions expr counts word mentioned);
+          resolves = λ uid body expr among counts.
+              let there = among_collected uid body among in
+              (sound uid body.applies_to there).resolves expr counts (definitions bag extensions)
+              (known_counted uid body.applies_to expr there counts);
+          named = parent_named bag extensions declared types scope ready edges are;
+          placed = λ uid body reference among place.
+              let found = (sound uid body.applies_to (among_collected uid body among)).placed reference place in
+              (found.0, resolves reference found.0 found.1);
           entity_types = place_declared;
         }

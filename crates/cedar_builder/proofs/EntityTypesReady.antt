@@ -3,19 +3,19 @@ use Rattle.std.proofs.Common.{◌≡◌, ◌⊎◌, true, is_some, List, [], ◌
 use Rattle.std.proofs.lemmas.Bool.{false≢true}
 use Rattle.std.specs.List.{flat_map}
 use Rattle.std.proofs.lemmas.List.Elements.{Contains-append_cases}
-use Rattle.cedar_below.proofs.Lists.{Contains-preimage}
-use Rattle.cedar_builder.specs.Words.{AreDeclaredTags, AreElaboratedTags, AreLinked, AreUnlinked, Bag, CountsInEntity, Covers, Defined, Entity, EntityBody, EntitySays, EntityType, EntityTypeKind, EntityTypesAreSound, Expr, Extensions, Fault, HasNoRecord, HasParent, IsAbove, IsActionType, IsAtEntityTypePosition, IsBodyFault, IsCollected, IsCollectedAt, IsCollectingFault, IsCounted, IsDeclaredEntityType, IsDeclaredKind, IsDefined, IsDescendant, IsElaboratedEntity, IsEnumerated, IsEnumeratedAt, IsExternalAt, IsExternalType, IsFault, IsLinkingFault, IsNoRecord, IsParent, IsParentFault, IsReady, IsSoundBody, LeadsTo, PlainEntityType, PlainName, Reference, ResolvesTo, SameType, SaysTogether, Text, Twice, Ty, TypeScope, ValidatorEntityType, action_uids, collected_entities, declared_entities, defined_entities, defined_in, defined_names, definition_in, definitions, duplicate_entity_type, entity_definition_in, entity_definitions, entity_parents, entity_type_of, entry_names, enumerated, enumerated_below, enumerated_kind, extensions_in_scope, external, external_kind, has_descendant, is_entity_definition, node_at, out_of_memory, parents_in, plain_entry, reference_to_one, shape_not_record, standard, standard_kind, type_name, undeclared_entity_types, DeclaredEntityType}
+use Rattle.cedar_builder.specs.Words.{AreDeclaredTags, AreElaboratedTags, AreLinked, AreUnlinked, Bag, CountsInEntity, Covers, Defined, Entity, EntityBody, EntitySays, EntityType, EntityTypeKind, EntityTypesAreSound, Expr, Extensions, Fault, HasNoRecord, HasParent, IsAbove, IsActionType, IsBodyFault, IsCollected, IsCollectedAt, IsCollectingFault, IsCounted, IsDeclaredEntityType, IsDeclaredKind, IsDefined, IsDescendant, IsElaboratedEntity, IsEnumerated, IsEnumeratedAt, IsExternalAt, IsExternalType, IsFault, IsLinkingFault, IsNoRecord, IsParent, IsParentFault, IsReady, IsSoundBody, IsTypeFault, LeadsTo, NamesType, PlainEntityType, PlainName, Reference, ResolvesTo, SameType, SaysTogether, Text, Twice, Ty, TypeScope, ValidatorEntityType, action_uids, declared_entities, defined_entities, defined_in, defined_names, definition_in, definitions, duplicate_entity_type, entity_definition_in, entity_definitions, entity_parents, entity_type_of, entry_names, enumerated, enumerated_below, enumerated_kind, extensions_in_scope, external, external_kind, has_descendant, held_names, is_entity_definition, node_at, out_of_memory, parents_in, plain_entry, shape_not_record, standard, standard_kind, type_name, undeclared_entity_types}
 use Rattle.cedar_below.specs.contracts.entity_type.EntityTypePartialEq.TheImpl as entity_type_eq
 use Rattle.cedar_declarations.proofs.DeclarationLemmas.{entity_declaration}
 use Rattle.cedar_declarations.proofs.Definitions.{declared_definition, key_defined, said_declared, said_definition}
 use Rattle.cedar_declarations.proofs.OccurrenceLemmas.{Contains-image, Contains-single, value_once}
-use Rattle.cedar_declarations.proofs.ResolutionLemmas.{elaborated_once}
+use Rattle.cedar_declarations.proofs.ResolutionLemmas.{elaborated_once, first_defined}
 use Rattle.cedar_declarations.proofs.TogetherLemmas.{IsDefinition, entity_counted}
 use Rattle.cedar_types.proofs.MemberLemmas.{list_any-names}
-use Rattle.cedar_builder.proofs.EntityTypeParents.{AreEdges, RefusesReserved, an_edge, chain_descends, descends_by_chain, edge_has_parent, edge_parent, listed, listed_parent, one_resolves, parent_edge, parent_placed}
+use Rattle.cedar_builder.proofs.EntityTypeParents.{AreEdges, an_edge, chain_descends, descends_by_chain, edge_has_parent, edge_names, listed_parent, parent_edge, parent_placed, parent_resolves}
+use Rattle.cedar_builder.proofs.NodeParents.{with_parents}
 use Rattle.cedar_builder.proofs.NodesCollected.{by_test}
 use Rattle.cedar_builder.proofs.NodesLinked.{alike_after, alike_before, collected_apart, descendants}
-use Rattle.cedar_builder.proofs.ReadyLemmas.{action_type, expr_fault}
+use Rattle.cedar_builder.proofs.ReadyLemmas.{action_type, expr_fault, type_fault}
 use Rattle.cedar_builder.specs.EntityTypeSteps.{IsElaboratedKind}
 
 abbrev Entry : Type 0
@@ -111,10 +111,11 @@ no_edges scope entries nodes collected = collected_apart (entity_type_eq.ghosts)
     (λ it key. list_any-names key it.descendants.keys) is_entity_definition IsExternal name_of (GivesEntity scope) (λ body it given. given.no_descendants)
     entries nodes collected
 
-module _ (bag : Bag) (extensions : Extensions) (declared : List DeclaredEntityType)
-    (scope : TypeScope) (ready : IsReady bag extensions declared scope) where
+module _ (bag : Bag) (extensions : Extensions) (declared : List Entry)
+    (scope : TypeScope) (ready : IsReady bag extensions declared scope)
+    (keyed : (name : PlainName) → Contains (entry_names declared) name → (key : EntityType) × (type_name key ≡ name)) where
   abbrev Entries : List Entry
-  Entries = collected_entities declared
+  Entries = declared
 
   -- a declared entity type of the bag is among those that are handed in
   among_collected : (name : PlainName) (body : EntityBody) → Contains (declared_entities bag) (name, body) → Contains Entries (name, body)
@@ -128,10 +129,7 @@ module _ (bag : Bag) (extensions : Extensions) (declared : List DeclaredEntityTy
 
   -- a declared name is that of an entity type that is handed in
   key_of : (name : PlainName) → Contains (entry_names (declared_entities bag)) name → (key : EntityType) × (type_name key ≡ name)
-  key_of name among =
-      let entry = Contains-preimage (λ (it : Entry). it.0) Entries name (rw ready.entities among) in
-      let item = Contains-preimage (λ (it : DeclaredEntityType). (type_name it.value.0, _)) declared entry.0 entry.1 in
-      (item.0.value.0, ap (λ (it : Entry). it.0) item.2 ∙ entry.2)
+  key_of name among = keyed name (rw ready.entities among)
 
   -- enough is known for what counts in a declaration
   known_counted : (name : PlainName) (body : EntityBody) (expr : Expr) → Contains Entries (name, body) → CountsInEntity body expr
@@ -178,17 +176,13 @@ module _ (bag : Bag) (extensions : Extensions) (declared : List DeclaredEntityTy
 
   -- a refusal of parents is a fault of the bag, unless memory ran out
   pub parent_fault : (fault : Fault)
-      → IsParentFault RefusesReserved (parents_in (map listed declared)) fault → (fault ≡ out_of_memory) ⊎ IsFault bag extensions fault
+      → IsParentFault (IsTypeFault (held_names scope.defs.now)) (parents_in (map (with_parents entity_parents) declared)) fault
+      → (fault ≡ out_of_memory) ⊎ IsFault bag extensions fault
   parent_fault fault refused = elim refused [
     | inl wanting ↦ inl wanting
-    | inr reserved ↦
-        let name = reserved.3.0 in
-        let parent = listed_parent bag extensions declared scope ready reserved.0 reserved.1 reserved.2 in
-        let placed = parent_placed bag reserved.0 reserved.1 parent in
-        absurd (elim (one_resolves bag extensions declared scope ready name (rw reserved.3.3 at placed)) [
-          | inl here ↦ elim here.1 [ inl common ↦ common.0 | inr is_entity ↦ ready.unreserved name is_entity.1 reserved.3.2 ]
-          | inr later ↦ later.1
-        ])
+    | inr one ↦
+        let parent = listed_parent bag extensions declared scope ready one.0 one.1 one.2 in
+        type_fault bag extensions (held_names scope.defs.now) ready.names ready.unreserved one.1 (parent_placed bag one.0 one.1 parent) fault one.3
   ]
 
   -- a refusal of declarations is a fault of the bag, unless memory ran out
@@ -281,14 +275,13 @@ module _ (bag : Bag) (extensions : Extensions) (declared : List DeclaredEntityTy
           let found = external_kind_elaborated scope is.body (entity_type_of it).kind is.given.kind there in
           (found.0, rw found.1 at is.says)
 
-    module _ (edges : List (EntityType × EntityType)) (are : AreEdges declared edges) where
+    module _ (edges : List (EntityType × EntityType)) (are : AreEdges (held_names scope.defs.now) declared edges) where
       -- a node stands at the lower end of each edge, and none has descendants
       pub unlinked : AreUnlinked edges before
       unlinked = record {
         apart = no_edges scope Entries before collected;
         lowers = λ upper lower above.
-            let parent : IsParent bag (type_name lower) (reference_to_one Entity (type_name upper)) =
-            edge_parent bag extensions declared scope ready edges are upper lower above in
+            let parent = (edge_names bag extensions declared scope ready edges are upper lower above).1 in
             stands lower (Contains-image (λ (it : Entry). it.0) Entries (type_name lower, parent.0)
             (among_collected (type_name lower) parent.0 parent.1));
       }
@@ -300,17 +293,12 @@ module _ (bag : Bag) (extensions : Extensions) (declared : List DeclaredEntityTy
         (λ wrong. cc),
         λ name among.
             let same : type_name upper ≡ name = Contains-single (type_name upper) name among in
-            rw (← same) (is_action, reference_to_one Entity (type_name upper), placed, resolves),
+            rw (← same) (is_action, edge.0, parent_placed bag (type_name lower) edge.0 edge.1, edge.2.1),
       )
         where
-          parent : IsParent bag (type_name lower) (reference_to_one Entity (type_name upper))
-          parent = edge_parent bag extensions declared scope ready edges are upper lower above
-
-          placed : IsAtEntityTypePosition bag (reference_to_one Entity (type_name upper))
-          placed = parent_placed bag (type_name lower) (reference_to_one Entity (type_name upper)) parent
-
-          resolves : ResolvesTo (defined_names bag extensions) (reference_to_one Entity (type_name upper)) (type_name upper)
-          resolves = one_resolves bag extensions declared scope ready (type_name upper) placed
+          edge : (reference : Reference) × IsParent bag (type_name lower) reference
+              × NamesType (defined_names bag extensions) reference (type_name upper)
+          edge = edge_names bag extensions declared scope ready edges are upper lower above
 
           undeclared : ¬ Contains (entry_names (declared_entities bag)) (type_name upper)
           undeclared among =
@@ -327,7 +315,9 @@ module _ (bag : Bag) (extensions : Extensions) (declared : List DeclaredEntityTy
           ]
 
           is_action : IsActionType (type_name upper)
-          is_action = elim resolves [ inl here ↦ defined_entity here.1 | inr later ↦ absurd later.1 ]
+          is_action =
+              let defined = (first_defined (defined_names bag extensions) edge.0.kind edge.0.possibilities (type_name upper) edge.2.1).1 in
+              defined_entity (rw edge.2.0 at defined)
 
       -- a parent of an enumerated entity type is one by an external declaration
       enumerated_fault : (upper lower : EntityType) → IsAbove edges upper lower → IsEnumeratedAt (node_at before lower)
@@ -416,6 +406,10 @@ module _ (bag : Bag) (extensions : Extensions) (declared : List DeclaredEntityTy
           closed = λ name body expr among counts. (sound name body (among_collected name body among)).closed expr counts;
           extension_types = λ name body expr among counts word mentioned.
               rw ready.extensions at ((sound name body (among_collected name body among)).extensions expr counts word mentioned);
+          resolves = λ name body expr among counts reference refers.
+              (sound name body (among_collected name body among)).resolves expr counts (definitions bag extensions)
+              (known_counted name body expr (among_collected name body among) counts) reference refers;
+          placed = λ name reference parent. parent_resolves bag extensions declared scope ready edges are name reference parent;
           parents = λ name upper reference parent resolves. parent_declared name upper (reference, parent, resolves);
           external_above = λ lower upper fault. no_external_below lower upper fault.0 fault.1 fault.2 fault.3;
           enumerated_alone = λ lower upper fault. no_enumerated_below lower upper fault.0 fault.3

@@ -1,10 +1,11 @@
 -- Edges to what is declared from its parents, as they are listed one after another.
-use Rattle.std.proofs.Common.{◌≡◌, ◌⊎◌, ◌<◌, ◌+◌, ℕ, List, [], ◌∷◌, ◌++◌, map, take, length, get_or, ap, sym, ◌∙◌, inl, inr, append_assoc, Contains}
+use Rattle.std.proofs.Common.{◌≡◌, ◌⊎◌, ◌<◌, ◌+◌, ℕ, List, [], ◌∷◌, ◌++◌, map, take, length, get_or, ap, sym, subst, ◌∙◌, inl, inr, append_assoc, Contains}
 use Rattle.std.proofs.lemmas.Grind.{flat_map-append}
 use Rattle.std.proofs.lemmas.List.{append-nil, map-append, take_more}
 use Rattle.std.proofs.lemmas.List.Elements.{Contains-get_or}
+use Rattle.cedar_below.proofs.TurnLemmas.{turn_more}
 use Rattle.cedar_declarations.proofs.OccurrenceLemmas.{Contains-given, Contains-image}
-use Rattle.cedar_builder.specs.Words.{Fault, IsParentFault, out_of_memory, parents_in}
+use Rattle.cedar_builder.specs.Words.{Fault, HoldsPairwise, IsParentFault, out_of_memory, parents_in}
 
 -- one more item of a list
 pub take_item : {A : Type 0} (xs : List A) (i : ℕ) (x : A) → i < length xs → x ≡ get_or xs i x → take (i + 1) xs ≡ take i xs ++ x ∷ []
@@ -20,16 +21,16 @@ pub item_among : {A : Type 0} (xs : List A) (i : ℕ) (x : A) → i < length xs 
 item_among xs i x below is = rw is (Contains-get_or xs i x below)
 
 -- one more edge is one more parent
-pub pushed_parent : {Edge Name Reference : Type 0} (plain : Edge → Name × Reference) (initial : List (Name × Reference))
-    (edges pushed : List Edge) (name : Name) (done : List Reference) (reference : Reference) (edge : Edge) → pushed ≡ edges ++ edge ∷ []
-    → plain edge ≡ (name, reference) → map plain edges ≡ initial ++ map (λ each. (name, each)) done
-    → map plain pushed ≡ initial ++ map (λ each. (name, each)) (done ++ reference ∷ [])
-pushed_parent plain initial edges pushed name done reference edge is one so_far =
-    ap (map plain) is
-    ∙ (map-append plain edges (edge ∷ [])
-    ∙ ((λ i. so_far i ++ one i ∷ [])
-    ∙ (append_assoc initial (map (λ each. (name, each)) done) ((name, reference) ∷ [])
-    ∙ ap (λ parents. initial ++ parents) (sym (map-append (λ each. (name, each)) done (reference ∷ []))))))
+pub pushed_parent : {Edge Name Reference : Type 0} (R : Edge → Name × Reference → Type 0) (initial : List (Name × Reference))
+    (edges : List Edge) (name : Name) (done : List Reference) (reference : Reference) (edge : Edge)
+    → R edge (name, reference) → HoldsPairwise R edges (initial ++ map (λ each. (name, each)) done)
+    → HoldsPairwise R (edges ++ edge ∷ []) (initial ++ map (λ each. (name, each)) (done ++ reference ∷ []))
+pushed_parent {Name = Name} {Reference = Reference} R initial edges name done reference edge one so_far =
+    let pair : Reference → Name × Reference = λ each. (name, each) in
+    let all : (initial ++ map pair done) ++ (name, reference) ∷ [] ≡ initial ++ map pair (done ++ reference ∷ []) =
+    append_assoc initial (map pair done) ((name, reference) ∷ [])
+    ∙ ap (λ parents. initial ++ parents) (sym (map-append pair done (reference ∷ []))) in
+    subst (HoldsPairwise R (edges ++ edge ∷ [])) all (turn_more R edges (initial ++ map pair done) edge (name, reference) so_far one)
 
 module _ {Name Reference : Type 0} (entries : List (Name × List Reference)) (name : Name) (parents : List Reference) where
   -- the parents of one more declaration come after those before

@@ -2,8 +2,9 @@
 use Rattle.std.proofs.Common.{◌≡◌, ◌↔◌, Bool, IsTrue, List, map, ap, sym, subst, ◌∙◌, refl, Contains}
 use Rattle.cedar_below.proofs.Chains.{joined}
 use Rattle.cedar_below.proofs.Lists.{Contains-preimage}
-use Rattle.cedar_builder.specs.Words.{Chain, IsEdgeIn, more, one, parents_in, plain_edge}
+use Rattle.cedar_builder.specs.Words.{Chain, HoldsPairwise, IsEdgeIn, IsEdgeOf, more, one, parents_in}
 use Rattle.cedar_declarations.proofs.OccurrenceLemmas.{Contains-flat_map, Contains-given, Contains-image}
+use Rattle.cedar_declarations.proofs.TurnLemmas.{turn_back, turn_forth}
 
 module _ {Name Body Reference : Type 0} (parents : Body → List Reference) where
   -- each name with the parents of its declaration
@@ -29,7 +30,7 @@ module _ {Name Body Reference : Type 0} (parents : Body → List Reference) wher
       )
 
   -- a parent of a declaration stands beside its name
-  parent_to : (entries : List (Name × Body)) (name : Name) (reference : Reference) → HasByDeclaration entries name reference
+  pub parent_to : (entries : List (Name × Body)) (name : Name) (reference : Reference) → HasByDeclaration entries name reference
       → Contains (parents_in (map with_parents entries)) (name, reference)
   parent_to entries name reference (body, among, parent) =
       Contains-given (λ (each : Name × List Reference). map (λ of. (each.0, of)) each.1) (map with_parents entries) (name, parents body)
@@ -37,54 +38,46 @@ module _ {Name Body Reference : Type 0} (parents : Body → List Reference) wher
       (Contains-image (λ of. (name, of)) (parents body) reference parent)
 
 module _ {K Name Body Reference : Type 0} (eq : K → K → Bool) (key_name : K → Name)
-    (same_key : (a b : K) → IsTrue (eq a b) ↔ (key_name a ≡ key_name b)) (reference_to : Name → Reference) (parents : Body → List Reference)
-    (entries : List (Name × Body)) (edges : List (K × K))
-    (are : map (plain_edge key_name reference_to) edges ≡ parents_in (map (with_parents parents) entries)) where
+    (same_key : (a b : K) → IsTrue (eq a b) ↔ (key_name a ≡ key_name b)) (parents : Body → List Reference)
+    (Resolves : Reference → Name → Type 0) (entries : List (Name × Body)) (edges : List (K × K))
+    (are : HoldsPairwise (IsEdgeOf key_name Resolves) edges (parents_in (map (with_parents parents) entries))) where
+  -- the one has the other as a parent, by some declaration
+  abbrev HasParentNamed : Name → Name → Type 0
+  HasParentNamed lower upper = (reference : Reference) × HasByDeclaration parents entries lower reference × Resolves reference upper
+
   -- an edge between keys of the same names is one
   pub edge_above : (edge : K × K) (upper lower : K) → Contains edges edge → key_name edge.0 ≡ key_name upper
       → key_name edge.1 ≡ key_name lower → IsEdgeIn eq edges upper lower
   edge_above edge upper lower among above below =
       (edge, among, (same_key edge.0 upper).1 above, (same_key edge.1 lower).1 below)
 
-  -- an edge leads to what is declared from a parent of it
-  pub edge_parent : (upper lower : K) → IsEdgeIn eq edges upper lower
-      → HasByDeclaration parents entries (key_name lower) (reference_to (key_name upper))
-  edge_parent upper lower (edge, among, above, below) =
-      let named : plain_edge key_name reference_to edge ≡ plain_edge key_name reference_to (upper, lower) =
-      λ i. ((same_key edge.1 lower).0 below i, reference_to ((same_key edge.0 upper).0 above i)) in
-      parent_from parents entries (key_name lower) (reference_to (key_name upper))
-      (rw (are, named) at (Contains-image (plain_edge key_name reference_to) edges edge among))
+  -- the upper end of an edge is a parent of the lower
+  pub edge_has_parent : (upper lower : K) → IsEdgeIn eq edges upper lower → HasParentNamed (key_name lower) (key_name upper)
+  edge_has_parent upper lower (edge, among, above, below) =
+      let all = parents_in (map (with_parents parents) entries) in
+      let found = turn_forth (IsEdgeOf key_name Resolves) edges all are edge among in
+      let is_lower : found.0.0 ≡ key_name lower = sym found.2.0 ∙ (same_key edge.1 lower).0 below in (
+        found.0.1,
+        parent_from parents entries (key_name lower) found.0.1 (subst (λ each. Contains all (each, found.0.1)) is_lower found.1),
+        subst (Resolves found.0.1) ((same_key edge.0 upper).0 above) found.2.1,
+      )
 
-  module _ (Resolves : Reference → Name → Type 0)
-      (resolves : (lower upper : Name) → HasByDeclaration parents entries lower (reference_to upper) → Resolves (reference_to upper) upper)
-      (alone : (name other : Name) → Resolves (reference_to name) other → name ≡ other) where
-    -- the one has the other as a parent, by some declaration
-    abbrev HasParentNamed : Name → Name → Type 0
-    HasParentNamed lower upper = (reference : Reference) × HasByDeclaration parents entries lower reference × Resolves reference upper
+  -- what a chain of edges leads to is a descendant
+  pub chain_descends : {upper lower : K} → Chain (IsEdgeIn eq edges) upper lower → Chain HasParentNamed (key_name lower) (key_name upper)
+  chain_descends {upper = upper} {lower = lower} (one step) = one (edge_has_parent upper lower step)
+  chain_descends {upper = upper} (more {b = between} step rest) =
+      joined (chain_descends rest) (one (edge_has_parent upper between step))
 
-    -- the upper end of an edge is a parent of the lower
-    pub edge_has_parent : (upper lower : K) → IsEdgeIn eq edges upper lower → HasParentNamed (key_name lower) (key_name upper)
-    edge_has_parent upper lower above =
-        let parent = edge_parent upper lower above in
-        (reference_to (key_name upper), parent, resolves (key_name lower) (key_name upper) parent)
-
+  module _ (once : (reference : Reference) (name other : Name) → Resolves reference name → Resolves reference other → name ≡ other) where
     -- a parent is so by an edge
     pub parent_edge : (lower upper : Name) → HasParentNamed lower upper
         → (edge : K × K) × Contains edges edge × (key_name edge.0 ≡ upper) × (key_name edge.1 ≡ lower)
     parent_edge lower upper (reference, parent, names) =
-        let it = Contains-preimage (plain_edge key_name reference_to) edges (lower, reference)
-        (rw are (parent_to parents entries lower reference parent)) in (
-          it.0,
-          it.1,
-          alone (key_name it.0.0) upper (rw (ap (λ (each : Name × Reference). each.1) it.2) names),
-          ap (λ (each : Name × Reference). each.0) it.2,
-        )
-
-    -- what a chain of edges leads to is a descendant
-    pub chain_descends : {upper lower : K} → Chain (IsEdgeIn eq edges) upper lower → Chain HasParentNamed (key_name lower) (key_name upper)
-    chain_descends {upper = upper} {lower = lower} (one step) = one (edge_has_parent upper lower step)
-    chain_descends {upper = upper} (more {b = between} step rest) =
-        joined (chain_descends rest) (one (edge_has_parent upper between step))
+        let all = parents_in (map (with_parents parents) entries) in
+        let back = turn_back (IsEdgeOf key_name Resolves) (λ it edge. IsEdgeOf key_name Resolves edge it) (λ edge it is. is) edges all are in
+        let found = turn_forth (λ it edge. IsEdgeOf key_name Resolves edge it) all edges back (lower, reference)
+        (parent_to parents entries lower reference parent) in
+        (found.0, found.1, once reference (key_name found.0.0) upper found.2.1 names, found.2.0)
 
     -- a chain of edges leads to each descendant
     pub descends_by_chain : {lower upper : Name} → Chain HasParentNamed lower upper → (key : K) → upper ≡ key_name key

@@ -1,8 +1,11 @@
 -- What a bag owes to the steps that build its entity types and its actions.
-use Rattle.std.proofs.Common.{◌≡◌, ◌⊎◌, List, Result, Ok, Err, IfOk, OnOk, map, ap, sym, ◌∙◌, refl, inl, inr, Contains}
-use Rattle.cedar_below.proofs.Lists.{Contains-preimage}
-use Rattle.cedar_builder.specs.Words.{Bag, Expr, Extensions, Fault, IsActionType, IsCounted, IsExprFault, IsFault, IsReserved, PlainName, PlainUid, action_uids, declared_actions, definitions, extension_types, open_record, out_of_memory, reserved_name, type_not_defined, unknown_extension_type}
+use Rattle.std.proofs.Common.{◌≡◌, ◌⊎◌, List, [], ◌∷◌, Result, Ok, Err, IfOk, OnOk, map, ap, sym, ◌∙◌, refl, inl, inr, Contains}
+use Rattle.cedar_below.proofs.Lists.{Contains-cons, Contains-preimage}
+use Rattle.cedar_builder.specs.Words.{Bag, Expr, Extensions, Fault, HoldsJust, IsActionType, IsAtEntityTypePosition, IsCounted, IsExprFault, IsFault, IsReserved, IsTypeFault, IsUnresolved, Names, PlainName, PlainUid, Reference, action_not_defined, action_uids, declared_actions, defined_names, definitions, extension_types, open_record, out_of_memory, reserved_name, type_not_defined, unknown_extension_type}
 use Rattle.cedar_declarations.proofs.DeclarationLemmas.{action_declaration}
+use Rattle.cedar_declarations.proofs.OccurrenceLemmas.{Contains-single}
+use Rattle.cedar_declarations.proofs.ResolutionLemmas.{first_defined}
+use Rattle.cedar_elaboration.proofs.ScopeLemmas.{same_resolves}
 
 -- no action's uid has another type
 pub action_type : (bag : Bag) (name : PlainName) → Contains (map (λ uid. uid.ty) (action_uids bag)) name → IsActionType name
@@ -27,6 +30,44 @@ module _ (bag : Bag) (given : Extensions) (known : List PlainName) (all : known 
   expr_fault expr (reserved_name name) counts refused = absurd (unreserved name refused.2.is_entity.1 refused.2.reserved)
   expr_fault expr out_of_memory counts refused = inl refl
   expr_fault expr _ counts refused = absurd refused
+
+-- a reference that resolves to nothing is refused by itself
+pub unresolved_fault : (names : Names) (reference : Reference) → IsUnresolved names reference → (fault : Fault)
+    → fault ≡ type_not_defined (reference ∷ []) → IsTypeFault names reference fault
+unresolved_fault names reference nothing fault is =
+    rw is (
+      (λ wrong. cc),
+      λ other among. let here = Contains-single reference other among in (here, rw (← here) nothing),
+    )
+
+-- of a bag over whose names references are looked up
+module _ (bag : Bag) (given : Extensions) (held : Names) (just : HoldsJust held (defined_names bag given))
+    (unreserved : (name : PlainName) → Contains (definitions bag given).entities name → ¬ IsReserved name) where
+  -- what resolves to nothing over the names that are held does so over those of the bag
+  pub unresolved_in_bag : (reference : Reference) → IsUnresolved held reference → IsUnresolved (defined_names bag given) reference
+  unresolved_in_bag reference nothing name among is_defined = nothing name among (elim is_defined [
+    | inl common ↦ inl (common.0, (just.common name).1 common.1)
+    | inr entity ↦ inr (entity.0, (just.entities name).1 entity.1)
+  ])
+
+  -- the refusal of a reference at the position of an entity type is a fault of the bag
+  pub type_fault : (reference : Reference) → IsAtEntityTypePosition bag reference → (fault : Fault) → IsTypeFault held reference fault
+      → (fault ≡ out_of_memory) ⊎ IsFault bag given fault
+  type_fault reference placed (type_not_defined references) refused = inr (
+    refused.0,
+    λ other among.
+        let found = refused.1 other among in
+        rw (← found.0) (inr placed, unresolved_in_bag reference (rw (← found.0) at found.1)),
+  )
+  type_fault reference placed (action_not_defined []) refused = absurd (refused.0 refl)
+  type_fault reference placed (action_not_defined (first ∷ rest)) refused =
+      absurd (refused.1 first (Contains-cons first rest first (inl refl))).1
+  type_fault reference placed (reserved_name name) (other, (same, is_entity), resolves, reserved) =
+      let resolved = same_resolves held (defined_names bag given) just other name resolves in
+      let defined = (first_defined (defined_names bag given) other.kind other.possibilities name resolved).1 in
+      absurd (elim (rw is_entity at defined) [ inl common ↦ common.0 | inr entity ↦ unreserved name entity.1 reserved ])
+  type_fault reference placed out_of_memory refused = inl refl
+  type_fault reference placed _ refused = absurd refused
 
 -- what follows of two promises of a value
 pub if_ok_both : {T E : Type 0} (P Q R : T → Type 0) → ((value : T) → P value → Q value → R value) → (result : Result T E)

@@ -105,11 +105,11 @@ abbrev pub parents_in : {Name Reference : Type 0} → List (Name × List Referen
     → List (Name × Reference)
 parents_in entries = flat_map (λ it. map (λ reference. (it.0, reference)) it.1) entries
 
--- an edge from a parent to what has it, as plain data: the name of the lower one, with a reference
--- to the upper one alone
-abbrev pub plain_edge : {K Name Reference : Type 0} → (K → Name) → (Name → Reference) → K × K
-    → Name × Reference
-plain_edge key_name reference_to edge = (key_name edge.1, reference_to (key_name edge.0))
+-- the edge leads to what has the name, from what the reference beside it resolves to
+abbrev pub IsEdgeOf : {K Name Reference : Type 0} → (K → Name) → (Reference → Name → Type 0)
+    → K × K → Name × Reference → Type 0
+IsEdgeOf key_name Resolves edge parent =
+    (key_name edge.1 ≡ parent.0) × Resolves parent.1 (key_name edge.0)
 
 -- why parents are refused: some one is, or memory ran out
 abbrev pub IsParentFault : {Name Reference : Type 0} → (Reference → Fault → Type 0)

@@ -6,7 +6,7 @@ use Rattle.cedar_declarations.specs.Words.{CountsInEntity, EntityTypeKind, Fault
 use Rattle.cedar_names.specs.Words.{EntityBody, Expr, external, standard}
 use Rattle.cedar_type_rules.specs.Ty.{Ty, Fields, record_of}
 use Rattle.cedar_type_rules.specs.declared.open_tag.OpenTag.TheVariants.{ClosedAttributes}
-use Rattle.cedar_elaboration.specs.Words.{CoversExtensions, ElaboratesAs, IsRefusal}
+use Rattle.cedar_elaboration.specs.Words.{CoversExtensions, ElaboratesAs, IsRefusal, ResolvesEach}
 use Rattle.cedar_elaboration.specs.declared.type_scope.TypeScope.{TypeScope}
 
 -- the names of declarations
@@ -27,11 +27,12 @@ HasRecord scope (standard parents shape tags) =
     (fields : Fields) × ElaboratesAs scope shape (record_of fields ClosedAttributes)
 HasRecord scope _ = Unit {0}
 
--- what counts in the declaration has no open record, its extension types are known, and the shape
--- is a record type
+-- what counts in the declaration has no open record, its extension types are known and its
+-- references resolve, and the shape is a record type
 pub record IsSoundBody (scope : TypeScope) (body : EntityBody) : Type 0 where
   pub closed : (expr : Expr) → CountsInEntity body expr → ¬ HasOpenRecord expr
   pub extensions : (expr : Expr) → CountsInEntity body expr → CoversExtensions scope expr
+  pub resolves : (expr : Expr) → CountsInEntity body expr → ResolvesEach scope expr
   pub record_shape : HasRecord scope body
 
 -- the shape is elaborated as a type that is no record type

@@ -2,21 +2,20 @@
 use Rattle.std.specs.Prelude.{◌≡◌, List, Contains}
 use Rattle.cedar_below.specs.Words.{IsReserved, PlainName, extension_types}
 use Rattle.cedar_below.specs.declared.extension.Extensions.{Extensions}
-use Rattle.cedar_declarations.specs.Words.{Bag, IsAtEntityTypePosition, IsCounted, ResolvesTo, declared_entities, defined_names, definitions}
-use Rattle.cedar_names.specs.Words.{Expr, Reference}
-use Rattle.cedar_resolution.specs.Collected.{DeclaredEntityType, collected_entities}
+use Rattle.cedar_declarations.specs.Words.{Bag, IsCounted, declared_entities, defined_names, definitions}
+use Rattle.cedar_fragments.specs.Words.{HoldsJust, held_names}
+use Rattle.cedar_names.specs.Words.{EntityBody, Expr}
 use Rattle.cedar_elaboration.specs.Scope.{Covers, extensions_in_scope}
 use Rattle.cedar_elaboration.specs.declared.type_scope.TypeScope.{TypeScope}
 
--- the declared entity types are those of the bag; its references to entity types resolve; enough is
--- known of what it defines, with the extension types that it is over; no common type has two
+-- the declared entity types are those of the bag; the names in scope are those that it defines;
+-- enough is known of these, with the extension types that it is over; no common type has two
 -- definitions; and no entity type and no type of actions has a reserved name
 pub record IsReady (bag : Bag) (given : Extensions)
-    (declared : List DeclaredEntityType)
+    (declared : List (PlainName × EntityBody))
     (scope : TypeScope) : Type 0 where
-  pub entities : collected_entities declared ≡ declared_entities bag
-  pub placed : (reference : Reference) → IsAtEntityTypePosition bag reference
-      → (name : PlainName) × ResolvesTo (defined_names bag given) reference name
+  pub entities : declared ≡ declared_entities bag
+  pub names : HoldsJust (held_names scope.defs.now) (defined_names bag given)
   pub knows : (expr : Expr) → IsCounted bag expr → Covers (definitions bag given) scope expr
   pub extensions : extensions_in_scope scope ≡ extension_types given
   pub one_definition : (name : PlainName) (body other : Expr)

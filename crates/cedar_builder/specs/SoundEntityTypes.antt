@@ -2,13 +2,13 @@
 use Rattle.std.specs.Prelude.{Contains, map}
 use Rattle.cedar_below.specs.Words.{PlainName, Text, Twice, extension_types}
 use Rattle.cedar_below.specs.declared.extension.Extensions.{Extensions}
-use Rattle.cedar_declarations.specs.Words.{Bag, CountsInEntity, HasOpenRecord, IsFault, IsParent, MentionsExtension, ResolvesTo, declared_entities, defined_entities, defined_names, enumerated_below, external_below_enumerated, shape_not_record}
+use Rattle.cedar_declarations.specs.Words.{Bag, CountsInEntity, HasOpenRecord, IsFault, IsParent, MentionsExtension, Refers, ResolvesTo, declared_entities, defined_entities, defined_names, enumerated_below, external_below_enumerated, shape_not_record}
 use Rattle.cedar_names.specs.Words.{EntityBody, Expr, Reference}
 use Rattle.cedar_elaboration.specs.Scope.{extension_name}
 
--- no entity type has two definitions; shapes are record types; what counts has no open record, and
--- its extension types are handed in; parents are declared entity types; no external entity type
--- stands below an enumerated one, and no enumerated one below any
+-- no entity type has two definitions; shapes are record types; what counts has no open record, its
+-- extension types are handed in, and its references resolve; parents resolve, to declared entity
+-- types; no external entity type stands below an enumerated one, and no enumerated one below any
 pub record EntityTypesAreSound (bag : Bag) (extensions : Extensions) : Type 0 where
   pub once : (name : PlainName) → ¬ Twice (map (λ it. it.0) (defined_entities bag)) name
   pub records : (name : PlainName) → ¬ IsFault bag extensions (shape_not_record name)
@@ -19,6 +19,12 @@ pub record EntityTypesAreSound (bag : Bag) (extensions : Extensions) : Type 0 wh
       → Contains (declared_entities bag) (name, body)
       → CountsInEntity body expr → (word : Text) → MentionsExtension expr word
       → Contains (extension_types extensions) (extension_name word)
+  pub resolves : (name : PlainName) (body : EntityBody) (expr : Expr)
+      → Contains (declared_entities bag) (name, body)
+      → CountsInEntity body expr → (reference : Reference) → Refers expr reference
+      → (found : PlainName) × ResolvesTo (defined_names bag extensions) reference found
+  pub placed : (name : PlainName) (reference : Reference) → IsParent bag name reference
+      → (upper : PlainName) × ResolvesTo (defined_names bag extensions) reference upper
   pub parents : (name upper : PlainName) (reference : Reference) → IsParent bag name reference
       → ResolvesTo (defined_names bag extensions) reference upper
       → Contains (map (λ it. it.0) (declared_entities bag)) upper

@@ -2,16 +2,17 @@
 
 ghost use Rattle.std.specs.Prelude.{◌≡◌, ◌⊎◌, IfErr, IfOk, OnOk};
 ghost use Rattle.cedar_schema_elements.specs.ValidatorActionId.{AreLocatedAsKeys};
-ghost use Rattle.cedar_builder.specs.Words.{ActionsAreSound, AreActionsOf, AreDeclaredActions, Bag, Extensions, IsFault, fault_of, out_of_memory};
+ghost use Rattle.cedar_builder.specs.Words.{ActionsAreSound, AreActionsOf, AreDeclaredActions, Bag, Extensions, IsFault, fault_of, out_of_memory, written_actions};
 
 use crate::action_links::linked_nodes;
 use crate::action_nodes::ActionScope;
 use crate::declared_node::collected_nodes;
 use crate::parents::parent_edges;
-use cedar_below::{EntityType, EntityUID, InternalName};
+use cedar_below::{EntityType, EntityUID};
 use cedar_declarations::SchemaError;
 use cedar_elaboration::TypeScope;
-use cedar_resolution::DeclaredAction;
+use cedar_fragments::defs::WrittenName;
+use cedar_fragments::namespace::{ActionFragment, Written};
 use cedar_schema_elements::{ValidatorActionId, ValidatorEntityType};
 use cedar_table::Table;
 use std::alloc::Global;
@@ -25,30 +26,36 @@ use std::alloc::Global;
 /// It errs where a uid has two definitions, a context is no record type or can't be elaborated, a
 /// principal or a resource is no declared entity type or has a reserved name, an action is a
 /// descendant of itself, or memory runs out.
-pub fn actions(
+pub fn actions<N: WrittenName + Drop>(
     alloc: Global,
-    declared: Vec<DeclaredAction>,
+    declared: Vec<Box<(EntityUID, Written<ActionFragment<N, N>>)>>,
     entity_types: &Table<EntityType, ValidatorEntityType>,
     scope: &TypeScope,
 ) -> Result<Table<EntityUID, ValidatorActionId>, SchemaError>
     ensures declared { IfOk result (λ actions. (bag : Bag) (extensions : Extensions)
-        → AreActionsOf bag extensions declared.items entity_types.now scope.now
+        → AreActionsOf bag extensions (written_actions N N.refer declared.items) entity_types.now
+        scope.now
         → AreDeclaredActions bag extensions actions.entries) }
     ensures located { IfOk result (λ actions. AreLocatedAsKeys actions.entries) }
     ensures sound { OnOk result ((bag : Bag) (extensions : Extensions)
-        → AreActionsOf bag extensions declared.items entity_types.now scope.now
+        → AreActionsOf bag extensions (written_actions N N.refer declared.items) entity_types.now
+        scope.now
         → ActionsAreSound bag extensions) }
     ensures fault { IfErr result (λ error. (bag : Bag) (extensions : Extensions)
-        → AreActionsOf bag extensions declared.items entity_types.now scope.now
+        → AreActionsOf bag extensions (written_actions N N.refer declared.items) entity_types.now
+        scope.now
         → (fault_of error ≡ out_of_memory) ⊎ IsFault bag extensions (fault_of error)) }
 {
-    let edges = parent_edges(alloc, &declared)?;
+    let edges = parent_edges(alloc, &declared, scope.defs)?;
     let scope = ActionScope {
         entity_types,
         types: scope,
     };
-    let nodes = collected_nodes::<EntityUID, ActionScope, ValidatorActionId>(
-        alloc, declared, &scope,
-    )?;
+    let nodes = collected_nodes::<
+        EntityUID,
+        ActionScope,
+        Written<ActionFragment<N, N>>,
+        ValidatorActionId,
+    >(alloc, declared, &scope)?;
     linked_nodes(alloc, nodes, edges)
 }

@@ -1,16 +1,15 @@
 //! What the steps that actions and entity types have in common ask of an action.
 
-ghost use Rattle.cedar_builder.specs.Words.{ActionReference, AreSoundRequests, IsElaboratedAction, IsRequestsFault, PlainUid, Requests, action_fragment_body, action_of, fragment_parent, fragment_requests, is_action_definition, names_in, reference_to_action, resolved_action_type, resolved_reference, uid_of};
-ghost use Rattle.cedar_below.specs.declared.entity_type.EntityType.{EntityType as ActionEntityType};
-ghost use Rattle.cedar_below.specs.declared.internal_name.InternalName.{InternalName as Full};
+ghost use Rattle.cedar_builder.specs.Words.{ActionReference, AreSoundRequests, IsElaboratedAction, IsParentActionFault, IsRequestsFault, NamesAction, PlainUid, Requests, action_of, fragment_parent, is_action_definition, names_in, uid_of, written_action_body, written_namespace};
 
 use crate::action_requests::elaborated_action;
 use crate::declared_node::DeclaredNode;
 use crate::parents::HasParents;
-use cedar_below::{Eid, EntityType, EntityUID, InternalName, M};
+use cedar_below::{EntityType, EntityUID, M};
 use cedar_declarations::SchemaError;
 use cedar_elaboration::TypeScope;
-use cedar_fragments::namespace::{ActionFragment, ActionParent};
+use cedar_fragments::defs::{AllDefs, WrittenName};
+use cedar_fragments::namespace::{ActionFragment, ActionParent, Written};
 use cedar_schema_elements::{ValidatorActionId, ValidatorEntityType};
 use cedar_table::Table;
 use std::alloc::Global;
@@ -23,8 +22,8 @@ pub(crate) struct ActionScope<'a, 't> {
     pub(crate) types: &'a TypeScope<'t>,
 }
 
-impl HasParents<EntityUID> for ActionFragment<InternalName, EntityType> {
-    type Parent = ActionParent<EntityType>;
+impl<N: WrittenName> HasParents<EntityUID> for Written<ActionFragment<N, N>> {
+    type Parent = ActionParent<N>;
 
     ghost Name = { PlainUid };
 
@@ -32,22 +31,25 @@ impl HasParents<EntityUID> for ActionFragment<InternalName, EntityType> {
 
     ghost Reference = { ActionReference };
 
-    ghost reference_to = { reference_to_action };
+    ghost reference_of = { λ it. fragment_parent N (N.refer (written_namespace it)) };
 
-    ghost reference_of = { fragment_parent ActionEntityType resolved_action_type };
+    ghost parents_of = { λ it. (written_action_body N N.refer it).parents };
 
-    ghost parents_of = { λ fragment.
-        (action_fragment_body Full resolved_reference ActionEntityType resolved_action_type
-        fragment).parents };
+    ghost Resolves = { λ names. NamesAction names.actions };
 
-    ghost Refuses = { λ reference fault. ⊥ };
+    ghost Refuses = { IsParentActionFault };
 
-    fn parents(&self) -> &[ActionParent<EntityType>] {
-        self.parents.as_slice()
+    fn parents(&self) -> &[ActionParent<N>] {
+        self.declared.parents.as_slice()
     }
 
-    fn parent_key(parent: &ActionParent<EntityType>) -> Result<EntityUID, SchemaError> {
-        Ok(EntityUID::new(parent.ty.clone()?, Eid(parent.id.clone()?), parent.loc))
+    fn parent_key(
+        &self,
+        _alloc: Global,
+        parent: &ActionParent<N>,
+        defs: &AllDefs,
+    ) -> Result<EntityUID, SchemaError> {
+        parent.named_within(self.namespace(), defs)
     }
 
     fn copy_key(key: &EntityUID) -> M<EntityUID> {
@@ -55,12 +57,14 @@ impl HasParents<EntityUID> for ActionFragment<InternalName, EntityType> {
     }
 }
 
-impl<'a, 't> DeclaredNode<EntityUID, ActionScope<'a, 't>> for ValidatorActionId {
-    type Fragment = ActionFragment<InternalName, EntityType>;
-
+impl<'a, 't, N: WrittenName + Drop> DeclaredNode<
+    EntityUID,
+    ActionScope<'a, 't>,
+    Written<ActionFragment<N, N>>,
+> for ValidatorActionId {
     ghost Body = { Requests };
 
-    ghost body_of = { λ fragment. fragment_requests Full resolved_reference fragment.requests };
+    ghost body_of = { λ it. (written_action_body N N.refer it).applies_to };
 
     ghost is_definition = { is_action_definition };
 
@@ -75,7 +79,7 @@ impl<'a, 't> DeclaredNode<EntityUID, ActionScope<'a, 't>> for ValidatorActionId 
     fn declared(
         alloc: Global,
         name: EntityUID,
-        fragment: ActionFragment<InternalName, EntityType>,
+        fragment: Written<ActionFragment<N, N>>,
         scope: &ActionScope<'a, 't>,
     ) -> Result<ValidatorActionId, SchemaError> {
         elaborated_action(alloc, name, &fragment, scope.entity_types, scope.types)

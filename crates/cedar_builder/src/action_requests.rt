@@ -1,15 +1,15 @@
 //! Actions that are elaborated, each from one declaration.
 
 ghost use Rattle.std.specs.Prelude.{◌≡◌, ◌⊎◌, ◌↔◌, IfErr, IfOk, IsTrue, OnOk, Some};
-ghost use Rattle.cedar_builder.specs.Words.{AreSoundRequests, CoversExtensions, ElaboratesAs, HasOpenRecord, IsElaboratedAction, IsRecordType, IsRequestsFault, Ty, action_loc, context_not_record, fault_of, fragment_requests, names_in, out_of_memory, resolved_expr, resolved_reference, ty_of, uid_of};
-ghost use Rattle.cedar_below.specs.declared.internal_name.InternalName.{InternalName as Full};
+ghost use Rattle.cedar_builder.specs.Words.{AreSoundRequests, CoversExtensions, ElaboratesAs, HasOpenRecord, IsElaboratedAction, IsRecordType, IsRequestsFault, ResolvesEach, Ty, action_loc, context_not_record, fault_of, fragment_requests, namespace_name, names_in, out_of_memory, ty_of, type_expr, uid_of, written_action_body};
 ghost use Rattle.cedar_elaboration.specs.Refusals.{IsRefusal};
 
 use crate::request_types::declared_types;
 use cedar_below::{EntityType, EntityUID, InternalName, Loc};
 use cedar_declarations::{ContextOrShape, SchemaError};
 use cedar_elaboration::{TypeScope, elaborate};
-use cedar_fragments::namespace::{ActionFragment, ActionRequests};
+use cedar_fragments::defs::WrittenName;
+use cedar_fragments::namespace::{ActionFragment, ActionRequests, Written};
 use cedar_names::json_schema;
 use cedar_schema_elements::{ValidatorActionId, ValidatorEntityType};
 use cedar_table::Table;
@@ -24,24 +24,32 @@ fn is_record(ty: &Type) -> bool
 }
 
 /// The type of the context of an action, which must be a record type.
-fn context_type(
+fn context_type<N: WrittenName>(
     alloc: Global,
     uid: &EntityUID,
-    context: &json_schema::Type<InternalName>,
+    context: &json_schema::Type<N>,
+    namespace: Option<&InternalName>,
     scope: &TypeScope,
 ) -> Result<Type, SchemaError>
     ensures elaborates { IfOk result (λ elaborated.
-        ElaboratesAs scope.now (resolved_expr context.now) (ty_of elaborated)) }
+        ElaboratesAs scope.now
+        (type_expr N (N.refer (namespace_name namespace.entry)) context.now) (ty_of elaborated)) }
     ensures is_record { IfOk result (λ elaborated. IsRecordType (ty_of elaborated)) }
-    ensures closed { OnOk result (¬ HasOpenRecord (resolved_expr context.now)) }
-    ensures extensions { OnOk result (CoversExtensions scope.now (resolved_expr context.now)) }
+    ensures closed { OnOk result (¬ HasOpenRecord
+        (type_expr N (N.refer (namespace_name namespace.entry)) context.now)) }
+    ensures extensions { OnOk result (CoversExtensions scope.now
+        (type_expr N (N.refer (namespace_name namespace.entry)) context.now)) }
+    ensures resolved { OnOk result (ResolvesEach scope.now
+        (type_expr N (N.refer (namespace_name namespace.entry)) context.now)) }
     ensures fault { IfErr result (λ error. (fault_of error ≡ out_of_memory)
-        ⊎ (IsRefusal scope.now (resolved_expr context.now) (fault_of error)
+        ⊎ (IsRefusal scope.now
+        (type_expr N (N.refer (namespace_name namespace.entry)) context.now) (fault_of error)
         ⊎ ((fault_of error ≡ context_not_record (uid_of uid.now))
-        × ((ty : Ty) × ElaboratesAs scope.now (resolved_expr context.now) ty
+        × ((ty : Ty) × ElaboratesAs scope.now
+        (type_expr N (N.refer (namespace_name namespace.entry)) context.now) ty
         × ¬ IsRecordType ty)))) }
 {
-    let elaborated = elaborate(alloc, context, scope)?;
+    let elaborated = elaborate(alloc, context, namespace, scope)?;
     if is_record(&elaborated) {
         return Ok(elaborated);
     }
@@ -49,27 +57,31 @@ fn context_type(
 }
 
 /// The action that a definition of the uid gives alone, as yet without descendants.
-fn elaborated_definition(
+fn elaborated_definition<N: WrittenName>(
     alloc: Global,
     uid: EntityUID,
-    requests: &ActionRequests<InternalName>,
+    requests: &ActionRequests<N>,
+    namespace: Option<&InternalName>,
     loc: Option<Loc>,
     entity_types: &Table<EntityType, ValidatorEntityType>,
     scope: &TypeScope,
 ) -> Result<ValidatorActionId, SchemaError>
     ensures elaborates { IfOk result (λ action.
         IsElaboratedAction scope.now (uid_of uid)
-        (fragment_requests Full resolved_reference (Some requests.now)) action) }
+        (fragment_requests N (N.refer (namespace_name namespace.entry)) (Some requests.now))
+        action) }
     ensures loc { IfOk result (λ action. action_loc action ≡ loc) }
     ensures sound { OnOk result (AreSoundRequests scope.now (names_in entity_types.now)
-        (fragment_requests Full resolved_reference (Some requests.now))) }
+        (fragment_requests N (N.refer (namespace_name namespace.entry)) (Some requests.now))) }
     ensures fault { IfErr result (λ error.
         IsRequestsFault scope.now (names_in entity_types.now) (uid_of uid)
-        (fragment_requests Full resolved_reference (Some requests.now)) (fault_of error)) }
+        (fragment_requests N (N.refer (namespace_name namespace.entry)) (Some requests.now))
+        (fault_of error)) }
 {
-    let context = context_type(alloc, &uid, &requests.context, scope)?;
-    let principals = declared_types(alloc, &requests.principals, entity_types)?;
-    let resources = declared_types(alloc, &requests.resources, entity_types)?;
+    let context = context_type(alloc, &uid, &requests.context, namespace, scope)?;
+    let defs = scope.defs;
+    let principals = declared_types(alloc, &requests.principals, namespace, entity_types, defs)?;
+    let resources = declared_types(alloc, &requests.resources, namespace, entity_types, defs)?;
     let descendants: Vec<EntityUID> = Vec::new(alloc);
     Ok(ValidatorActionId::new_defined(
         alloc,
@@ -83,30 +95,32 @@ fn elaborated_definition(
 }
 
 /// The action that a declaration of the uid gives alone, as yet without descendants.
-pub(crate) fn elaborated_action(
+pub(crate) fn elaborated_action<N: WrittenName>(
     alloc: Global,
     uid: EntityUID,
-    fragment: &ActionFragment<InternalName, EntityType>,
+    fragment: &Written<ActionFragment<N, N>>,
     entity_types: &Table<EntityType, ValidatorEntityType>,
     scope: &TypeScope,
 ) -> Result<ValidatorActionId, SchemaError>
     ensures elaborates { IfOk result (λ action.
         IsElaboratedAction scope.now (uid_of uid)
-        (fragment_requests Full resolved_reference fragment.now.requests) action) }
-    ensures loc { IfOk result (λ action. action_loc action ≡ fragment.now.loc) }
+        (written_action_body N N.refer fragment.now).applies_to action) }
+    ensures loc { IfOk result (λ action. action_loc action ≡ fragment.now.declared.loc) }
     ensures sound { OnOk result (AreSoundRequests scope.now (names_in entity_types.now)
-        (fragment_requests Full resolved_reference fragment.now.requests)) }
+        (written_action_body N N.refer fragment.now).applies_to) }
     ensures fault { IfErr result (λ error.
         IsRequestsFault scope.now (names_in entity_types.now) (uid_of uid)
-        (fragment_requests Full resolved_reference fragment.now.requests) (fault_of error)) }
+        (written_action_body N N.refer fragment.now).applies_to (fault_of error)) }
 {
-    match &fragment.requests {
+    match &fragment.declared.requests {
         Some(requests) => {
-            elaborated_definition(alloc, uid, requests, fragment.loc, entity_types, scope)
+            let namespace = fragment.namespace();
+            let loc = fragment.declared.loc;
+            elaborated_definition(alloc, uid, requests, namespace, loc, entity_types, scope)
         }
         None => {
             let descendants: Vec<EntityUID> = Vec::new(alloc);
-            Ok(ValidatorActionId::new_external(alloc, uid, descendants, fragment.loc)?)
+            Ok(ValidatorActionId::new_external(alloc, uid, descendants, fragment.declared.loc)?)
         }
     }
 }

@@ -15,12 +15,10 @@ use std::hash::Hash;
 ///
 /// The ghost members are what contracts speak of: what a fragment declares, whether that is a
 /// definition, what a declaration gives, whether one is sound, and why one is refused.
-pub(crate) trait DeclaredNode<K: Ord + Hash, S>: SchemaNode<K> {
-    type Fragment: Drop;
-
+pub(crate) trait DeclaredNode<K: Ord + Hash, S, F: Drop>: SchemaNode<K> {
     ghost Body: { Type 0 };
 
-    ghost body_of: { Self.Fragment → Body };
+    ghost body_of: { F → Body };
 
     ghost is_definition: { Body → Bool };
 
@@ -31,12 +29,7 @@ pub(crate) trait DeclaredNode<K: Ord + Hash, S>: SchemaNode<K> {
     ghost IsBodyFault: { S → K → Body → Fault → Type 0 };
 
     /// What a declaration of the name gives.
-    fn declared(
-        alloc: Global,
-        name: K,
-        fragment: Self::Fragment,
-        scope: &S,
-    ) -> Result<Self, SchemaError>
+    fn declared(alloc: Global, name: K, fragment: F, scope: &S) -> Result<Self, SchemaError>
         ensures name { IfOk result (λ node. Self.node_name node ≡ Self.key_name name) }
         ensures gives { IfOk result (λ node. Gives scope.now (body_of fragment) node) }
         ensures external { IfOk result (λ node.
@@ -94,11 +87,12 @@ fn put_node<K: Ord + Hash + Drop, V: SchemaNode<K> + Drop>(
 }
 
 /// What is declared, as [`collected_nodes`] has it, where no name is above one behind it.
-fn collected_in_order<K: Ord + Hash + QuickHash + Drop, S, V: DeclaredNode<K, S> + Drop>(
-    alloc: Global,
-    declared: Vec<Box<(K, V::Fragment)>>,
-    scope: &S,
-) -> Result<Table<K, V>, SchemaError>
+fn collected_in_order<
+    K: Ord + Hash + QuickHash + Drop,
+    S,
+    F: Drop,
+    V: DeclaredNode<K, S, F> + Drop,
+>(alloc: Global, declared: Vec<Box<(K, F)>>, scope: &S) -> Result<Table<K, V>, SchemaError>
     requires { AreInOrder K.cmp declared.items }
     ensures collected { IfOk result (λ nodes.
         (key : K) → IsCollectedAt V.is_definition V.IsExternal V.node_name (V.Gives scope.now)
@@ -127,11 +121,12 @@ fn collected_in_order<K: Ord + Hash + QuickHash + Drop, S, V: DeclaredNode<K, S>
 
 /// What is declared, each under its name: what its definition says, or what is external where there
 /// is none.
-pub(crate) fn collected_nodes<K: Ord + Hash + QuickHash + Drop, S, V: DeclaredNode<K, S> + Drop>(
-    alloc: Global,
-    declared: Vec<Box<(K, V::Fragment)>>,
-    scope: &S,
-) -> Result<Table<K, V>, SchemaError>
+pub(crate) fn collected_nodes<
+    K: Ord + Hash + QuickHash + Drop,
+    S,
+    F: Drop,
+    V: DeclaredNode<K, S, F> + Drop,
+>(alloc: Global, declared: Vec<Box<(K, F)>>, scope: &S) -> Result<Table<K, V>, SchemaError>
     ensures collected { IfOk result (λ nodes.
         (key : K) → IsCollectedAt V.is_definition V.IsExternal V.node_name (V.Gives scope.now)
         (map (named V.key_name V.body_of) declared.items) (V.key_name key)
@@ -149,5 +144,5 @@ pub(crate) fn collected_nodes<K: Ord + Hash + QuickHash + Drop, S, V: DeclaredNo
 {
     let mut declared = declared;
     declared.sort_by(|a, b| a.0.cmp(&b.0))?;
-    collected_in_order::<K, S, V>(alloc, declared, scope)
+    collected_in_order::<K, S, F, V>(alloc, declared, scope)
 }

@@ -1,23 +1,22 @@
 //! What the steps that entity types and actions have in common ask of an entity type.
 
-ghost use Rattle.std.specs.Prelude.{◌≡◌};
-ghost use Rattle.cedar_builder.specs.Words.{Entity, EntityBody, IsBodyFault, IsElaboratedEntity, IsReserved, IsSoundBody, PlainName, entity_parents, entity_type_of, fragment_body, is_entity_definition, reference_to_one, reserved_name, resolved_reference, type_name};
-ghost use Rattle.cedar_below.specs.declared.internal_name.InternalName.{InternalName as Full};
+ghost use Rattle.cedar_builder.specs.Words.{Entity, EntityBody, IsBodyFault, IsElaboratedEntity, IsSoundBody, IsTypeFault, NamesType, PlainName, entity_parents, entity_type_of, is_entity_definition, type_name, written_entity_body, written_namespace};
 ghost use Rattle.cedar_names.specs.Reference.{Reference as PlainReference};
 
 use crate::declared_node::DeclaredNode;
 use crate::entity_type_kinds::elaborated_type;
 use crate::named_type::named_type;
 use crate::parents::HasParents;
-use cedar_below::{EntityType, InternalName, M};
+use cedar_below::{EntityType, M};
 use cedar_declarations::SchemaError;
 use cedar_elaboration::TypeScope;
-use cedar_fragments::namespace::EntityTypeFragment;
+use cedar_fragments::defs::{AllDefs, WrittenName};
+use cedar_fragments::namespace::{EntityTypeFragment, Written};
 use cedar_schema_elements::ValidatorEntityType;
 use std::alloc::Global;
 
-impl HasParents<EntityType> for EntityTypeFragment<InternalName> {
-    type Parent = InternalName;
+impl<N: WrittenName> HasParents<EntityType> for Written<EntityTypeFragment<N>> {
+    type Parent = N;
 
     ghost Name = { PlainName };
 
@@ -25,23 +24,25 @@ impl HasParents<EntityType> for EntityTypeFragment<InternalName> {
 
     ghost Reference = { PlainReference };
 
-    ghost reference_to = { reference_to_one Entity };
+    ghost reference_of = { λ it. N.refer (written_namespace it) Entity };
 
-    ghost reference_of = { resolved_reference Entity };
+    ghost parents_of = { λ it. entity_parents (written_entity_body N N.refer it) };
 
-    ghost parents_of = { λ fragment.
-        entity_parents (fragment_body Full resolved_reference fragment) };
+    ghost Resolves = { NamesType };
 
-    ghost Refuses = { λ reference fault. (name : PlainName) × (fault ≡ reserved_name name)
-        × IsReserved name
-        × (reference ≡ reference_to_one Entity name) };
+    ghost Refuses = { IsTypeFault };
 
-    fn parents(&self) -> &[InternalName] {
-        self.parents()
+    fn parents(&self) -> &[N] {
+        self.declared.parents()
     }
 
-    fn parent_key(parent: &InternalName) -> Result<EntityType, SchemaError> {
-        named_type(parent)
+    fn parent_key(
+        &self,
+        alloc: Global,
+        parent: &N,
+        defs: &AllDefs,
+    ) -> Result<EntityType, SchemaError> {
+        named_type(alloc, parent, self.namespace(), defs)
     }
 
     fn copy_key(key: &EntityType) -> M<EntityType> {
@@ -49,12 +50,14 @@ impl HasParents<EntityType> for EntityTypeFragment<InternalName> {
     }
 }
 
-impl<'a> DeclaredNode<EntityType, TypeScope<'a>> for ValidatorEntityType {
-    type Fragment = EntityTypeFragment<InternalName>;
-
+impl<'a, N: WrittenName + Drop> DeclaredNode<
+    EntityType,
+    TypeScope<'a>,
+    Written<EntityTypeFragment<N>>,
+> for ValidatorEntityType {
     ghost Body = { EntityBody };
 
-    ghost body_of = { fragment_body Full resolved_reference };
+    ghost body_of = { written_entity_body N N.refer };
 
     ghost is_definition = { is_entity_definition };
 
@@ -68,9 +71,13 @@ impl<'a> DeclaredNode<EntityType, TypeScope<'a>> for ValidatorEntityType {
     fn declared(
         alloc: Global,
         name: EntityType,
-        fragment: EntityTypeFragment<InternalName>,
+        fragment: Written<EntityTypeFragment<N>>,
         scope: &TypeScope<'a>,
     ) -> Result<ValidatorEntityType, SchemaError> {
-        elaborated_type(alloc, name, fragment, scope)
+        let Written {
+            namespace,
+            declared,
+        } = fragment;
+        elaborated_type(alloc, name, declared, namespace.as_ref(), scope)
     }
 }

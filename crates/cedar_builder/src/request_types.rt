@@ -1,27 +1,33 @@
 //! The entity types that the principals and the resources of actions name.
 
-ghost use Rattle.std.specs.Prelude.{◌≡◌, ◌⊎◌, Contains, IfErr, IfOk, OnOk, map};
-ghost use Rattle.cedar_builder.specs.Words.{Entity, IsNameFault, IsRequestTypeFault, PlainName, fault_of, name_of, names_in, out_of_memory, resolved_reference, type_name};
+ghost use Rattle.std.specs.Prelude.{Contains, IfErr, IfOk, OnOk, map};
+ghost use Rattle.cedar_builder.specs.Words.{AreNamed, Entity, IsPlaceFault, IsRequestTypeFault, NamesType, PlainName, Reference, ResolvesTo, fault_of, held_names, namespace_name, names_in, type_name};
 
 use crate::named_type::named_type;
 use cedar_below::{EntityType, InternalName, NonEmpty};
 use cedar_declarations::SchemaError;
+use cedar_fragments::defs::{AllDefs, WrittenName};
 use cedar_schema_elements::ValidatorEntityType;
 use cedar_table::Table;
 use std::alloc::Global;
 
-/// The entity type of a name, which must be one of these.
-fn declared_type(
+/// The entity type that a name stands for where it is written in a namespace, which must be one of
+/// these.
+fn declared_type<N: WrittenName>(
     alloc: Global,
-    name: &InternalName,
+    name: &N,
+    namespace: Option<&InternalName>,
     entity_types: &Table<EntityType, ValidatorEntityType>,
+    defs: &AllDefs,
 ) -> Result<EntityType, SchemaError>
-    ensures name { IfOk result (λ ty. type_name ty ≡ name_of name.now) }
-    ensures declared { OnOk result (Contains (names_in entity_types.now) (name_of name.now)) }
-    ensures fault { IfErr result (λ error. (fault_of error ≡ out_of_memory)
-        ⊎ IsNameFault (names_in entity_types.now) (name_of name.now) (fault_of error)) }
+    ensures name { IfOk result (λ ty. NamesType (held_names defs.now)
+        (N.refer (namespace_name namespace.entry) Entity name.now) (type_name ty)) }
+    ensures declared { IfOk result (λ ty. Contains (names_in entity_types.now) (type_name ty)) }
+    ensures fault { IfErr result (λ error. IsPlaceFault (held_names defs.now)
+        (names_in entity_types.now) (N.refer (namespace_name namespace.entry) Entity name.now)
+        (fault_of error)) }
 {
-    let ty = named_type(name)?;
+    let ty = named_type(alloc, name, namespace, defs)?;
     if entity_types.contains_key(&ty) {
         return Ok(ty);
     }
@@ -31,23 +37,29 @@ fn declared_type(
     }))
 }
 
-/// The entity types of some names, each of which must be one of these.
-pub(crate) fn declared_types(
+/// The entity types that some names stand for where they are written in a namespace, each of which
+/// must be one of these.
+pub(crate) fn declared_types<N: WrittenName>(
     alloc: Global,
-    names: &[InternalName],
+    names: &[N],
+    namespace: Option<&InternalName>,
     entity_types: &Table<EntityType, ValidatorEntityType>,
+    defs: &AllDefs,
 ) -> Result<Vec<EntityType>, SchemaError>
-    ensures names { IfOk result (λ types. map type_name types.items ≡ map name_of names.now) }
-    ensures declared { OnOk result ((name : PlainName) → Contains (map name_of names.now) name
-        → Contains (names_in entity_types.now) name) }
+    ensures names { IfOk result (λ types. AreNamed (held_names defs.now)
+        (map (N.refer (namespace_name namespace.entry) Entity) names.now)
+        (map type_name types.items)) }
+    ensures declared { OnOk result ((reference : Reference)
+        → Contains (map (N.refer (namespace_name namespace.entry) Entity) names.now) reference
+        → (name : PlainName) × ResolvesTo (held_names defs.now) reference name
+        × Contains (names_in entity_types.now) name) }
     ensures fault { IfErr result (λ error.
-        IsRequestTypeFault (names_in entity_types.now) (map (resolved_reference Entity) names.now)
-        (fault_of error)) }
+        IsRequestTypeFault (held_names defs.now) (names_in entity_types.now)
+        (map (N.refer (namespace_name namespace.entry) Entity) names.now) (fault_of error)) }
 {
-    let mut types = Vec::new(alloc);
+    let mut types = Vec::with_capacity(alloc, names.len())?;
     for name in names {
-        let ty = declared_type(alloc, name, entity_types)?;
-        types.push(ty)?;
+        types.push(declared_type(alloc, name, namespace, entity_types, defs)?)?;
     }
     Ok(types)
 }

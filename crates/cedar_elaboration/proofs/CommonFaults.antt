@@ -1,10 +1,9 @@
 -- What common types that are elaborated say of the bag, and what it says that they are refused.
-use Rattle.std.proofs.Common.{◌≡◌, ◌⊎◌, List, ◌++◌, map, ap, sym, subst, ◌∙◌, refl, append_assoc, inl, inr, Contains}
+use Rattle.std.proofs.Common.{◌≡◌, ◌⊎◌, List, ◌++◌, map, sym, subst, ◌∙◌, refl, append_assoc, inl, inr, Contains}
 use Rattle.std.proofs.lemmas.List.{map-append}
 use Rattle.std.proofs.lemmas.List.Elements.{Contains-append_left}
-use Rattle.std.specs.BTreeSet.{BTreeSet}
 use Rattle.cedar_below.proofs.Chains.{refined}
-use Rattle.cedar_elaboration.specs.Words.{AreElaborated, AreSound, AreTypesOf, Bag, Chain, CommonTypesAreSound, Defined, Expr, Extensions, Fault, HoldsElaborated, InternalName, IsCommonFault, IsCounted, IsFault, PlainName, RefersToCommon, SameItems, Twice, Ty, «Type», aliases, built_ins, collected_common, common_type_cycle, declared_common, defined_by, definitions, duplicate_common_type, extension_types, item_names, name_of, one, open_record, out_of_memory, reserved_name, resolved_expr, type_not_defined, unknown_extension_type}
+use Rattle.cedar_elaboration.specs.Words.{AreElaborated, AreSound, AreTypesOf, Bag, Chain, CommonTypesAreSound, Defined, Expr, Extensions, Fault, HoldsElaborated, IsCommonFault, IsCounted, IsFault, Names, NamesItems, PlainName, RefersToCommon, SameItems, Twice, Ty, aliases, built_ins, common_type_cycle, declared_common, defined_over, definitions, duplicate_common_type, extension_types, item_names, one, open_record, out_of_memory, reserved_name, type_not_defined, unknown_extension_type}
 use Rattle.cedar_elaboration.proofs.AliasLemmas.{built_in_closed, declared_or_built_in, defined_twice}
 use Rattle.cedar_declarations.proofs.BuiltInLemmas.{refers_declared}
 use Rattle.cedar_declarations.proofs.DeclarationLemmas.{common_declaration}
@@ -31,29 +30,33 @@ common_counts bag it among =
     let found = common_declaration bag it.0 it.1 among in
     (found.0, found.1, rw found.2)
 
-module _ (bag : Bag) (extensions : Extensions) (declared built_in : List (InternalName × «Type» InternalName))
-    (entity_names : BTreeSet InternalName) (are : AreTypesOf bag extensions declared built_in entity_names)
-    (types : List (InternalName × «Type» InternalName)) (all : types ≡ declared ++ built_in) where
+module _ (bag : Bag) (extensions : Extensions) (declared built_in : List (PlainName × Expr))
+    (names : Names) (are : AreTypesOf bag extensions declared built_in names)
+    (types : List (PlainName × Expr)) (all : types ≡ declared ++ built_in) where
   -- the types are those that the bag defines
-  all_defined : collected_common types ≡ (definitions bag extensions).common
+  all_defined : types ≡ (definitions bag extensions).common
   all_defined =
-      ap collected_common all
-      ∙ (map-append (λ (it : InternalName × «Type» InternalName). (name_of it.0, resolved_expr it.1)) declared built_in
-      ∙ ((λ i. are.common i ++ are.built_in i)
-      ∙ sym (append_assoc (declared_common bag) (built_ins extensions) (aliases bag extensions))))
+      all ∙ ((λ i. are.common i ++ are.built_in i)
+      ∙ sym (append_assoc (declared_common bag) (built_ins extensions) (aliases bag extensions)))
 
-  -- they define the same as the bag, actions aside
-  same_defined : SameDefined (defined_by types entity_names) (definitions bag extensions)
+  -- their names are those that are defined
+  pub named : NamesItems names types
+  named name =
+      let Same : List (PlainName × Expr) → Type 0 = λ each. NamesItems names each in
+      subst Same (sym all_defined) are.held.common name
+
+  -- they define the same as the bag
+  same_defined : SameDefined (defined_over types names) (definitions bag extensions)
   same_defined =
       record {
         common = λ it among. rw all_defined at among;
         common_back = λ it among. rw all_defined among;
-        entities = λ name. (are.names name).1;
-        entities_back = λ name. (are.names name).0;
+        entities = λ name. (are.held.entities name).0;
+        entities_back = λ name. (are.held.entities name).1;
       }
 
   -- what is refused of them is a fault of the bag
-  pub common_fault : (fault : Fault) → IsCommonFault (defined_by types entity_names) (extension_types extensions) fault
+  pub common_fault : (fault : Fault) → IsCommonFault (defined_over types names) (extension_types extensions) fault
       → (fault ≡ out_of_memory) ⊎ IsFault bag extensions fault
   common_fault (duplicate_common_type name) twice =
       inr (defined_twice bag extensions are.fit name (rw all_defined at twice))
@@ -92,9 +95,9 @@ module _ (bag : Bag) (extensions : Extensions) (declared built_in : List (Intern
   common_fault _ fault = absurd fault.2
 
   -- what is sure of them is sure of the bag
-  pub common_sound : ((name : PlainName) → ¬ Twice (item_names (collected_common types)) name)
-      → ((name : PlainName) → ¬ Chain (RefersToCommon (defined_by types entity_names)) name name)
-      → AreSound (defined_by types entity_names) (extension_types extensions)
+  pub common_sound : ((name : PlainName) → ¬ Twice (item_names types) name)
+      → ((name : PlainName) → ¬ Chain (RefersToCommon (defined_over types names)) name name)
+      → AreSound (defined_over types names) (extension_types extensions)
       → CommonTypesAreSound bag extensions
   common_sound once no_cycle sound =
       let key = λ (it : PlainName × Expr). it.0 in
@@ -110,15 +113,18 @@ module _ (bag : Bag) (extensions : Extensions) (declared built_in : List (Intern
             (refers_there _ _ (SameDefined-sym _ _ same_defined) from to step)) cycle);
         closed = λ it among. (sound it (same_defined.common_back it (stands it among))).closed;
         known = λ it among. (sound it (same_defined.common_back it (stands it among))).known;
+        resolves = λ it among reference refers.
+            let found = (sound it (same_defined.common_back it (stands it among))).resolved reference refers in
+            (found.0, resolves_there _ _ same_defined reference found.0 found.1);
       }
 
   -- what they are elaborated as is what those of the bag are
   pub common_elaborated : (elaborated : List (PlainName × Ty))
-      → SameItems (map (λ it. it.0) elaborated) (item_names (collected_common types))
-      → HoldsElaborated (defined_by types entity_names) elaborated → AreElaborated bag extensions elaborated
+      → SameItems (map (λ it. it.0) elaborated) (item_names types)
+      → HoldsElaborated (defined_over types names) elaborated → AreElaborated bag extensions elaborated
   common_elaborated elaborated names holds =
       record {
-        each = λ it among. (names it.0).1 (Contains-image (λ (each : PlainName × Expr). each.0) (collected_common types) it
+        each = λ it among. (names it.0).1 (Contains-image (λ (each : PlainName × Expr). each.0) types it
             (same_defined.common_back it among));
         elaborated = λ name ty among.
             let found = holds name ty among in

@@ -1,5 +1,5 @@
 -- Items by their indices, and names that get indices one after another.
-use Rattle.std.proofs.Common.{◌≡◌, ◌⊎◌, ◌+◌, ◌<◌, ℕ, zero, suc, List, [], ◌∷◌, ◌++◌, map, length, take, drop, get_or, Some, ap, sym, subst, ◌∙◌, refl, inl, inr, Contains, arith}
+use Rattle.std.proofs.Common.{◌≡◌, ◌⊎◌, ◌+◌, ◌<◌, ℕ, zero, suc, List, [], ◌∷◌, ◌++◌, map, length, take, drop, get_or, Some, Option, ap, sym, subst, ◌∙◌, refl, inl, inr, Contains, arith}
 use Rattle.std.proofs.Math.ListN.{length-map}
 use Rattle.std.proofs.Math.Seq.{drop-cons}
 use Rattle.std.proofs.lemmas.List.{length-take-le, map-append, take-append-drop, take_more}
@@ -10,7 +10,7 @@ use Rattle.std.specs.Option.{option_map}
 use Rattle.std.specs.Prelude.{slice_get}
 use Rattle.cedar_below.proofs.Lists.{Contains-cons, Contains-cons_cases}
 use Rattle.cedar_below.proofs.Names.{internal_name_ord-Equal}
-use Rattle.cedar_elaboration.specs.Words.{AreIndices, InternalName, PlainName, Twice, «Type», collected_common, item_names, name_of, resolved_expr}
+use Rattle.cedar_elaboration.specs.Words.{AreIndices, InternalName, PlainName, Reference, ReferenceType, Twice, «Type», Written, item_names, name_of, written_common, written_expr}
 use Rattle.cedar_below.specs.contracts.internal_name.InternalNameOrd.TheImpl as order
 use Rattle.cedar_declarations.proofs.OccurrenceLemmas.{Contains-single, Twice-append, Twice-both}
 use Rattle.cedar_elaboration.proofs.Entries.{inserted_cases, inserted_names, seen, seen_names}
@@ -129,41 +129,47 @@ repeated_name front rest name indices so_far among =
       | inr later ↦ let it = index_of_name entries each later in (it.0, Contains-cons entry entries (each, it.0) (inr it.1))
     ]
 
--- the declared common types up to an index, and the one at it
-pub items_more : (declared : List (InternalName × «Type» InternalName)) (item_index : ℕ) (item : InternalName × «Type» InternalName)
-    → item_index < length declared → item ≡ get_or declared item_index item
-    → collected_common (take (item_index + 1) declared) ≡ collected_common (take item_index declared) ++ (name_of item.0, resolved_expr item.1) ∷ []
-items_more declared item_index item within is =
-    ap collected_common (take_more declared item_index item within ∙ ap (λ it. take item_index declared ++ it ∷ []) (sym is))
-    ∙ map-append (λ it. (name_of it.0, resolved_expr it.1)) (take item_index declared) (item ∷ [])
+-- declared common types over names of some form, where it is given what a name refers to in a namespace
+-- at a place of each kind
+module _ (N : Type 0) (refer : Option PlainName → ReferenceType → N → Reference) where
+  -- the declared common types up to an index, and the one at it
+  pub items_more : (declared : List (InternalName × Written («Type» N))) (item_index : ℕ) (item : InternalName × Written («Type» N))
+      → item_index < length declared → item ≡ get_or declared item_index item
+      → written_common N refer (take (item_index + 1) declared)
+      ≡ written_common N refer (take item_index declared) ++ (name_of item.0, written_expr N refer item.1) ∷ []
+  items_more declared item_index item within is =
+      ap (written_common N refer) (take_more declared item_index item within ∙ ap (λ it. take item_index declared ++ it ∷ []) (sym is))
+      ∙ map-append (λ it. (name_of it.0, written_expr N refer it.1)) (take item_index declared) (item ∷ [])
 
--- their names, and how many there are before it
-pub names_more : (declared : List (InternalName × «Type» InternalName)) (item_index : ℕ) (item : InternalName × «Type» InternalName)
-    → item_index < length declared → item ≡ get_or declared item_index item
-    → (item_names (collected_common (take (item_index + 1) declared))
-    ≡ item_names (collected_common (take item_index declared)) ++ name_of item.0 ∷ [])
-    × (item_index ≡ length (item_names (collected_common (take item_index declared))))
-names_more declared item_index item within is = (
-  ap item_names (items_more declared item_index item within is)
-      ∙ map-append (λ it. it.0) (collected_common (take item_index declared)) ((name_of item.0, resolved_expr item.1) ∷ []),
-  sym (length-map (collected_common (take item_index declared)) (λ it. it.0)
-      ∙ (length-map (take item_index declared) (λ it. (name_of it.0, resolved_expr it.1)) ∙ length-take-le item_index declared (omega (arith, within)))),
-)
+  -- their names, and how many there are before it
+  pub names_more : (declared : List (InternalName × Written («Type» N))) (item_index : ℕ) (item : InternalName × Written («Type» N))
+      → item_index < length declared → item ≡ get_or declared item_index item
+      → (item_names (written_common N refer (take (item_index + 1) declared))
+      ≡ item_names (written_common N refer (take item_index declared)) ++ name_of item.0 ∷ [])
+      × (item_index ≡ length (item_names (written_common N refer (take item_index declared))))
+  names_more declared item_index item within is = (
+    ap item_names (items_more declared item_index item within is)
+        ∙ map-append (λ it. it.0) (written_common N refer (take item_index declared)) ((name_of item.0, written_expr N refer item.1) ∷ []),
+    sym (length-map (written_common N refer (take item_index declared)) (λ it. it.0)
+        ∙ (length-map (take item_index declared) (λ it. (name_of it.0, written_expr N refer it.1))
+        ∙ length-take-le item_index declared (omega (arith, within)))),
+  )
 
--- the names of declared common types, around that of one of them
-pub names_split : (declared : List (InternalName × «Type» InternalName)) (item_index : ℕ) (item : InternalName × «Type» InternalName)
-    → item_index < length declared → item ≡ get_or declared item_index item
-    → item_names (collected_common declared)
-    ≡ item_names (collected_common (take item_index declared)) ++ name_of item.0 ∷ item_names (collected_common (drop (suc item_index) declared))
-names_split declared item_index item within is =
-    ap (λ all. item_names (collected_common all)) (split_at declared item_index item within is)
-    ∙ (ap item_names (map-append (λ it. (name_of it.0, resolved_expr it.1)) (take item_index declared) (item ∷ drop (suc item_index) declared))
-    ∙ map-append (λ it. it.0) (collected_common (take item_index declared)) (collected_common (item ∷ drop (suc item_index) declared)))
+  -- the names of declared common types, around that of one of them
+  pub names_split : (declared : List (InternalName × Written («Type» N))) (item_index : ℕ) (item : InternalName × Written («Type» N))
+      → item_index < length declared → item ≡ get_or declared item_index item
+      → item_names (written_common N refer declared)
+      ≡ item_names (written_common N refer (take item_index declared))
+      ++ name_of item.0 ∷ item_names (written_common N refer (drop (suc item_index) declared))
+  names_split declared item_index item within is =
+      ap (λ all. item_names (written_common N refer all)) (split_at declared item_index item within is)
+      ∙ (ap item_names (map-append (λ it. (name_of it.0, written_expr N refer it.1)) (take item_index declared) (item ∷ drop (suc item_index) declared))
+      ∙ map-append (λ it. it.0) (written_common N refer (take item_index declared)) (written_common N refer (item ∷ drop (suc item_index) declared)))
 
--- a declared common type at an index, as plain data
-pub item_at_index : (declared : List (InternalName × «Type» InternalName)) (item_index : ℕ) (item : InternalName × «Type» InternalName)
-    → item_index < length declared → item ≡ get_or declared item_index item
-    → slice_get (collected_common declared) item_index ≡ Some (name_of item.0, resolved_expr item.1)
-item_at_index declared item_index item within is =
-    slice_get-map (λ it. (name_of it.0, resolved_expr it.1)) declared item_index
-    ∙ ap (option_map (λ it. (name_of it.0, resolved_expr it.1))) (slice_get-get_or declared item_index item within ∙ ap Some (sym is))
+  -- a declared common type at an index, as plain data
+  pub item_at_index : (declared : List (InternalName × Written («Type» N))) (item_index : ℕ) (item : InternalName × Written («Type» N))
+      → item_index < length declared → item ≡ get_or declared item_index item
+      → slice_get (written_common N refer declared) item_index ≡ Some (name_of item.0, written_expr N refer item.1)
+  item_at_index declared item_index item within is =
+      slice_get-map (λ it. (name_of it.0, written_expr N refer it.1)) declared item_index
+      ∙ ap (option_map (λ it. (name_of it.0, written_expr N refer it.1))) (slice_get-get_or declared item_index item within ∙ ap Some (sym is))

@@ -6,6 +6,5 @@ mod IndexLemmas
 mod OrderLemmas
 mod RecordLemmas
 mod ReferringLemmas
-mod ResolvedLemmas
 pub mod Results
-mod ScopeLemmas
+pub mod ScopeLemmas

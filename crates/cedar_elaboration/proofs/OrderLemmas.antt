@@ -5,9 +5,9 @@ use Rattle.std.proofs.lemmas.Option.{slice_get-map, slice_get_within}
 use Rattle.std.specs.Option.{option_map}
 use Rattle.std.specs.Prelude.{slice_get}
 use Rattle.cedar_below.proofs.Lists.{Contains-preimage}
-use Rattle.cedar_elaboration.specs.Words.{AddsIndices, AreIndices, Chain, Expr, HasNoCycle, HoldsPairwise, IsElaborationOrder, IsOrder, LeadsTo, PlainName, Refers, RefersToCommon, Twice, defined_over, item_names, items_at, more, names_of, one}
+use Rattle.cedar_elaboration.specs.Words.{AddsIndices, AreIndices, Chain, Expr, HasNoCycle, HoldsPairwise, IsDefined, IsElaborationOrder, IsOrder, LeadsTo, Names, NamesItems, PlainName, Reference, Refers, RefersToCommon, ResolvesTo, Twice, defined_over, item_names, items_at, more, names_of, one}
 use Rattle.cedar_declarations.proofs.OccurrenceLemmas.{Contains-image}
-use Rattle.cedar_declarations.proofs.ResolutionLemmas.{first_defined}
+use Rattle.cedar_declarations.proofs.ResolutionLemmas.{IsFirst-like}
 use Rattle.cedar_elaboration.proofs.IndexLemmas.{Contains-at, index_of, index_once}
 
 -- what holds pairwise holds of the item at an index and of the list there
@@ -40,25 +40,46 @@ item_at (item ∷ items) zero name is = let same : item.0 ≡ name = cc in (item
 item_at (item ∷ items) (suc i) name is = item_at items i name is
 
 -- the indices of the common types that each of some definitions refers to
-abbrev pub AreTargets : {Z : Type 0} → List (PlainName × ℕ) → List (PlainName × Expr) → List (Vec ℕ Z) → Type 0
-AreTargets indices items targets = HoldsPairwise (λ it found. AddsIndices indices (Refers it.1) [] found.items) items targets
+abbrev pub AreTargets : {Z : Type 0} → Names → List (PlainName × ℕ) → List (PlainName × Expr) → List (Vec ℕ Z) → Type 0
+AreTargets names indices items targets = HoldsPairwise (λ it found. AddsIndices names indices (Refers it.1) [] found.items) items targets
 
-module _ {Z : Type 0} (items : List (PlainName × Expr)) (indices : List (PlainName × ℕ)) (targets : List (Vec ℕ Z))
-    (numbered : AreIndices (item_names items) indices) (turns : AreTargets indices items targets) where
+-- where the common types among some names are those of the items, a reference resolves to the same
+-- over what the items define
+module _ (names : Names) (items : List (PlainName × Expr)) (same : NamesItems names items) where
+  -- what a reference resolves to over the names it resolves to over what is defined
+  resolves_over : (reference : Reference) (name : PlainName) → ResolvesTo names reference name
+      → ResolvesTo (names_of (defined_over items names)) reference name
+  resolves_over reference name =
+      IsFirst-like (IsDefined names reference.kind) (IsDefined (names_of (defined_over items names)) reference.kind)
+      (λ each defined. elim defined [ inl it ↦ inl (it.0, (same each).0 it.1) | inr it ↦ inr it ])
+      (λ each defined. elim defined [ inl it ↦ inl (it.0, (same each).1 it.1) | inr it ↦ inr it ])
+      reference.possibilities name
+
+  -- and the other way round
+  resolves_among : (reference : Reference) (name : PlainName) → ResolvesTo (names_of (defined_over items names)) reference name
+      → ResolvesTo names reference name
+  resolves_among reference name =
+      IsFirst-like (IsDefined (names_of (defined_over items names)) reference.kind) (IsDefined names reference.kind)
+      (λ each defined. elim defined [ inl it ↦ inl (it.0, (same each).1 it.1) | inr it ↦ inr it ])
+      (λ each defined. elim defined [ inl it ↦ inl (it.0, (same each).0 it.1) | inr it ↦ inr it ])
+      reference.possibilities name
+
+module _ {Z : Type 0} (names : Names) (items : List (PlainName × Expr)) (indices : List (PlainName × ℕ)) (targets : List (Vec ℕ Z))
+    (numbered : AreIndices (item_names items) indices) (turns : AreTargets names indices items targets) where
   -- as many items as lists of targets
   pub as_many : length items ≡ length targets
-  as_many = same_length (λ it found. AddsIndices indices (Refers it.1) [] found.items) items targets turns
+  as_many = same_length (λ it found. AddsIndices names indices (Refers it.1) [] found.items) items targets turns
 
   -- what the item at an index refers to
   targets_at : (i : ℕ) (item : PlainName × Expr) → slice_get items i ≡ Some item
-      → AddsIndices indices (Refers item.1) [] (items_at targets i)
-  targets_at i item is = turn_at (λ it found. AddsIndices indices (Refers it.1) [] found) items targets turns i item is
+      → AddsIndices names indices (Refers item.1) [] (items_at targets i)
+  targets_at i item is = turn_at (λ it found. AddsIndices names indices (Refers it.1) [] found) items targets turns i item is
 
   -- an index that an item leads to is that of a common type that its definition refers to
-  edge_forth : (entities : List PlainName) (i j : ℕ) (name : PlainName) → slice_get (item_names items) i ≡ Some name
+  edge_forth : NamesItems names items → (i j : ℕ) (name : PlainName) → slice_get (item_names items) i ≡ Some name
       → LeadsTo targets i j
-      → (other : PlainName) × (slice_get (item_names items) j ≡ Some other) × RefersToCommon (defined_over items entities) name other
-  edge_forth entities i j name is leads =
+      → (other : PlainName) × (slice_get (item_names items) j ≡ Some other) × RefersToCommon (defined_over items names) name other
+  edge_forth among i j name is leads =
       let item = item_at items i name is in
       elim ((targets_at i item.0 item.1).only j leads.0) [
         | inl none ↦ absurd (omega (arith, none.1))
@@ -79,24 +100,22 @@ module _ {Z : Type 0} (items : List (PlainName × Expr)) (indices : List (PlainN
                 body.0.1,
                 subst DefinesItem item.2 (Contains-at items i item.0 item.1),
                 it.1,
-                rw it.2.2 (inl (refl, inl (may, in_names))),
+                resolves_over names items among reference other it.2.2,
                 (may, subst DefinesBody body.2 body.1),
               ),
             )
       ]
 
   -- where a definition refers to a common type, its place leads to that one's
-  edge_back : (entities : List PlainName) (name other : PlainName) → RefersToCommon (defined_over items entities) name other
+  edge_back : NamesItems names items → (name other : PlainName) → RefersToCommon (defined_over items names) name other
       → (i j : ℕ) × (slice_get (item_names items) i ≡ Some name) × (slice_get (item_names items) j ≡ Some other)
       × LeadsTo targets i j
-  edge_back entities name other refers =
-      let defined = defined_over items entities in
+  edge_back among name other refers =
       let reference = refers.1 in
       let at = index_of items (name, refers.0) refers.3 in
-      let among = first_defined (names_of defined) reference.kind reference.possibilities other refers.5 in
       let in_names : Contains (item_names items) other = Contains-image (λ each. each.0) items (other, refers.2) refers.6.1 in
-      let found = (targets_at at.0 (name, refers.0) at.1).each reference refers.4 refers.6.0 other among.0
-      (numbered.each other in_names) in
+      let found = (targets_at at.0 (name, refers.0) at.1).each reference refers.4 refers.6.0 other
+      (resolves_among names items among reference other refers.5) (numbered.each other in_names) in
       let stands : slice_get (item_names items) found.0 ≡ Some other = numbered.sound other found.0 found.1 in
       let within : found.0 < length (item_names items) = slice_get_within (item_names items) found.0 other stands in (
         at.0,
@@ -107,49 +126,49 @@ module _ {Z : Type 0} (items : List (PlainName × Expr)) (indices : List (PlainN
       )
 
   -- a chain of indices is one of common types
-  chain_forth : (entities : List PlainName) (i j : ℕ) (name other : PlainName) → slice_get (item_names items) i ≡ Some name
+  chain_forth : NamesItems names items → (i j : ℕ) (name other : PlainName) → slice_get (item_names items) i ≡ Some name
       → slice_get (item_names items) j ≡ Some other → Chain (LeadsTo targets) i j
-      → Chain (RefersToCommon (defined_over items entities)) name other
-  chain_forth entities i j name other is is' (one step) =
-      let it = edge_forth entities i j name is step in
+      → Chain (RefersToCommon (defined_over items names)) name other
+  chain_forth among i j name other is is' (one step) =
+      let it = edge_forth among i j name is step in
       let same : it.0 ≡ other = cc in
       one (rw same at it.2)
-  chain_forth entities i j name other is is' (more {b = k} step rest) =
-      let it = edge_forth entities i k name is step in
-      more it.2 (chain_forth entities k j it.0 other it.1 is' rest)
+  chain_forth among i j name other is is' (more {b = k} step rest) =
+      let it = edge_forth among i k name is step in
+      more it.2 (chain_forth among k j it.0 other it.1 is' rest)
 
   -- an index that is on a cycle is that of a common type that is
   pub cycle_found : (i : ℕ) (name : PlainName) → slice_get (item_names items) i ≡ Some name → Chain (LeadsTo targets) i i
-      → (entities : List PlainName) → Chain (RefersToCommon (defined_over items entities)) name name
-  cycle_found i name is chain entities = chain_forth entities i i name name is is chain
+      → NamesItems names items → Chain (RefersToCommon (defined_over items names)) name name
+  cycle_found i name is chain among = chain_forth among i i name name is is chain
 
   module _ (once : (name : PlainName) → ¬ Twice (item_names items) name) where
     -- a chain of common types is one of indices
-    chain_back : (entities : List PlainName) (name other : PlainName) → Chain (RefersToCommon (defined_over items entities)) name other
+    chain_back : NamesItems names items → (name other : PlainName) → Chain (RefersToCommon (defined_over items names)) name other
         → (i j : ℕ) × (slice_get (item_names items) i ≡ Some name) × (slice_get (item_names items) j ≡ Some other)
         × Chain (LeadsTo targets) i j
-    chain_back entities name other (one step) =
-        let it = edge_back entities name other step in (it.0, it.1, it.2, it.3, one it.4)
-    chain_back entities name other (more {b = middle} step rest) =
-        let it = edge_back entities name middle step in
-        let onwards = chain_back entities middle other rest in
+    chain_back among name other (one step) =
+        let it = edge_back among name other step in (it.0, it.1, it.2, it.3, one it.4)
+    chain_back among name other (more {b = middle} step rest) =
+        let it = edge_back among name middle step in
+        let onwards = chain_back among middle other rest in
         let same : it.1 ≡ onwards.0 = index_once (item_names items) once it.1 onwards.0 middle it.3 onwards.2 in
         (it.0, onwards.1, it.2, onwards.3, more (rw same at it.4) onwards.4)
 
     -- where no index is on a cycle, no common type does
-    pub no_cycle_among : ((i : ℕ) → ¬ Chain (LeadsTo targets) i i) → HasNoCycle items
-    no_cycle_among none entities name chain =
-        let it = chain_back entities name name chain in
+    pub no_cycle_among : ((i : ℕ) → ¬ Chain (LeadsTo targets) i i) → HasNoCycle names items
+    no_cycle_among none among name chain =
+        let it = chain_back among name name chain in
         let same : it.0 ≡ it.1 = index_once (item_names items) once it.0 it.1 name it.2 it.3 in
         none it.0 (rw (← same) at it.4)
 
   -- an order of the indices is one of the common types
-  pub order_of_indices : (order : List ℕ) → IsOrder targets order → IsElaborationOrder items order
+  pub order_of_indices : (order : List ℕ) → IsOrder targets order → IsElaborationOrder names items order
   order_of_indices order in_order =
       record {
         indices = rw as_many in_order.each;
-        after = λ before rest item_index item split is reference refers may name among in_names.
-            let found = (targets_at item_index item is).each reference refers may name among (numbered.each name in_names) in
+        after = λ before rest item_index item split is reference refers may name resolves in_names.
+            let found = (targets_at item_index item is).each reference refers may name resolves (numbered.each name in_names) in
             let stands : slice_get (item_names items) found.0 ≡ Some name = numbered.sound name found.0 found.1 in
             let within : found.0 < length (item_names items) = slice_get_within (item_names items) found.0 name stands in (
               found.0,

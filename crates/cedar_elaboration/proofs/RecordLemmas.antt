@@ -1,5 +1,5 @@
 -- Attributes that are elaborated one after another.
-use Rattle.std.proofs.Common.{◌≡◌, ◌⊎◌, Bool, false, List, [], ◌∷◌, ◌++◌, map, ap, sym, ◌∙◌, refl, inl, inr, append_assoc, string_bytes, Contains}
+use Rattle.std.proofs.Common.{◌≡◌, ◌⊎◌, Bool, false, true, List, [], ◌∷◌, ◌++◌, map, ap, sym, ◌∙◌, refl, inl, inr, append_assoc, string_bytes, Contains}
 use Rattle.std.proofs.lemmas.Bool.{false≢true}
 use Rattle.std.proofs.lemmas.List.{map-append, append-nil}
 use Rattle.std.proofs.lemmas.Simd.{map-map}
@@ -9,7 +9,7 @@ use Rattle.std.specs.String.{string_cmp}
 use Rattle.std.specs.declared.alloc.Global.{Global}
 use Rattle.std.specs.declared.string.String.{String}
 use Rattle.cedar_below.proofs.Ordered.{IsStrictlySortedBy-map}
-use Rattle.cedar_elaboration.specs.Words.{AttributeType, ClosedAttributes, Covers, CoversExtensions, Defined, ElaboratesAs, Expr, Fault, Fields, HasOpenRecord, HoldsLast, InternalName, IsExprFault, IsRefusal, IsSortedByName, Members, MembersElaborateTo, MembersHaveOpenRecord, MembersMentionExtension, MembersRefer, PlainName, RecordType, Reference, Text, Ty, TypeOfAttribute, TypeScope, as_member, as_no_member, as_record, attribute_of, end, extension_name, extensions_in_scope, field, field_names, fields_from, flag_and_expr, member, members_from, no_member, open_record, out-RecordType, out-TypeOfAttribute, out_of_memory, plain_attributes, record_expr, record_of, reserved_name, resolved_expr, resolved_record, resolved_reference, text_cmp, type_not_defined, unknown_extension_type}
+use Rattle.cedar_elaboration.specs.Words.{AttributeType, ClosedAttributes, Covers, CoversExtensions, Defined, ElaboratesAs, Expr, Fault, Fields, HasOpenRecord, HoldsLast, IsExprFault, IsRefusal, IsSortedByName, Members, MembersElaborateTo, MembersHaveOpenRecord, MembersMentionExtension, MembersRefer, PlainName, RecordType, Reference, ReferenceType, Text, Ty, TypeOfAttribute, TypeScope, as_member, as_no_member, as_record, attribute_of, end, extension_name, extensions_in_scope, field, field_names, fields_from, flag_and_expr, member, members_from, no_member, open_record, out-RecordType, out-TypeOfAttribute, out_of_memory, plain_attributes, record_expr, record_of, record_type_expr, reserved_name, text_cmp, type_expr, type_not_defined, unknown_extension_type}
 use Rattle.cedar_names.proofs.ExprLemmas.{record_type_expr-entries, flag_and_expr-parts}
 use Rattle.cedar_type_rules.proofs.Extensional.{fields_from-HoldsLast}
 use Rattle.cedar_elaboration.proofs.ScopeLemmas.{Covers-part}
@@ -112,176 +112,183 @@ fault_of_member defined extensions front name required expr rest additional (res
 fault_of_member defined extensions front name required expr rest additional out_of_memory at_fault = tt
 fault_of_member defined extensions front name required expr rest additional _ at_fault = at_fault
 
--- the entries of a record type
-abbrev pub Entries : Type 0
-Entries = List (String Global × TypeOfAttribute InternalName)
+-- attributes over names of some form, where it is given what a name refers to at a place of each kind
+module _ (N : Type 0) (refer : ReferenceType → N → Reference) where
+  -- the entries of a record type
+  abbrev pub Entries : Type 0
+  Entries = List (String Global × TypeOfAttribute N)
 
--- the pairs of names and attributes that are elaborated so far
-abbrev pub Items : Type 0
-Items = List (String Global × AttributeType)
+  -- the pairs of names and attributes that are elaborated so far
+  abbrev pub Items : Type 0
+  Items = List (String Global × AttributeType)
 
--- what the entries of a record type stand for
-abbrev pub resolved_members : Entries → Members
-resolved_members entries =
-    members_from (map (λ entry. (string_bytes entry.0, flag_and_expr InternalName resolved_reference entry.1)) entries)
+  -- what the entries of a record type stand for
+  abbrev pub resolved_members : Entries → Members
+  resolved_members entries =
+      members_from (map (λ entry. (string_bytes entry.0, flag_and_expr N refer entry.1)) entries)
 
--- what the type of an attribute stands for
-abbrev pub attribute_expr : TypeOfAttribute InternalName → Expr
-attribute_expr attribute = resolved_expr (out-TypeOfAttribute InternalName attribute).ty
+  -- what the type of an attribute stands for
+  abbrev pub attribute_expr : TypeOfAttribute N → Expr
+  attribute_expr attribute = type_expr N refer (out-TypeOfAttribute N attribute).ty
 
--- the entries of a record type
-abbrev pub entries_of : RecordType InternalName → Entries
-entries_of it = (out-RecordType InternalName it).attributes.entries
+  -- the entries of a record type
+  abbrev pub entries_of : RecordType N → Entries
+  entries_of it = (out-RecordType N it).attributes.entries
 
--- the entries after others give the attributes after theirs
-pub resolved_members-append : (done rest : Entries)
-    → resolved_members (done ++ rest) ≡ append_members (resolved_members done) (resolved_members rest)
-resolved_members-append done rest =
-    ap members_from (map-append _ done rest) ∙ members_from-append _ _
+  -- the entries after others give the attributes after theirs
+  pub resolved_members-append : (done rest : Entries)
+      → resolved_members (done ++ rest) ≡ append_members (resolved_members done) (resolved_members rest)
+  resolved_members-append done rest =
+      ap members_from (map-append _ done rest) ∙ members_from-append _ _
 
--- one entry gives one attribute
-pub resolved_members-one : (name : String Global) (attribute : TypeOfAttribute InternalName) (rest : Entries)
-    → resolved_members ((name, attribute) ∷ rest)
-    ≡ member (string_bytes name) (out-TypeOfAttribute InternalName attribute).required (attribute_expr attribute) (resolved_members rest)
-resolved_members-one name attribute rest =
-    ap (λ pair. member (string_bytes name) pair.0 pair.1 (resolved_members rest))
-    (flag_and_expr-parts InternalName resolved_reference attribute)
+  -- one entry gives one attribute
+  pub resolved_members-one : (name : String Global) (attribute : TypeOfAttribute N) (rest : Entries)
+      → resolved_members ((name, attribute) ∷ rest)
+      ≡ member (string_bytes name) (out-TypeOfAttribute N attribute).required (attribute_expr attribute) (resolved_members rest)
+  resolved_members-one name attribute rest =
+      ap (λ pair. member (string_bytes name) pair.0 pair.1 (resolved_members rest))
+      (flag_and_expr-parts N refer attribute)
 
--- a record type by the entries before one of them, and those after it
-pub resolved_record-split : (it : RecordType InternalName) (done left rest : Entries) (name : String Global)
-    (attribute : TypeOfAttribute InternalName) → entries_of it ≡ done ++ left → left ≡ (name, attribute) ∷ rest
-    → resolved_record it
-    ≡ record_expr (append_members (resolved_members done)
-    (member (string_bytes name) (out-TypeOfAttribute InternalName attribute).required (attribute_expr attribute) (resolved_members rest)))
-    (out-RecordType InternalName it).additional_attributes
-resolved_record-split it done left rest name attribute split is =
-    record_type_expr-entries InternalName resolved_reference it
-    ∙ ap (λ members. record_expr members (out-RecordType InternalName it).additional_attributes)
-    (ap resolved_members (split ∙ ap (λ others. done ++ others) is)
-    ∙ (resolved_members-append done ((name, attribute) ∷ rest)
-    ∙ ap (append_members (resolved_members done)) (resolved_members-one name attribute rest)))
+  -- a record type by the entries before one of them, and those after it
+  pub resolved_record-split : (it : RecordType N) (done left rest : Entries) (name : String Global)
+      (attribute : TypeOfAttribute N) → entries_of it ≡ done ++ left → left ≡ (name, attribute) ∷ rest
+      → record_type_expr N refer it
+      ≡ record_expr (append_members (resolved_members done)
+      (member (string_bytes name) (out-TypeOfAttribute N attribute).required (attribute_expr attribute) (resolved_members rest)))
+      (out-RecordType N it).additional_attributes
+  resolved_record-split it done left rest name attribute split is =
+      record_type_expr-entries N refer it
+      ∙ ap (λ members. record_expr members (out-RecordType N it).additional_attributes)
+      (ap resolved_members (split ∙ ap (λ others. done ++ others) is)
+      ∙ (resolved_members-append done ((name, attribute) ∷ rest)
+      ∙ ap (append_members (resolved_members done)) (resolved_members-one name attribute rest)))
 
--- of a record type some entries are elaborated, and others are left
-pub record ElaboratedSoFar (scope : TypeScope) (it : RecordType InternalName) (items : Items) (left : Entries) : Type 0 where
-  pub done : Entries
-  pub split : entries_of it ≡ done ++ left
-  pub elaborated : (defined : Defined) → Covers defined scope (resolved_record it)
-      → MembersElaborateTo defined (resolved_members done) (fields_from (plain_attributes items))
-  pub closed : ¬ MembersHaveOpenRecord (resolved_members done)
-  pub extensions : (word : Text) → MembersMentionExtension (resolved_members done) word
-      → Contains (extensions_in_scope scope) (extension_name word)
+  -- of a record type some entries are elaborated, and others are left
+  pub record ElaboratedSoFar (scope : TypeScope) (it : RecordType N) (items : Items) (left : Entries) : Type 0 where
+    pub done : Entries
+    pub split : entries_of it ≡ done ++ left
+    pub elaborated : (defined : Defined) → Covers defined scope (record_type_expr N refer it)
+        → MembersElaborateTo defined (resolved_members done) (fields_from (plain_attributes items))
+    pub closed : ¬ MembersHaveOpenRecord (resolved_members done)
+    pub extensions : (word : Text) → MembersMentionExtension (resolved_members done) word
+        → Contains (extensions_in_scope scope) (extension_name word)
 
--- at first nothing is elaborated
-pub ElaboratedSoFar-none : (scope : TypeScope) (it : RecordType InternalName) (left : Entries) (items : Items)
-    → entries_of it ≡ left → items ≡ [] → ElaboratedSoFar scope it items left
-ElaboratedSoFar-none scope it left items same nothing = record {
-  done = [];
-  split = same;
-  elaborated = λ defined knows. rw nothing as_no_member;
-  closed = λ holds. holds;
-  extensions = λ word mentions. absurd mentions;
-}
-
--- the attributes of a record with one more at the end
-plain_attributes-push : (items : Items) (name : String Global) (declared : AttributeType) (bytes : Text)
-    (required : Bool) (ty : Ty) → string_bytes name ≡ bytes → attribute_of declared ≡ (required, ty)
-    → fields_from (plain_attributes (items ++ (name, declared) ∷ []))
-    ≡ append_fields (fields_from (plain_attributes items)) (field bytes required ty end)
-plain_attributes-push items name declared bytes required ty same_name same =
-    ap fields_from (map-append (λ item. (string_bytes item.0, attribute_of item.1)) items ((name, declared) ∷ []))
-    ∙ (fields_from-append (plain_attributes items) ((string_bytes name, attribute_of declared) ∷ [])
-    ∙ (ap (λ text. append_fields (fields_from (plain_attributes items))
-    (field text (attribute_of declared).0 (attribute_of declared).1 end)) same_name
-    ∙ ap (λ pair. append_fields (fields_from (plain_attributes items)) (field bytes pair.0 pair.1 end)) same))
-
-module _ (scope : TypeScope) (it : RecordType InternalName) (left rest : Entries) (items : Items) (name : String Global)
-    (attribute : TypeOfAttribute InternalName) (is : left ≡ (name, attribute) ∷ rest)
-    (so_far : ElaboratedSoFar scope it items left) where
-  -- what is known for the record type is known for the type of the next entry
-  pub Covers-next : (defined : Defined) → Covers defined scope (resolved_record it) → Covers defined scope (attribute_expr attribute)
-  Covers-next defined knows =
-      let whole = resolved_record-split it so_far.done left rest name attribute so_far.split is in
-      Covers-part defined scope (resolved_record it) (attribute_expr attribute)
-      (λ reference refers. rw whole (refer-right (resolved_members so_far.done) (member (string_bytes name)
-      (out-TypeOfAttribute InternalName attribute).required (attribute_expr attribute) (resolved_members rest)) reference (inl refers)))
-      knows
-
-  -- the refusal of the type of the next entry is that of the record type
-  pub fault_of_next : (fault : Fault) → IsRefusal scope (attribute_expr attribute) fault → IsRefusal scope (resolved_record it) fault
-  fault_of_next fault at_fault = record {
-    each = λ defined knows. rw (resolved_record-split it so_far.done left rest name attribute so_far.split is)
-        (fault_of_member defined (extensions_in_scope scope) (resolved_members so_far.done) (string_bytes name)
-        (out-TypeOfAttribute InternalName attribute).required (attribute_expr attribute) (resolved_members rest)
-        (out-RecordType InternalName it).additional_attributes fault (at_fault.each defined (Covers-next defined knows)));
+  -- at first nothing is elaborated
+  pub ElaboratedSoFar-none : (scope : TypeScope) (it : RecordType N) (left : Entries) (items : Items)
+      → entries_of it ≡ left → items ≡ [] → ElaboratedSoFar scope it items left
+  ElaboratedSoFar-none scope it left items same nothing = record {
+    done = [];
+    split = same;
+    elaborated = λ defined knows. rw nothing as_no_member;
+    closed = λ holds. holds;
+    extensions = λ word mentions. absurd mentions;
   }
 
-  -- one more entry is elaborated
-  pub ElaboratedSoFar-more : (name' : String Global) (declared : AttributeType) (ty : Ty) → string_bytes name' ≡ string_bytes name
-      → attribute_of declared ≡ ((out-TypeOfAttribute InternalName attribute).required, ty)
-      → ElaboratesAs scope (attribute_expr attribute) ty
-      → (¬ HasOpenRecord (attribute_expr attribute))
-      → CoversExtensions scope (attribute_expr attribute)
-      → ElaboratedSoFar scope it (items ++ (name', declared) ∷ []) rest
-  ElaboratedSoFar-more name' declared ty same_name same one closed extensions =
-      let required = (out-TypeOfAttribute InternalName attribute).required in
-      let front = resolved_members so_far.done in
-      let last : Members = member (string_bytes name) required (attribute_expr attribute) no_member in
-      let members : resolved_members (so_far.done ++ (name, attribute) ∷ []) ≡ append_members front last =
-      resolved_members-append so_far.done ((name, attribute) ∷ [])
-      ∙ ap (append_members front) (resolved_members-one name attribute []) in
-      let fields = plain_attributes-push items name' declared (string_bytes name) required ty same_name same in
-      record {
-        done = so_far.done ++ (name, attribute) ∷ [];
-        split = so_far.split ∙ (ap (λ others. so_far.done ++ others) is ∙ sym (append_assoc so_far.done ((name, attribute) ∷ []) rest));
-        elaborated = λ defined knows.
-            rw (members, fields) (MembersElaborateTo-append defined (so_far.elaborated defined knows)
-            (as_member (one defined (Covers-next defined knows)) as_no_member));
-        closed = rw members (λ holds. elim (have_open-cases front last holds) [
-          | inl here ↦ so_far.closed here
-          | inr (inl here) ↦ closed here
-          | inr (inr none) ↦ none
-        ]);
-        extensions = rw members (λ word mentions. elim (mention-cases front last word mentions) [
-          | inl here ↦ so_far.extensions word here
-          | inr (inl here) ↦ extensions word here
-          | inr (inr none) ↦ absurd none
-        ]);
-      }
+  -- the attributes of a record with one more at the end
+  plain_attributes-push : (items : Items) (name : String Global) (declared : AttributeType) (bytes : Text)
+      (required : Bool) (ty : Ty) → string_bytes name ≡ bytes → attribute_of declared ≡ (required, ty)
+      → fields_from (plain_attributes (items ++ (name, declared) ∷ []))
+      ≡ append_fields (fields_from (plain_attributes items)) (field bytes required ty end)
+  plain_attributes-push items name declared bytes required ty same_name same =
+      ap fields_from (map-append (λ item. (string_bytes item.0, attribute_of item.1)) items ((name, declared) ∷ []))
+      ∙ (fields_from-append (plain_attributes items) ((string_bytes name, attribute_of declared) ∷ [])
+      ∙ (ap (λ text. append_fields (fields_from (plain_attributes items))
+      (field text (attribute_of declared).0 (attribute_of declared).1 end)) same_name
+      ∙ ap (λ pair. append_fields (fields_from (plain_attributes items)) (field bytes pair.0 pair.1 end)) same))
 
-module _ (scope : TypeScope) (it : RecordType InternalName) (items : Items) (left : Entries) (nothing : left ≡ [])
-    (so_far : ElaboratedSoFar scope it items left) where
-  -- where no entry is left all are elaborated
-  ElaboratedSoFar-done : so_far.done ≡ entries_of it
-  ElaboratedSoFar-done = sym (so_far.split ∙ (ap (λ others. so_far.done ++ others) nothing ∙ append-nil so_far.done))
+  module _ (scope : TypeScope) (it : RecordType N) (left rest : Entries) (items : Items) (name : String Global)
+      (attribute : TypeOfAttribute N) (is : left ≡ (name, attribute) ∷ rest)
+      (so_far : ElaboratedSoFar scope it items left) where
+    -- what is known for the record type is known for the type of the next entry
+    pub Covers-next : (defined : Defined) → Covers defined scope (record_type_expr N refer it) → Covers defined scope (attribute_expr attribute)
+    Covers-next defined knows =
+        let whole = resolved_record-split it so_far.done left rest name attribute so_far.split is in
+        Covers-part defined scope (record_type_expr N refer it) (attribute_expr attribute)
+        (λ reference refers. rw whole (refer-right (resolved_members so_far.done) (member (string_bytes name)
+        (out-TypeOfAttribute N attribute).required (attribute_expr attribute) (resolved_members rest)) reference (inl refers)))
+        knows
 
-  -- a record type is elaborated as the closed record of attributes that hold the last of those that are elaborated
-  pub record_elaborated : (fields : Fields) → IsOrdered string_cmp (out-RecordType InternalName it).attributes
-      → HoldsLast (plain_attributes items) fields → IsSortedByName fields
-      → ElaboratesAs scope (resolved_record it) (record_of fields ClosedAttributes)
-  record_elaborated fields ordered holds sorted_by_name defined knows =
-      let all = entries_of it in
-      let plain : List (Text × (Bool × Expr)) =
-      map (λ entry. (string_bytes entry.0, flag_and_expr InternalName resolved_reference entry.1)) all in
-      let Elaborates : Entries → Type 0 = λ entries. MembersElaborateTo defined (resolved_members entries) (fields_from (plain_attributes items)) in
-      let elaborated : Elaborates all = rw ElaboratedSoFar-done at (so_far.elaborated defined knows) in
-      let names : field_names (fields_from (plain_attributes items)) ≡ map string_bytes (keys_of all) =
-      MembersElaborateTo-names defined plain elaborated
-      ∙ (map-map (λ item. item.0) (λ entry. (string_bytes entry.0, flag_and_expr InternalName resolved_reference entry.1)) all
-      ∙ sym (map-map string_bytes (λ entry. entry.0) all)) in
-      let in_order : IsSortedByName (fields_from (plain_attributes items)) =
-      rw names (IsStrictlySortedBy-map string_cmp text_cmp string_bytes (λ a b. refl) _ ordered) in
-      rw (record_type_expr-entries InternalName resolved_reference it)
-      (as_record (rw (← fields_from-HoldsLast (plain_attributes items) fields in_order sorted_by_name holds) at elaborated))
+    -- the refusal of the type of the next entry is that of the record type
+    pub fault_of_next : (fault : Fault) → IsRefusal scope (attribute_expr attribute) fault → IsRefusal scope (record_type_expr N refer it) fault
+    fault_of_next fault at_fault = record {
+      each = λ defined knows. rw (resolved_record-split it so_far.done left rest name attribute so_far.split is)
+          (fault_of_member defined (extensions_in_scope scope) (resolved_members so_far.done) (string_bytes name)
+          (out-TypeOfAttribute N attribute).required (attribute_expr attribute) (resolved_members rest)
+          (out-RecordType N it).additional_attributes fault (at_fault.each defined (Covers-next defined knows)));
+    }
 
-  -- a record type without additional attributes whose attributes are closed is closed
-  pub record_closed : (out-RecordType InternalName it).additional_attributes ≡ false → ¬ HasOpenRecord (resolved_record it)
-  record_closed listed holds = elim (rw (record_type_expr-entries InternalName resolved_reference it) at holds) [
-    | inl additional ↦ false≢true (sym listed ∙ additional)
-    | inr there ↦ rw ElaboratedSoFar-done at so_far.closed there
-  ]
+    -- one more entry is elaborated
+    pub ElaboratedSoFar-more : (name' : String Global) (declared : AttributeType) (ty : Ty) → string_bytes name' ≡ string_bytes name
+        → attribute_of declared ≡ ((out-TypeOfAttribute N attribute).required, ty)
+        → ElaboratesAs scope (attribute_expr attribute) ty
+        → (¬ HasOpenRecord (attribute_expr attribute))
+        → CoversExtensions scope (attribute_expr attribute)
+        → ElaboratedSoFar scope it (items ++ (name', declared) ∷ []) rest
+    ElaboratedSoFar-more name' declared ty same_name same one closed extensions =
+        let required = (out-TypeOfAttribute N attribute).required in
+        let front = resolved_members so_far.done in
+        let last : Members = member (string_bytes name) required (attribute_expr attribute) no_member in
+        let members : resolved_members (so_far.done ++ (name, attribute) ∷ []) ≡ append_members front last =
+        resolved_members-append so_far.done ((name, attribute) ∷ [])
+        ∙ ap (append_members front) (resolved_members-one name attribute []) in
+        let fields = plain_attributes-push items name' declared (string_bytes name) required ty same_name same in
+        record {
+          done = so_far.done ++ (name, attribute) ∷ [];
+          split = so_far.split ∙ (ap (λ others. so_far.done ++ others) is ∙ sym (append_assoc so_far.done ((name, attribute) ∷ []) rest));
+          elaborated = λ defined knows.
+              rw (members, fields) (MembersElaborateTo-append defined (so_far.elaborated defined knows)
+              (as_member (one defined (Covers-next defined knows)) as_no_member));
+          closed = rw members (λ holds. elim (have_open-cases front last holds) [
+            | inl here ↦ so_far.closed here
+            | inr (inl here) ↦ closed here
+            | inr (inr none) ↦ none
+          ]);
+          extensions = rw members (λ word mentions. elim (mention-cases front last word mentions) [
+            | inl here ↦ so_far.extensions word here
+            | inr (inl here) ↦ extensions word here
+            | inr (inr none) ↦ absurd none
+          ]);
+        }
 
-  -- the extension types of a record type are those of its attributes
-  pub record_extensions : CoversExtensions scope (resolved_record it)
-  record_extensions word mentions =
-      (rw ElaboratedSoFar-done at (so_far.extensions word))
-      (rw (record_type_expr-entries InternalName resolved_reference it) at mentions)
+  module _ (scope : TypeScope) (it : RecordType N) (items : Items) (left : Entries) (nothing : left ≡ [])
+      (so_far : ElaboratedSoFar scope it items left) where
+    -- where no entry is left all are elaborated
+    ElaboratedSoFar-done : so_far.done ≡ entries_of it
+    ElaboratedSoFar-done = sym (so_far.split ∙ (ap (λ others. so_far.done ++ others) nothing ∙ append-nil so_far.done))
+
+    -- a record type is elaborated as the closed record of attributes that hold the last of those that are elaborated
+    pub record_elaborated : (fields : Fields) → IsOrdered string_cmp (out-RecordType N it).attributes
+        → HoldsLast (plain_attributes items) fields → IsSortedByName fields
+        → ElaboratesAs scope (record_type_expr N refer it) (record_of fields ClosedAttributes)
+    record_elaborated fields ordered holds sorted_by_name defined knows =
+        let all = entries_of it in
+        let plain : List (Text × (Bool × Expr)) =
+        map (λ entry. (string_bytes entry.0, flag_and_expr N refer entry.1)) all in
+        let Elaborates : Entries → Type 0 = λ entries. MembersElaborateTo defined (resolved_members entries) (fields_from (plain_attributes items)) in
+        let elaborated : Elaborates all = rw ElaboratedSoFar-done at (so_far.elaborated defined knows) in
+        let names : field_names (fields_from (plain_attributes items)) ≡ map string_bytes (keys_of all) =
+        MembersElaborateTo-names defined plain elaborated
+        ∙ (map-map (λ item. item.0) (λ entry. (string_bytes entry.0, flag_and_expr N refer entry.1)) all
+        ∙ sym (map-map string_bytes (λ entry. entry.0) all)) in
+        let in_order : IsSortedByName (fields_from (plain_attributes items)) =
+        rw names (IsStrictlySortedBy-map string_cmp text_cmp string_bytes (λ a b. refl) _ ordered) in
+        rw (record_type_expr-entries N refer it)
+        (as_record (rw (← fields_from-HoldsLast (plain_attributes items) fields in_order sorted_by_name holds) at elaborated))
+
+    -- a record type without additional attributes whose attributes are closed is closed
+    pub record_closed : (out-RecordType N it).additional_attributes ≡ false → ¬ HasOpenRecord (record_type_expr N refer it)
+    record_closed listed holds = elim (rw (record_type_expr-entries N refer it) at holds) [
+      | inl additional ↦ false≢true (sym listed ∙ additional)
+      | inr there ↦ rw ElaboratedSoFar-done at so_far.closed there
+    ]
+
+    -- the extension types of a record type are those of its attributes
+    pub record_extensions : CoversExtensions scope (record_type_expr N refer it)
+    record_extensions word mentions =
+        (rw ElaboratedSoFar-done at (so_far.extensions word))
+        (rw (record_type_expr-entries N refer it) at mentions)
+
+  -- a record type with additional attributes is refused
+  pub record_open : (scope : TypeScope) (it : RecordType N) → (out-RecordType N it).additional_attributes ≡ true
+      → IsRefusal scope (record_type_expr N refer it) open_record
+  record_open scope it additional = record { each = λ defined knows. rw (record_type_expr-entries N refer it) (inl additional) }

@@ -1,8 +1,10 @@
 -- References to what is known.
-use Rattle.std.proofs.Common.{◌≡◌, ◌⊎◌, List, [], ◌∷◌, map, subst, refl, inl, inr, Contains, arith, Result, Ok, Err, IfOk, OnOk}
-use Rattle.cedar_below.proofs.Lists.{Contains-cons, Contains-cons_cases, Contains-preimage}
-use Rattle.cedar_elaboration.specs.Words.{Covers, Defined, ElaboratesAs, ElaboratesTo, Expr, Fault, Fields, IsCommon, IsEntity, IsExprFault, IsRefusal, IsReserved, IsReservedEntity, IsUnresolved, MayNameCommon, MayNameEntity, Members, MembersElaborateTo, MembersRefer, PlainName, Reference, ReferenceType, Refers, ResolvesEach, ResolvesTo, Text, Ty, TypeScope, as_common, as_entity, as_extension, as_member, as_no_member, as_record, as_set, elaborated_types, extension_expr, extension_name, extension_of, extensions_in_scope, named, names_of, out_of_memory, reference_to_one, reserved_name, set_expr, set_names, set_of, ty_of, type_not_defined, union_of, unknown_extension_type}
-use Rattle.cedar_declarations.proofs.OccurrenceLemmas.{Contains-image, Contains-single}
+use Rattle.std.proofs.Common.{◌≡◌, ◌⊎◌, List, [], ◌∷◌, map, subst, refl, inl, inr, Contains, Result, Ok, Err, IfErr, IfOk, OnOk}
+use Rattle.cedar_below.proofs.Lists.{Contains-preimage}
+use Rattle.cedar_elaboration.specs.Words.{Covers, CoversExtensions, Defined, ElaboratesAs, ElaboratesTo, Expr, Fault, Fields, HoldsJust, IsCommon, IsDefined, IsEntity, IsExprFault, IsRefusal, IsReserved, IsReservedEntity, IsUnresolved, MayNameCommon, Members, MembersElaborateTo, MembersRefer, Names, PlainName, Reference, Refers, ResolvesEach, ResolvesTo, Text, Ty, TypeScope, as_common, as_entity, as_extension, as_member, as_no_member, as_record, as_set, elaborated_types, extension_expr, extension_name, extension_of, extensions_in_scope, fault_of, held_names, named, names_of, out_of_memory, reserved_name, set_expr, set_of, ty_of, type_not_defined, union_of, unknown_extension_type}
+use Rattle.cedar_declarations.proofs.OccurrenceLemmas.{Contains-single}
+use Rattle.cedar_declarations.proofs.ResolutionLemmas.{IsFirst-like, first_defined}
+use Rattle.cedar_declarations.specs.declared.schema_error.SchemaError.{SchemaError}
 use Rattle.cedar_types.specs.declared.types.Type.{«Type»}
 
 -- what is known for an expression is known for its parts
@@ -10,80 +12,109 @@ pub Covers-part : (defined : Defined) (scope : TypeScope) (whole part : Expr)
     → ((reference : Reference) → Refers part reference → Refers whole reference)
     → Covers defined scope whole → Covers defined scope part
 Covers-part defined scope whole part refers knows = record {
-  entities = knows.entities;
+  names = knows.names;
   elaborated = knows.elaborated;
   referred = λ reference in_part. knows.referred reference (refers reference in_part);
 }
 
-module _ (defined : Defined) (scope : TypeScope) (kind : ReferenceType) (name : PlainName)
-    (knows : Covers defined scope (named (reference_to_one kind name))) where
+-- names that are just others resolve a reference alike
+pub same_resolves : (held names : Names) → HoldsJust held names → (reference : Reference) (name : PlainName)
+    → ResolvesTo held reference name → ResolvesTo names reference name
+same_resolves held names just reference name =
+    IsFirst-like (IsDefined held reference.kind) (IsDefined names reference.kind)
+    (λ each. elim [
+      | inl common ↦ inl (common.0, (just.common each).0 common.1)
+      | inr entity ↦ inr (entity.0, (just.entities each).0 entity.1)
+    ])
+    (λ each. elim [
+      | inl common ↦ inl (common.0, (just.common each).1 common.1)
+      | inr entity ↦ inr (entity.0, (just.entities each).1 entity.1)
+    ])
+    reference.possibilities name
+
+module _ (defined : Defined) (scope : TypeScope) (reference : Reference) (knows : Covers defined scope (named reference)) where
+  -- a reference resolves over what is defined as over the names that are in scope
+  resolves : (name : PlainName) → ResolvesTo (held_names scope.defs.now) reference name → ResolvesTo (names_of defined) reference name
+  resolves name = same_resolves (held_names scope.defs.now) (names_of defined) knows.names reference name
+
   -- a reference to a common type is elaborated as what stands under the name
-  pub common_elaborated : (ty : Ty) → MayNameCommon kind → Contains (elaborated_types scope.common.now) (name, ty)
-      → ElaboratesTo defined (named (reference_to_one kind name)) ty
-  common_elaborated ty may among =
+  pub common_elaborated : (name : PlainName) (ty : Ty) → ResolvesTo (held_names scope.defs.now) reference name
+      → MayNameCommon reference.kind → Contains (elaborated_types scope.common.now) (name, ty)
+      → ElaboratesTo defined (named reference) ty
+  common_elaborated name ty resolved may among =
       let it = knows.elaborated name ty among in
-      as_common (reference_to_one kind name) name it.0
-      (inl (refl, inl (may, Contains-image (λ each. each.0) defined.common (name, it.0) it.1))) (may, it.1) it.2
+      as_common reference name it.0 (resolves name resolved) (may, it.1) it.2
 
-  -- where nothing stands under the name, it is that of no common type which the position permits
-  pub no_common : (MayNameCommon kind → ¬ Contains (map (λ it. it.0) (elaborated_types scope.common.now)) name)
-      → (body : Expr) → ¬ IsCommon defined kind name body
-  no_common absent body is_common =
-      absent is_common.0
-      (knows.referred (reference_to_one kind name) refl name body (Contains-cons name [] name (inl refl)) is_common)
+  module _ (name : PlainName) (resolved : ResolvesTo (held_names scope.defs.now) reference name)
+      (absent : MayNameCommon reference.kind → ¬ Contains (map (λ it. it.0) (elaborated_types scope.common.now)) name) where
+    -- where nothing stands under the name, it is that of no common type which the position permits
+    pub no_common : (body : Expr) → ¬ IsCommon defined reference.kind name body
+    no_common body is_common =
+        absent is_common.0 (knows.referred reference refl name body (resolves name resolved) is_common)
 
-  -- a reference to an entity type alone is elaborated as the type of its entities
-  pub entity_elaborated : (MayNameCommon kind → ¬ Contains (map (λ it. it.0) (elaborated_types scope.common.now)) name)
-      → MayNameEntity kind → Contains (set_names scope.entities.now) name
-      → ElaboratesTo defined (named (reference_to_one kind name)) (union_of (name ∷ []))
-  entity_elaborated absent may among =
-      let is_entity : IsEntity (names_of defined) kind name = (may, (knows.entities name).1 among) in
-      as_entity (reference_to_one kind name) name (inl (refl, inr is_entity)) is_entity (no_common absent)
+    -- so it is that of an entity type
+    pub is_entity : IsEntity (names_of defined) reference.kind name
+    is_entity = elim (first_defined (names_of defined) reference.kind reference.possibilities name (resolves name resolved)).1 [
+      | inl common ↦
+          let it = Contains-preimage (λ each. each.0) defined.common name common.1 in
+          let Defines : PlainName → Type 0 = λ each. Contains defined.common (each, it.0.1) in
+          absurd (no_common it.0.1 (common.0, subst Defines it.2 it.1))
+      | inr entity ↦ entity
+    ]
 
-  -- a reference to an entity type alone that is reserved
-  pub reserved_entity : (MayNameCommon kind → ¬ Contains (map (λ it. it.0) (elaborated_types scope.common.now)) name)
-      → MayNameEntity kind → Contains (set_names scope.entities.now) name → IsReserved name
-      → IsReservedEntity defined (reference_to_one kind name) name
-  reserved_entity absent may among reserved =
-      let entity : IsEntity (names_of defined) kind name = (may, (knows.entities name).1 among) in
-      record { resolves = inl (refl, inr entity); is_entity = entity; no_common = no_common absent; reserved = reserved }
+    -- and is elaborated as the type of its entities
+    pub entity_elaborated : ElaboratesTo defined (named reference) (union_of (name ∷ []))
+    entity_elaborated = as_entity reference name (resolves name resolved) is_entity no_common
 
-  -- a reference to neither resolves to nothing
-  pub unresolved : (MayNameCommon kind → ¬ Contains (map (λ it. it.0) (elaborated_types scope.common.now)) name)
-      → (MayNameEntity kind → ¬ Contains (set_names scope.entities.now) name)
-      → IsUnresolved (names_of defined) (reference_to_one kind name)
-  unresolved absent no_entity other among is_defined =
-      let same : name ≡ other = elim (Contains-cons_cases name [] other among) [ inl here ↦ here | inr none ↦ absurd (omega (arith, none.1)) ] in
-      elim (rw (← same) at is_defined) [
-        | inl common ↦
-            let it = Contains-preimage (λ each. each.0) defined.common name common.1 in
-            let Defines : PlainName → Type 0 = λ each. Contains defined.common (each, it.0.1) in
-            no_common absent it.0.1 (common.0, subst Defines it.2 it.1)
-        | inr entity ↦ no_entity entity.0 ((knows.entities name).0 entity.1)
-      ]
-
-  -- the refusal of a reserved entity type is that of the reference to it
-  pub fault_of_entity : (MayNameCommon kind → ¬ Contains (map (λ it. it.0) (elaborated_types scope.common.now)) name)
-      → (fault : Fault)
-      → (fault ≡ out_of_memory) ⊎ ((fault ≡ reserved_name name) × MayNameEntity kind
-      × Contains (set_names scope.entities.now) name × IsReserved name)
-      → IsExprFault defined (extensions_in_scope scope) (named (reference_to_one kind name)) fault
-  fault_of_entity absent fault at_fault = elim at_fault [
-    | inl wanting ↦ rw wanting tt
-    | inr it ↦ rw it.0 (reference_to_one kind name, refl, reserved_entity absent it.1 it.2 it.3)
-  ]
+    -- the refusal of a reserved entity type is that of the reference to it
+    pub fault_of_entity : (fault : Fault) → (fault ≡ out_of_memory) ⊎ ((fault ≡ reserved_name name) × IsReserved name)
+        → IsExprFault defined (extensions_in_scope scope) (named reference) fault
+    fault_of_entity fault at_fault = elim at_fault [
+      | inl wanting ↦ rw wanting tt
+      | inr it ↦
+          let reserved : IsReservedEntity defined reference name = record {
+            resolves = resolves name resolved;
+            is_entity = is_entity;
+            no_common = no_common;
+            reserved = it.1;
+          } in
+          rw it.0 (reference, refl, reserved)
+    ]
 
   -- the refusal of a reference that resolves to nothing
-  pub fault_of_reference : (MayNameCommon kind → ¬ Contains (map (λ it. it.0) (elaborated_types scope.common.now)) name)
-      → (MayNameEntity kind → ¬ Contains (set_names scope.entities.now) name)
-      → (fault : Fault) → fault ≡ type_not_defined (reference_to_one kind name ∷ [])
-      → IsExprFault defined (extensions_in_scope scope) (named (reference_to_one kind name)) fault
-  fault_of_reference absent no_entity fault is =
+  pub fault_of_reference : IsUnresolved (held_names scope.defs.now) reference
+      → (fault : Fault) → fault ≡ type_not_defined (reference ∷ [])
+      → IsExprFault defined (extensions_in_scope scope) (named reference) fault
+  fault_of_reference nothing fault is =
       rw is (
         λ same. cc,
-        λ reference among. let here = Contains-single (reference_to_one kind name) reference among in
-            (here, rw (← here) (unresolved absent no_entity)),
+        λ other among. let here = Contains-single reference other among in (here, rw (← here) unresolved),
       )
+    where
+      unresolved : IsUnresolved (names_of defined) reference
+      unresolved name among is_defined = nothing name among (elim is_defined [
+        | inl common ↦ inl (common.0, (knows.names.common name).1 common.1)
+        | inr entity ↦ inr (entity.0, (knows.names.entities name).1 entity.1)
+      ])
+
+-- of a reference that resolves to a name under which no common type stands
+module _ (scope : TypeScope) (reference : Reference) (name : PlainName)
+    (resolved : ResolvesTo (held_names scope.defs.now) reference name)
+    (absent : MayNameCommon reference.kind → ¬ Contains (map (λ it. it.0) (elaborated_types scope.common.now)) name) where
+  -- an answer that gives the type of its entities elaborates it
+  pub entity_answers : {E : Type 0} (answer : Result «Type» E) → IfOk answer (λ ty. ty_of ty ≡ union_of (name ∷ []))
+      → IfOk answer (λ elaborated. ElaboratesAs scope (named reference) (ty_of elaborated))
+  entity_answers (Ok ty) is = λ defined knows. rw is (entity_elaborated defined scope reference knows name resolved absent)
+  entity_answers (Err error) is = tt
+
+  -- one that refuses it as reserved refuses the reference
+  pub entity_refuses : {X : Type 0} (answer : Result X SchemaError)
+      → IfErr answer (λ error. (fault_of error ≡ out_of_memory) ⊎ ((fault_of error ≡ reserved_name name) × IsReserved name))
+      → IfErr answer (λ error. IsRefusal scope (named reference) (fault_of error))
+  entity_refuses (Ok it) at_fault = tt
+  entity_refuses (Err error) at_fault = record {
+    each = λ defined knows. fault_of_entity defined scope reference knows name resolved absent (fault_of error) at_fault;
+  }
 
 -- the name without a path and with the base name is that of the extension type
 pub extension_name-same : (name : PlainName) (word : Text) → name.base ≡ word → name.path ≡ [] → name ≡ extension_name word
@@ -160,3 +191,15 @@ pub extension_elaborated : (scope : TypeScope) (expr : Expr) (word : Text) {E : 
     → IfOk result (λ elaborated. ElaboratesAs scope expr (ty_of elaborated))
 extension_elaborated scope expr word (Ok elaborated) same is_extension = λ defined knows. ElaboratesTo-as defined same is_extension (as_extension word)
 extension_elaborated scope expr word (Err error) same is_extension = tt
+
+-- an expression that is another is elaborated, over a scope, as what the other is
+pub elaborates_as : (scope : TypeScope) {expr other : Expr} (ty : Ty) → expr ≡ other → ElaboratesAs scope other ty → ElaboratesAs scope expr ty
+elaborates_as scope ty same elaborated = rw same elaborated
+
+-- its extension types are known where those of the other are
+pub extensions_as : (scope : TypeScope) {expr other : Expr} → expr ≡ other → CoversExtensions scope other → CoversExtensions scope expr
+extensions_as scope same known = rw same known
+
+-- where memory runs out, whatever is elaborated is refused
+pub memory_refused : (scope : TypeScope) (expr : Expr) → IsRefusal scope expr out_of_memory
+memory_refused scope expr = record { each = λ defined knows. tt }

@@ -1,25 +1,23 @@
 -- Types that are declared, of a bag, and what its common types are elaborated as.
 use Rattle.std.specs.Prelude.{◌≡◌, List, ◌++◌, map, Contains}
-use Rattle.std.specs.BTreeSet.{BTreeSet}
-use Rattle.cedar_below.specs.Words.{IsReserved, PlainName, SameItems, TypeNamesFit, extension_types}
+use Rattle.cedar_below.specs.Words.{IsReserved, PlainName, TypeNamesFit, extension_types}
 use Rattle.cedar_below.specs.declared.extension.Extensions.{Extensions}
-use Rattle.cedar_below.specs.declared.internal_name.InternalName.{InternalName}
-use Rattle.cedar_declarations.specs.Bag.{Bag, declared_common, aliases, built_ins, definitions}
+use Rattle.cedar_declarations.specs.Bag.{Bag, declared_common, defined_names, aliases, built_ins, definitions}
+use Rattle.cedar_declarations.specs.Names.{Names}
+use Rattle.cedar_fragments.specs.Words.{HoldsJust}
 use Rattle.cedar_names.specs.Expr.{Expr}
-use Rattle.cedar_names.specs.declared.json_schema.type_of.Type.{«Type»}
 use Rattle.cedar_type_rules.specs.Ty.{Ty}
-use Rattle.cedar_elaboration.specs.Scope.{HoldsElaborated, set_names}
-use Rattle.cedar_resolution.specs.Collected.{collected_common}
+use Rattle.cedar_elaboration.specs.Scope.{HoldsElaborated}
 
--- the common types are those that the bag declares, over full names, and then the built-in ones and
--- its aliases; the names are those of the entity types that it defines, none of them reserved; and
--- names of extension types fit
+-- the common types are those that the bag declares, and then the built-in ones and its aliases; the
+-- names are those of what it defines, and no entity type among them is reserved; and names of
+-- extension types fit
 pub record AreTypesOf (bag : Bag) (extensions : Extensions)
-    (common_types built_in_types : List (InternalName × «Type» InternalName))
-    (entity_names : BTreeSet InternalName) : Type 0 where
-  pub common : collected_common common_types ≡ declared_common bag
-  pub built_in : collected_common built_in_types ≡ built_ins extensions ++ aliases bag extensions
-  pub names : SameItems (definitions bag extensions).entities (set_names entity_names)
+    (common_types built_in_types : List (PlainName × Expr))
+    (names : Names) : Type 0 where
+  pub common : common_types ≡ declared_common bag
+  pub built_in : built_in_types ≡ built_ins extensions ++ aliases bag extensions
+  pub held : HoldsJust names (defined_names bag extensions)
   pub unreserved : (name : PlainName) → Contains (definitions bag extensions).entities name
       → ¬ IsReserved name
   pub fit : TypeNamesFit (extension_types extensions)

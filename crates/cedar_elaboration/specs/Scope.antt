@@ -1,10 +1,10 @@
 -- What is in scope as types are elaborated.
 use Rattle.std.specs.Prelude.{List, [], Contains, map}
 use Rattle.std.specs.BTreeMap.{BTreeMap}
-use Rattle.std.specs.BTreeSet.{BTreeSet}
-use Rattle.cedar_below.specs.Words.{PlainName, SameItems, Text, extension_types, name_of}
+use Rattle.cedar_below.specs.Words.{PlainName, Text, extension_types, name_of}
 use Rattle.cedar_below.specs.declared.internal_name.InternalName.{InternalName}
 use Rattle.cedar_declarations.specs.Words.{Defined, ElaboratesTo, IsCommon, MentionsExtension, Refers, ResolvesTo, names_of}
+use Rattle.cedar_fragments.specs.Words.{HoldsJust, held_names}
 use Rattle.cedar_names.specs.Words.{Expr, Reference}
 use Rattle.cedar_type_rules.specs.Ty.{Ty}
 use Rattle.cedar_types.specs.Meaning.{ty_of}
@@ -14,10 +14,6 @@ use Rattle.cedar_elaboration.specs.declared.type_scope.TypeScope.{TypeScope}
 -- the types of a map, each with the name that it stands under
 abbrev pub elaborated_types : BTreeMap InternalName «Type» → List (PlainName × Ty)
 elaborated_types types = map (λ entry. (name_of entry.0, ty_of entry.1)) types.entries
-
--- the names of a set
-abbrev pub set_names : BTreeSet InternalName → List PlainName
-set_names names = map name_of names.keys
 
 -- the name of the extension type of a base name
 abbrev pub extension_name : Text → PlainName
@@ -29,17 +25,17 @@ HoldsElaborated defined types =
     (name : PlainName) (ty : Ty) → Contains types (name, ty)
     → (body : Expr) × Contains defined.common (name, body) × ElaboratesTo defined body ty
 
--- each common type that the expression may name stands in the map
+-- each common type that the expression names stands in the map
 abbrev pub HoldsReferred : Defined → List (PlainName × Ty) → Expr → Type 0
 HoldsReferred defined types expr =
     (reference : Reference) → Refers expr reference → (name : PlainName) (body : Expr)
-    → Contains reference.possibilities name → IsCommon defined reference.kind name body
+    → ResolvesTo (names_of defined) reference name → IsCommon defined reference.kind name body
     → Contains (map (λ it. it.0) types) name
 
--- of what is defined enough is known for the expression: the entity types, and each common type
--- that it may name with what this is elaborated as
+-- of what is defined enough is known for the expression: the names, and each common type that it
+-- names with what this is elaborated as
 pub record Covers (defined : Defined) (scope : TypeScope) (expr : Expr) : Type 0 where
-  pub entities : SameItems defined.entities (set_names scope.entities.now)
+  pub names : HoldsJust (held_names scope.defs.now) (names_of defined)
   pub elaborated : HoldsElaborated defined (elaborated_types scope.common.now)
   pub referred : HoldsReferred defined (elaborated_types scope.common.now) expr
 

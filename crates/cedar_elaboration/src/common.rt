@@ -1,7 +1,7 @@
 //! Common types, each elaborated once.
 
 ghost use Rattle.std.specs.Prelude.{Contains, IfErr, IfOk, OnOk, map};
-ghost use Rattle.cedar_elaboration.specs.Words.{AreSound, Chain, ElaboratesTo, Expr, HoldsElaborated, Included, IsCommonFault, IsElaborationOrder, PlainName, RefersToCommon, SameItems, Twice, Ty, collected_common, defined_by, elaborated_types, extension_types, fault_of, item_names};
+ghost use Rattle.cedar_elaboration.specs.Words.{AreSound, Chain, ElaboratesTo, Expr, HoldsElaborated, Included, IsCommonFault, IsElaborationOrder, NamesItems, PlainName, RefersToCommon, SameItems, Twice, Ty, defined_over, elaborated_types, extension_types, fault_of, held_names, item_names, written_common};
 
 use crate::elaborating::elaborate;
 use crate::indices::CommonType;
@@ -9,40 +9,47 @@ use crate::ordering::elaboration_order;
 use crate::type_scope::TypeScope;
 use cedar_below::{Extensions, InternalName, put};
 use cedar_declarations::SchemaError;
-use cedar_names::json_schema;
+use cedar_fragments::defs::{AllDefs, WrittenName};
 use cedar_types::Type;
 use std::alloc::Global;
-use std::collections::{BTreeMap, BTreeSet};
+use std::collections::BTreeMap;
 
 /// The common types elaborated in an order in which each comes after those that it refers to.
-fn elaborate_in_order(
+fn elaborate_in_order<N: WrittenName>(
     alloc: Global,
-    declared: &[CommonType],
+    declared: &[CommonType<N>],
     order: &[usize],
-    entities: &BTreeSet<InternalName>,
+    defs: &AllDefs,
     extensions: &Extensions,
 ) -> Result<BTreeMap<InternalName, Type>, SchemaError>
-    requires { IsElaborationOrder (collected_common declared.now) order.now }
-    ensures holds { IfOk result (λ types.
-        HoldsElaborated (defined_by declared.now entities.now) (elaborated_types types)) }
-    ensures each { IfOk result (λ types.
-        Included (item_names (collected_common declared.now))
+    requires { IsElaborationOrder (held_names defs.now)
+        (written_common N N.refer declared.now) order.now }
+    ensures holds { IfOk result (λ types. NamesItems (held_names defs.now)
+        (written_common N N.refer declared.now)
+        → HoldsElaborated (defined_over (written_common N N.refer declared.now)
+        (held_names defs.now)) (elaborated_types types)) }
+    ensures each { IfOk result (λ types. NamesItems (held_names defs.now)
+        (written_common N N.refer declared.now)
+        → Included (item_names (written_common N N.refer declared.now))
         (map (λ it. it.0) (elaborated_types types))) }
-    ensures sound { OnOk result (AreSound (defined_by declared.now entities.now)
-        (extension_types extensions.now)) }
-    ensures fault { IfErr result (λ error.
-        IsCommonFault (defined_by declared.now entities.now) (extension_types extensions.now)
-        (fault_of error)) }
+    ensures sound { OnOk result (NamesItems (held_names defs.now)
+        (written_common N N.refer declared.now)
+        → AreSound (defined_over (written_common N N.refer declared.now)
+        (held_names defs.now)) (extension_types extensions.now)) }
+    ensures fault { IfErr result (λ error. NamesItems (held_names defs.now)
+        (written_common N N.refer declared.now)
+        → IsCommonFault (defined_over (written_common N N.refer declared.now)
+        (held_names defs.now)) (extension_types extensions.now) (fault_of error)) }
 {
     let mut common = BTreeMap::new(alloc);
     for item_index in order {
         let item = &declared[*item_index];
         let scope = TypeScope {
             common: &common,
-            entities,
+            defs,
             extensions,
         };
-        let ty = elaborate(alloc, &item.1, &scope)?;
+        let ty = elaborate(alloc, &item.1.declared, item.1.namespace(), &scope)?;
         put(&mut common, item.0.clone()?, ty)?;
     }
     Ok(common)
@@ -55,32 +62,43 @@ fn elaborate_in_order(
 /// attributes that it doesn't list, a name is neither that of a common type nor that of an entity
 /// type which its position permits, an extension type isn't known, an entity type's name is
 /// reserved, or memory runs out.
-pub fn common_types(
+pub fn common_types<N: WrittenName>(
     alloc: Global,
-    declared: &[(InternalName, json_schema::Type<InternalName>)],
-    entities: &BTreeSet<InternalName>,
+    declared: &[CommonType<N>],
+    defs: &AllDefs,
     extensions: &Extensions,
 ) -> Result<BTreeMap<InternalName, Type>, SchemaError>
-    ensures names { IfOk result (λ types.
-        SameItems (map (λ it. it.0) (elaborated_types types))
-        (item_names (collected_common declared.now))) }
-    ensures holds { IfOk result (λ types.
-        HoldsElaborated (defined_by declared.now entities.now) (elaborated_types types)) }
-    ensures elaborates { IfOk result (λ types.
-        (name : PlainName) (expr : Expr) → Contains (collected_common declared.now) (name, expr)
+    ensures names { IfOk result (λ types. NamesItems (held_names defs.now)
+        (written_common N N.refer declared.now)
+        → SameItems (map (λ it. it.0) (elaborated_types types))
+        (item_names (written_common N N.refer declared.now))) }
+    ensures holds { IfOk result (λ types. NamesItems (held_names defs.now)
+        (written_common N N.refer declared.now)
+        → HoldsElaborated (defined_over (written_common N N.refer declared.now)
+        (held_names defs.now)) (elaborated_types types)) }
+    ensures elaborates { IfOk result (λ types. NamesItems (held_names defs.now)
+        (written_common N N.refer declared.now)
+        → (name : PlainName) (expr : Expr)
+        → Contains (written_common N N.refer declared.now) (name, expr)
         → (ty : Ty) × Contains (elaborated_types types) (name, ty)
-        × ElaboratesTo (defined_by declared.now entities.now) expr ty) }
+        × ElaboratesTo (defined_over (written_common N N.refer declared.now)
+        (held_names defs.now)) expr ty) }
     ensures once { OnOk result ((name : PlainName)
-        → ¬ Twice (item_names (collected_common declared.now)) name) }
-    ensures no_cycle { OnOk result
-        ((name : PlainName) → ¬ Chain (RefersToCommon
-        (defined_by declared.now entities.now)) name name) }
-    ensures sound { OnOk result (AreSound (defined_by declared.now entities.now)
-        (extension_types extensions.now)) }
-    ensures fault { IfErr result (λ error.
-        IsCommonFault (defined_by declared.now entities.now) (extension_types extensions.now)
-        (fault_of error)) }
+        → ¬ Twice (item_names (written_common N N.refer declared.now)) name) }
+    ensures no_cycle { OnOk result (NamesItems (held_names defs.now)
+        (written_common N N.refer declared.now)
+        → (name : PlainName) → ¬ Chain (RefersToCommon
+        (defined_over (written_common N N.refer declared.now)
+        (held_names defs.now))) name name) }
+    ensures sound { OnOk result (NamesItems (held_names defs.now)
+        (written_common N N.refer declared.now)
+        → AreSound (defined_over (written_common N N.refer declared.now)
+        (held_names defs.now)) (extension_types extensions.now)) }
+    ensures fault { IfErr result (λ error. NamesItems (held_names defs.now)
+        (written_common N N.refer declared.now)
+        → IsCommonFault (defined_over (written_common N N.refer declared.now)
+        (held_names defs.now)) (extension_types extensions.now) (fault_of error)) }
 {
-    let order = elaboration_order(alloc, declared)?;
-    elaborate_in_order(alloc, declared, &order, entities, extensions)
+    let order = elaboration_order(alloc, declared, defs)?;
+    elaborate_in_order(alloc, declared, &order, defs, extensions)
 }

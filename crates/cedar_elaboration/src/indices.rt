@@ -1,29 +1,35 @@
 //! The indices of common types among those that are declared.
 
 ghost use Rattle.std.specs.Prelude.{◌≡◌, ◌⊎◌, IfErr, IfOk, OnOk};
-ghost use Rattle.cedar_elaboration.specs.Words.{AreIndices, PlainName, Twice, collected_common, duplicate_common_type, fault_of, indexed_names, item_names, out_of_memory};
+ghost use Rattle.cedar_elaboration.specs.Words.{AreIndices, PlainName, Twice, duplicate_common_type, fault_of, indexed_names, item_names, out_of_memory, written_common};
 
 use cedar_below::{InternalName, put};
 use cedar_declarations::SchemaError;
-use cedar_names::json_schema;
+use cedar_fragments::defs::WrittenName;
+use cedar_fragments::namespace::Written;
+use cedar_names::json_schema::Type;
 use std::alloc::Global;
 use std::collections::BTreeMap;
 
-/// A common type that is declared: its full name, and its type.
-pub(crate) type CommonType = (InternalName, json_schema::Type<InternalName>);
+/// A common type that is declared: its full name, and its type with the namespace that the names
+/// in it are written in.
+pub type CommonType<N> = (InternalName, Written<Type<N>>);
 
 /// The indices of common types, each under the full name.
 pub(crate) type Indices = BTreeMap<InternalName, usize>;
 
 /// The index of each common type. A name that stands twice is refused.
-pub(crate) fn name_indices(alloc: Global, declared: &[CommonType]) -> Result<Indices, SchemaError>
+pub(crate) fn name_indices<N: WrittenName>(
+    alloc: Global,
+    declared: &[CommonType<N>],
+) -> Result<Indices, SchemaError>
     ensures indices { IfOk result (λ indices.
-        AreIndices (item_names (collected_common declared.now)) (indexed_names indices)) }
+        AreIndices (item_names (written_common N N.refer declared.now)) (indexed_names indices)) }
     ensures once { OnOk result ((name : PlainName)
-        → ¬ Twice (item_names (collected_common declared.now)) name) }
+        → ¬ Twice (item_names (written_common N N.refer declared.now)) name) }
     ensures fault { IfErr result (λ error. (fault_of error ≡ out_of_memory)
         ⊎ ((name : PlainName) × (fault_of error ≡ duplicate_common_type name)
-        × Twice (item_names (collected_common declared.now)) name)) }
+        × Twice (item_names (written_common N N.refer declared.now)) name)) }
 {
     let mut indices = BTreeMap::new(alloc);
     for (item_index, item) in declared.iter().enumerate() {

@@ -1,4 +1,4 @@
-//! Types over full names, elaborated as types of the validator.
+//! Types that are written in namespaces, elaborated as types of the validator.
 //!
 //! [`elaborate`] takes one type, with what is in scope ([`TypeScope`]): a reference to a common
 //! type becomes what that one was elaborated as. [`common_types`] elaborates common types, each
@@ -8,7 +8,8 @@
 
 pub use common::common_types;
 pub use defined::defined_common_types;
-pub use elaborating::elaborate;
+pub use elaborating::{elaborate, undefined_type};
+pub use indices::CommonType;
 pub use type_scope::TypeScope;
 
 mod common;

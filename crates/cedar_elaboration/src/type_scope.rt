@@ -1,22 +1,23 @@
 //! What is in scope as types are elaborated.
 
 ghost use Rattle.std.specs.Prelude.{◌≡◌, ◌↔◌, ◌⊎◌, [], ◌∷◌, Contains, IfErr, IfOk, IsTrue, MatchOption, OnOk, map};
-ghost use Rattle.cedar_elaboration.specs.Words.{IsReserved, MayNameCommon, MayNameEntity, elaborated_types, extension_name, extension_of, extensions_in_scope, fault_of, name_of, out_of_memory, reserved_name, set_names, ty_of, union_of, unknown_extension_type, unreserved_id_text};
+ghost use Rattle.cedar_elaboration.specs.Words.{IsReserved, MayNameCommon, elaborated_types, extension_name, extension_of, extensions_in_scope, fault_of, name_of, out_of_memory, reserved_name, ty_of, union_of, unknown_extension_type, unreserved_id_text};
 
 use cedar_below::{EntityType, Extensions, InternalName, M, Name, UnreservedId};
 use cedar_declarations::SchemaError;
+use cedar_fragments::defs::AllDefs;
 use cedar_names::json_schema::ReferenceType;
 use cedar_types::Type;
 use std::alloc::Global;
-use std::collections::{BTreeMap, BTreeSet};
+use std::collections::BTreeMap;
 
 /// What is in scope as types are elaborated.
 #[derive(Clone, Copy)]
 pub struct TypeScope<'a> {
     /// The common types that are elaborated, each under its full name.
     pub common: &'a BTreeMap<InternalName, Type>,
-    /// The full names of the entity types.
-    pub entities: &'a BTreeSet<InternalName>,
+    /// The names that are defined.
+    pub defs: &'a AllDefs,
     /// The extension types that may be named.
     pub extensions: &'a Extensions,
 }
@@ -31,13 +32,15 @@ pub(crate) fn may_name_common(kind: ReferenceType) -> bool
     }
 }
 
-/// Whether a reference of the kind may name an entity type.
-fn may_name_entity(kind: ReferenceType) -> bool
-    ensures { IsTrue result ↔ MayNameEntity kind }
+/// The type of the entities of the entity type of a name, which must not be reserved.
+pub(crate) fn entity_reference(alloc: Global, name: InternalName) -> Result<Type, SchemaError>
+    ensures ty { IfOk result (λ ty. ty_of ty ≡ union_of (name_of name ∷ [])) }
+    ensures fault { IfErr result (λ error. (fault_of error ≡ out_of_memory)
+        ⊎ ((fault_of error ≡ reserved_name (name_of name)) × IsReserved (name_of name))) }
 {
-    match kind {
-        ReferenceType::Entity | ReferenceType::CommonOrEntity => true,
-        ReferenceType::Common => false,
+    match EntityType::from_internal(name) {
+        Ok(ty) => Ok(Type::named_entity_reference(alloc, ty)?),
+        Err(name) => Err(SchemaError::ReservedName(name)),
     }
 }
 
@@ -57,36 +60,6 @@ impl TypeScope<'_> {
         match self.common.get(name) {
             Some(ty) => Ok(Some(ty.clone()?)),
             None => Ok(None),
-        }
-    }
-
-    /// The type of the entities of an entity type of a name, if a reference of the kind may name
-    /// one and there is one. A reserved name is refused.
-    pub(crate) fn entity_type(
-        &self,
-        alloc: Global,
-        name: &InternalName,
-        kind: ReferenceType,
-    ) -> Result<Option<Type>, SchemaError>
-        ensures found { IfOk result (λ found. MatchOption found
-            (MayNameEntity kind → ¬ Contains (set_names self.now.entities.now) (name_of name.now))
-            (λ ty. MayNameEntity kind × Contains (set_names self.now.entities.now)
-            (name_of name.now)
-            × (ty_of ty ≡ union_of (name_of name.now ∷ [])))) }
-        ensures fault { IfErr result (λ error. (fault_of error ≡ out_of_memory)
-            ⊎ ((fault_of error ≡ reserved_name (name_of name.now)) × MayNameEntity kind
-            × Contains (set_names self.now.entities.now) (name_of name.now)
-            × IsReserved (name_of name.now))) }
-    {
-        if !may_name_entity(kind) {
-            return Ok(None);
-        }
-        if !self.entities.contains(name) {
-            return Ok(None);
-        }
-        match EntityType::from_internal(name.clone()?) {
-            Ok(ty) => Ok(Some(Type::named_entity_reference(alloc, ty)?)),
-            Err(name) => Err(SchemaError::ReservedName(name)),
         }
     }
 

@@ -1,9 +1,9 @@
 -- The names that fragments declare are those of their bag.
-use Rattle.std.proofs.Common.{◌≡◌, List, [], ◌∷◌, ◌++◌, map, ap, sym, ◌∙◌, refl}
+use Rattle.std.proofs.Common.{◌≡◌, List, [], ◌∷◌, ◌++◌, map, ap, sym, ◌∙◌, refl, Option}
 use Rattle.std.proofs.lemmas.Grind.{flat_map-append}
 use Rattle.std.proofs.lemmas.List.{map-append, append-nil}
 use Rattle.std.specs.List.{flat_map}
-use Rattle.cedar_fragments.specs.Words.{AreTheDeclaredNames, Bag, Body, Declaration, IsActionType, PlainName, PlainUid, Reference, ReferenceType, ValidatorNamespaceDef, ValidatorSchemaFragment, action, action_fragment_body, action_fragment_declaration, action_fragment_declarations, action_in, common_in, common_type, common_type_declaration, common_type_declarations, declared_action, declared_as, declared_name, declared_names, declared_uid, definition_declarations, definition_names, entity_in, entity_type, entity_type_declaration, entity_type_declarations, fragment_body, fragment_declarations, name_of, type_expr, type_name, uid_of}
+use Rattle.cedar_fragments.specs.Words.{AreTheDeclaredNames, Bag, Body, Declaration, IsActionType, PlainName, PlainUid, Reference, ReferenceType, ValidatorNamespaceDef, ValidatorSchemaFragment, action, action_fragment_body, action_fragment_declaration, action_fragment_declarations, action_in, common_in, common_type, common_type_declaration, common_type_declarations, declared_action, declared_as, declared_name, declared_names, declared_uid, definition_declarations, definition_names, definition_namespace, entity_in, entity_type, entity_type_declaration, entity_type_declarations, fragment_body, fragment_declarations, name_of, type_expr, type_name, uid_of, written_bag, written_definition}
 use Rattle.cedar_fragments.proofs.DeclaredAsLemmas.{path_within-namespace_of}
 
 -- what is declared under a name has that name
@@ -57,6 +57,41 @@ entity_name it = map (λ each. each.0) (entity_in (declared_name it) it.body)
 abbrev pub action_uid : Declaration → List PlainUid
 action_uid it = map (λ each. each.0) (action_in (declared_uid it) it.body)
 
+-- where it is given what a definition declares, which are the names that it declares itself
+module _ {N A : Type 0} (declare : ValidatorNamespaceDef N A → Bag)
+    (common : (it : ValidatorNamespaceDef N A) → flat_map common_name (declare it) ≡ (definition_names N A it).common)
+    (entities : (it : ValidatorNamespaceDef N A) → flat_map entity_name (declare it) ≡ (definition_names N A it).entities)
+    (actions : (it : ValidatorNamespaceDef N A) → flat_map action_uid (declare it) ≡ (definition_names N A it).actions) where
+  -- what a fragment declares
+  abbrev in_fragment : ValidatorSchemaFragment N A → Bag
+  in_fragment fragment = flat_map declare fragment.definitions.items
+
+  -- the names of a bag of fragments, read definition by definition
+  all_of : {P : Type 0} (read : Declaration → List P) (names : ValidatorNamespaceDef N A → List P)
+      → ((it : ValidatorNamespaceDef N A) → flat_map read (declare it) ≡ names it)
+      → (fragments : List (ValidatorSchemaFragment N A))
+      → flat_map read (flat_map in_fragment fragments)
+      ≡ flat_map (λ fragment. flat_map names fragment.definitions.items) fragments
+  all_of read names each fragments =
+      read_together read in_fragment fragments
+      ∙ same_together _ (λ fragment. flat_map names fragment.definitions.items)
+      (λ fragment. read_together read declare fragment.definitions.items
+      ∙ same_together _ names each fragment.definitions.items) fragments
+
+  -- the names that fragments declare are those of their bag
+  names_in_turn : (fragments : List (ValidatorSchemaFragment N A))
+      → AreTheDeclaredNames (declared_names N A fragments) (flat_map in_fragment fragments)
+  names_in_turn fragments =
+      let bag = flat_map in_fragment fragments in
+      record {
+        common = sym (keys_read (λ it. common_in (declared_name it) it.body) bag
+            ∙ all_of common_name (λ it. (definition_names N A it).common) common fragments);
+        entities = sym (keys_read (λ it. entity_in (declared_name it) it.body) bag
+            ∙ all_of entity_name (λ it. (definition_names N A it).entities) entities fragments);
+        actions = sym (keys_read (λ it. action_in (declared_uid it) it.body) bag
+            ∙ all_of action_uid (λ it. (definition_names N A it).actions) actions fragments);
+      }
+
 module _ (N : Type 0) (refer : ReferenceType → N → Reference) (A : Type 0) (refer_action : ReferenceType → A → Reference) where
   -- the names of common types of a definition
   common_of : (it : ValidatorNamespaceDef N A)
@@ -97,28 +132,15 @@ module _ (N : Type 0) (refer : ReferenceType → N → Reference) (A : Type 0) (
       (λ def. ap (λ uid. uid ∷ []) (uid_declared (uid_of def.uid) (action (action_fragment_body N refer A refer_action def.fragment)) def.is_action))
       it.actions.defs.items i)
 
-  -- the names of a bag of fragments, read definition by definition
-  all_of : {P : Type 0} (read : Declaration → List P) (names : ValidatorNamespaceDef N A → List P)
-      → ((it : ValidatorNamespaceDef N A) → flat_map read (definition_declarations N refer A refer_action it) ≡ names it)
-      → (fragments : List (ValidatorSchemaFragment N A))
-      → flat_map read (flat_map (fragment_declarations N refer A refer_action) fragments)
-      ≡ flat_map (λ fragment. flat_map names fragment.definitions.items) fragments
-  all_of read names each fragments =
-      read_together read (fragment_declarations N refer A refer_action) fragments
-      ∙ same_together _ (λ fragment. flat_map names fragment.definitions.items)
-      (λ fragment. read_together read (definition_declarations N refer A refer_action) fragment.definitions.items
-      ∙ same_together _ names each fragment.definitions.items) fragments
-
   -- the names that fragments declare are those of their bag
   pub names_are_declared : (fragments : List (ValidatorSchemaFragment N A))
       → AreTheDeclaredNames (declared_names N A fragments) (flat_map (fragment_declarations N refer A refer_action) fragments)
-  names_are_declared fragments =
-      let bag = flat_map (fragment_declarations N refer A refer_action) fragments in
-      record {
-        common = sym (keys_read (λ it. common_in (declared_name it) it.body) bag
-            ∙ all_of common_name (λ it. (definition_names N A it).common) common_of fragments);
-        entities = sym (keys_read (λ it. entity_in (declared_name it) it.body) bag
-            ∙ all_of entity_name (λ it. (definition_names N A it).entities) entities_of fragments);
-        actions = sym (keys_read (λ it. action_in (declared_uid it) it.body) bag
-            ∙ all_of action_uid (λ it. (definition_names N A it).actions) actions_of fragments);
-      }
+  names_are_declared = names_in_turn (definition_declarations N refer A refer_action) common_of entities_of actions_of
+
+-- so they are where they are written in the namespaces of their definitions
+pub written_names_are_declared : (N : Type 0) (refer : Option PlainName → ReferenceType → N → Reference)
+    (fragments : List (ValidatorSchemaFragment N N)) → AreTheDeclaredNames (declared_names N N fragments) (written_bag N refer fragments)
+written_names_are_declared N refer =
+    let here : ValidatorNamespaceDef N N → ReferenceType → N → Reference = λ it. refer (definition_namespace N N it) in
+    names_in_turn (written_definition N refer) (λ it. common_of N (here it) N (here it) it) (λ it. entities_of N (here it) N (here it) it)
+    (λ it. actions_of N (here it) N (here it) it)

@@ -5,7 +5,6 @@ pub mod DeclaredNames
 pub mod DeclaredParts
 pub mod FragmentLemmas
 pub mod FragmentsSoFar
-pub mod GivenNames
 pub mod ListedSoFar
 pub mod LocLemmas
 pub mod NamedOfDefinition
@@ -16,11 +15,9 @@ pub mod PlacedFragments
 pub mod QualifiedLemmas
 pub mod ResolveLemmas
 pub mod ResolvedBags
-pub mod ResolvedWithin
 pub mod SetLemmas
 pub mod ShadowLemmas
 pub mod SoundFragments
 pub mod SoundLemmas
-pub mod SoundNames
 pub mod UnresolvableLemmas
 pub mod WrittenNames

@@ -4,7 +4,7 @@ use Rattle.std.proofs.lemmas.List.Elements.{Contains-append_cases}
 use Rattle.std.specs.List.{flat_map}
 use Rattle.cedar_below.proofs.Lists.{Contains-preimage}
 use Rattle.cedar_declarations.proofs.OccurrenceLemmas.{Contains-flat_map}
-use Rattle.cedar_fragments.specs.Words.{ActionRequests, Declaration, Entity, EntityTypeFragment, IsEntityTypePosition, IsPrincipalOrResource, PositionsFit, Reference, ReferenceType, ValidatorNamespaceDef, ValidatorSchemaFragment, action_fragment_declaration, action_fragment_declarations, common_type_declaration, common_type_declarations, definition_declarations, entity_parents, entity_type_declaration, entity_type_declarations, fragment_body, fragment_declarations, fragment_requests}
+use Rattle.cedar_fragments.specs.Words.{ActionRequests, Declaration, Entity, EntityTypeFragment, IsEntityTypePosition, IsPrincipalOrResource, PlainName, PositionsFit, Reference, ReferenceType, ValidatorNamespaceDef, ValidatorSchemaFragment, action_fragment_declaration, action_fragment_declarations, common_type_declaration, common_type_declarations, definition_declarations, definition_namespace, entity_parents, entity_type_declaration, entity_type_declarations, fragment_body, fragment_declarations, fragment_requests, written_bag, written_definition, written_fragment}
 use Rattle.cedar_fragments.specs.declared.namespace.entity_types.EntityTypeFragment.TheVariants as variant
 
 -- where a name at the place of an entity type refers to one
@@ -60,3 +60,13 @@ module _ (N : Type 0) (refer : ReferenceType → N → Reference) (fits : (name 
         let fragment = Contains-flat_map (fragment_declarations N refer A refer_action) fragments placed.0 placed.1 in
         let definition = Contains-flat_map (definition_declarations N refer A refer_action) fragment.0.definitions.items placed.0 fragment.2 in
         definition_fits definition.0 placed.0 reference definition.2 placed.2
+
+-- so do those of fragments whose names are written in the namespaces of their definitions
+pub written_fit : (N : Type 0) (refer : Option PlainName → ReferenceType → N → Reference)
+    → ((namespace : Option PlainName) (name : N) → (refer namespace Entity name).kind ≡ Entity)
+    → (fragments : List (ValidatorSchemaFragment N N)) → PositionsFit (written_bag N refer fragments)
+written_fit N refer fits fragments reference placed =
+    let fragment = Contains-flat_map (written_fragment N refer) fragments placed.0 placed.1 in
+    let definition = Contains-flat_map (written_definition N refer) fragment.0.definitions.items placed.0 fragment.2 in
+    let namespace = definition_namespace N N definition.0 in
+    definition_fits N (refer namespace) (fits namespace) N (refer namespace) definition.0 placed.0 reference definition.2 placed.2

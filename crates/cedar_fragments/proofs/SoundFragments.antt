@@ -1,8 +1,8 @@
 -- What fragments declare gives no cause for the refusal of a definition.
-use Rattle.std.proofs.Common.{◌≡◌, ◌∙◌, List, [], ◌∷◌, map, sym, subst, refl, inr, Contains}
+use Rattle.std.proofs.Common.{Option, List, [], ◌∷◌, map, sym, subst, refl, inr, Contains}
 use Rattle.std.specs.List.{AllByRecursion, flat_map}
 use Rattle.cedar_below.proofs.ValueLemmas.{IsName-type_name}
-use Rattle.cedar_fragments.specs.Words.{ActionDef, Bag, Body, Declaration, EntityTypeDef, GivesNoCause, HasNoDefinitionFault, IsActionType, IsSound, Names, PlainName, PlainUid, Reference, ReferenceType, ResolvesBag, ResolvesBody, ValidatorNamespaceDef, ValidatorSchemaFragment, action, action_fragment_body, action_fragment_declaration, action_fragment_declarations, action_word, common_type, common_type_declaration, common_type_declarations, declared_name, declared_uid, definition_declarations, entity_type, entity_type_declaration, entity_type_declarations, fragment_body, fragment_declarations, name_within, reserved_word, type_name, uid_of}
+use Rattle.cedar_fragments.specs.Words.{ActionDef, EntityTypeDef, HasNoDefinitionFault, IsActionType, IsSound, PlainName, PlainUid, Reference, ReferenceType, ValidatorNamespaceDef, ValidatorSchemaFragment, action, action_fragment_body, action_fragment_declaration, action_fragment_declarations, common_type_declaration, common_type_declarations, definition_declarations, definition_namespace, entity_type, entity_type_declaration, entity_type_declarations, fragment_body, fragment_declarations, reserved_word, type_name, uid_of, written_bag, written_definition, written_fragment}
 use Rattle.cedar_fragments.proofs.DeclaredNames.{name_declared, uid_declared}
 use Rattle.cedar_fragments.proofs.FragmentLemmas.{flat_map-each}
 use Rattle.cedar_fragments.proofs.SoundLemmas.{AllByRecursion-append, sound_bag}
@@ -45,7 +45,7 @@ module _ (N : Type 0) (refer : ReferenceType → N → Reference) (A : Type 0) (
       (all_images IsSound (action_fragment_declaration N refer A refer_action) action_sound it.actions.defs.items)
 
   -- a fragment gives no cause
-  pub fragment_sound : (it : ValidatorSchemaFragment N A) → AllByRecursion IsSound (fragment_declarations N refer A refer_action it)
+  fragment_sound : (it : ValidatorSchemaFragment N A) → AllByRecursion IsSound (fragment_declarations N refer A refer_action it)
   fragment_sound it =
       flat_map-each (definition_declarations N refer A refer_action) IsSound it.definitions.items
       (all_images (AllByRecursion IsSound) (definition_declarations N refer A refer_action) definition_sound it.definitions.items)
@@ -62,26 +62,16 @@ module _ (N : Type 0) (refer : ReferenceType → N → Reference) (A : Type 0) (
       → HasNoDefinitionFault (flat_map (fragment_declarations N refer A refer_action) fragments)
   fragments_have_no_fault fragments = sound_bag _ (fragments_sound fragments)
 
-module _ (names : Names) where
-  -- a declaration gives no cause where what it is resolved to gives none
-  declaration_sound : (it other : Declaration) (body resolved : Body) → it.namespace ≡ other.namespace → it.id ≡ other.id
-      → ResolvesBody names body resolved → GivesNoCause other resolved → GivesNoCause it body
-  declaration_sound it other (common_type definition) (common_type resolved) namespace id resolves sound = tt
-  declaration_sound it other (entity_type body) (entity_type resolved) namespace id resolves sound =
-      let same : declared_name it ≡ declared_name other = (λ i. name_within (namespace i) (id i)) in
-      subst IsSoundName (sym same) sound
-  declaration_sound it other (action body) (action resolved) namespace id resolves sound =
-      let same : declared_uid it ≡ declared_uid other =
-      (λ i. record { ty = name_within (namespace i) action_word; eid = id i }) in
-      (resolves.0 ∙ sound.0, subst IsSoundUid (sym same) sound.1)
-  declaration_sound it other _ _ namespace id resolves sound = absurd resolves
+module _ (N : Type 0) (refer : Option PlainName → ReferenceType → N → Reference) where
+  -- a fragment whose names are written in the namespaces of its definitions gives no cause
+  written_sound : (it : ValidatorSchemaFragment N N) → AllByRecursion IsSound (written_fragment N refer it)
+  written_sound it =
+      flat_map-each (written_definition N refer) IsSound it.definitions.items
+      (all_images (AllByRecursion IsSound) (written_definition N refer)
+      (λ def. let within = refer (definition_namespace N N def) in definition_sound N within N within def) it.definitions.items)
 
-  -- so a bag gives none where the one that it is resolved to gives none
-  pub resolved_sound : (bag resolved : Bag) → ResolvesBag names bag resolved → AllByRecursion IsSound resolved
-      → AllByRecursion IsSound bag
-  resolved_sound [] [] turn sound = tt
-  resolved_sound (it ∷ bag) (other ∷ others) turn sound = (
-    declaration_sound it other it.body other.body turn.0.namespace turn.0.id turn.0.body sound.0,
-    resolved_sound bag others turn.1 sound.1,
-  )
-  resolved_sound _ _ turn sound = absurd turn
+  -- so the bag of some such fragments has none of the faults of definitions
+  pub written_have_no_fault : (fragments : List (ValidatorSchemaFragment N N)) → HasNoDefinitionFault (written_bag N refer fragments)
+  written_have_no_fault fragments =
+      sound_bag _ (flat_map-each (written_fragment N refer) IsSound fragments
+      (all_images (AllByRecursion IsSound) (written_fragment N refer) written_sound fragments))

@@ -1,12 +1,13 @@
 use Rattle.std.specs.Prelude.{List, map, Option}
 use Rattle.std.specs.Option.{option_map}
 use Rattle.cedar_below.specs.Name.{plain_name}
+use Rattle.cedar_below.specs.PlainName.{PlainName}
 use Rattle.cedar_below.specs.declared.entity_type.EntityType.{EntityType}
 use Rattle.cedar_below.specs.declared.internal_name.InternalName.{InternalName}
 use Rattle.cedar_below.specs.declared.loc.Loc.{Loc}
 use Rattle.cedar_below.specs.declared.name.Name.{Name}
 use Rattle.cedar_declarations.specs.Words.{Bag, resolved_reference}
-use Rattle.cedar_fragments.specs.FragmentDeclarations.{definition_declarations, resolved_action_type}
+use Rattle.cedar_fragments.specs.FragmentDeclarations.{definition_declarations, resolved_action_type, written_definition}
 use Rattle.cedar_fragments.specs.FragmentLocs.{definition_locs, no_locs}
 use Rattle.cedar_fragments.specs.Located.{LocatedName, definition_loc, definition_name, fragment_definitions, located_plain_name}
 use Rattle.cedar_fragments.specs.declared.namespace.definition.ValidatorNamespaceDef.{ValidatorNamespaceDef}
@@ -23,6 +24,12 @@ abbrev pub declarations_pairwise : (N : Type 0) (refer : ReferenceType → N →
     (refer_action : ReferenceType → A → Reference) → ValidatorSchemaFragment N A → List Bag
 declarations_pairwise N refer A refer_action it =
     map (definition_declarations N refer A refer_action) (fragment_definitions N A it)
+
+-- the same of a fragment whose names are written in the namespaces of their definitions
+abbrev pub written_pairwise : (N : Type 0)
+    (refer : Option PlainName → ReferenceType → N → Reference) → ValidatorSchemaFragment N N
+    → List Bag
+written_pairwise N refer it = map (written_definition N refer) (fragment_definitions N N it)
 
 -- the same of a fragment over conditional names
 abbrev pub conditional_pairwise : ValidatorSchemaFragment ConditionalName ConditionalName → List Bag

@@ -32,6 +32,22 @@ module _ (N : Type 0) (refer : ReferenceType → N → Reference) (A : Type 0)
 abbrev pub definition_namespace : (N A : Type 0) → ValidatorNamespaceDef N A → Option PlainName
 definition_namespace N A it = option_map name_of it.namespace
 
+-- over names of some form, where it is given what a name refers to that is written in a namespace
+module _ (N : Type 0) (refer : Option PlainName → ReferenceType → N → Reference) where
+  -- the declarations of a definition, whose names are written in its own namespace
+  abbrev pub written_definition : ValidatorNamespaceDef N N → Bag
+  written_definition it =
+      definition_declarations N (refer (definition_namespace N N it)) N
+      (refer (definition_namespace N N it)) it
+
+  -- the declarations of a fragment: those of its definitions in turn
+  abbrev pub written_fragment : ValidatorSchemaFragment N N → Bag
+  written_fragment it = flat_map written_definition it.definitions.items
+
+  -- the bag of declarations of some fragments
+  abbrev pub written_bag : List (ValidatorSchemaFragment N N) → Bag
+  written_bag fragments = flat_map written_fragment fragments
+
 -- the declarations of a definition over conditional names
 abbrev pub conditional_definition : ValidatorNamespaceDef ConditionalName ConditionalName → Bag
 conditional_definition =

@@ -3,7 +3,7 @@ use Rattle.std.specs.List.{flat_map}
 use Rattle.cedar_below.specs.Words.{PlainName, PlainUid, SameItems, name_of, type_name, uid_of}
 use Rattle.cedar_declarations.specs.Words.{Bag, Names, action_uids, declared_common, declared_entities}
 use Rattle.cedar_fragments.specs.declared.defs.all_defs.AllDefs.{AllDefs}
-use Rattle.cedar_fragments.specs.declared.defs.written.NameLists.{NameLists}
+use Rattle.cedar_fragments.specs.declared.defs.name_lists.NameLists.{NameLists}
 use Rattle.cedar_fragments.specs.declared.namespace.actions.ActionsDef.{ActionsDef}
 use Rattle.cedar_fragments.specs.declared.namespace.common_types.CommonTypeDefs.{CommonTypeDefs}
 use Rattle.cedar_fragments.specs.declared.namespace.entity_types.EntityTypesDef.{EntityTypesDef}

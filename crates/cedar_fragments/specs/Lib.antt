@@ -16,3 +16,4 @@ pub mod ShadowedNames
 pub mod TypeDeclarations
 pub mod WithAttributes
 pub mod Words
+pub mod WrittenDeclarations

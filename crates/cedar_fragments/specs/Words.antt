@@ -22,13 +22,13 @@ pub use Rattle.cedar_names.specs.declared.json_schema.type_of.RecordType.{Record
 pub use Rattle.cedar_names.specs.declared.json_schema.type_of.Type.{CommonTypeRef, Plain, «Type», the_lemmas}
 pub use Rattle.cedar_names.specs.declared.json_schema.type_of.TypeOfAttribute.{TypeOfAttribute, fold_out-TypeOfAttribute, out-TypeOfAttribute}
 pub use Rattle.cedar_names.specs.declared.json_schema.type_of.TypeVariant.{Boolean, EntityOrCommon, Extension, Long, Record, Set, TypeVariant}
-pub use Rattle.cedar_declarations.specs.Words.{Bag, Fault, HasAttributes, HasToResolve, IsDefined, IsEntityTypePosition, IsFault, IsFirst, IsPrincipalOrResource, IsUnresolved, MembersRefer, Names, NamesNoAction, PositionsFit, Refers, Resolves, ResolvesBag, ResolvesBody, ResolvesDeclaration, ResolvesEntityBody, ResolvesMembers, ResolvesParent, ResolvesReference, ResolvesRequests, ResolvesTags, ResolvesTo, ShadowsAction, ShadowsType, action_attributes, action_entity_type, action_in, action_not_defined, action_uids, carried_action, common_in, declared_actions, declared_common, declared_entities, declared_name, declared_uid, entity_in, entity_parents, fault_of, out_of_memory, qualify_fault, reference_to_one, reserved_name, resolved_expr, resolved_record, resolved_reference, resolved_variant, resolves_extension, resolves_long, resolves_member, resolves_named, resolves_no_member, resolves_record, resolves_set, resolves_text, resolves_truth, type_not_defined}
+pub use Rattle.cedar_declarations.specs.Words.{Bag, Fault, HasAttributes, HasToResolve, IsDefined, IsEntityTypePosition, IsFault, IsFirst, IsPrincipalOrResource, IsUnresolved, MembersRefer, Names, NamesAction, NamesNoAction, PositionsFit, Refers, Resolves, ResolvesBag, ResolvesBody, ResolvesDeclaration, ResolvesEntityBody, ResolvesMembers, ResolvesParent, ResolvesReference, ResolvesRequests, ResolvesTags, ResolvesTo, ShadowsAction, ShadowsType, action_attributes, action_entity_type, action_in, action_not_defined, action_uids, carried_action, common_in, declared_actions, declared_common, declared_entities, declared_name, declared_uid, entity_in, entity_parents, fault_of, out_of_memory, qualify_fault, reference_to_one, reserved_name, resolved_expr, resolved_record, resolved_reference, resolved_variant, resolves_extension, resolves_long, resolves_member, resolves_named, resolves_no_member, resolves_record, resolves_set, resolves_text, resolves_truth, type_not_defined}
 pub use Rattle.cedar_fragments.specs.ActionDeclarations.{action_fragment_body, action_fragment_declaration, action_fragment_declarations, fragment_parent, fragment_requests}
 pub use Rattle.cedar_fragments.specs.DeclaredAs.{declared_action, declared_as, name_of_parts, namespace_of, within_part}
 pub use Rattle.cedar_fragments.specs.DefinitionFault.{GivesNoCause, HasNoDefinitionFault, IsDefinitionFault, IsEntityTypeNameFault, IsSound, NamesAllWithAttributes, NamesNoAttributes}
-pub use Rattle.cedar_fragments.specs.DefinitionsPairwise.{conditional_pairwise, declarations_pairwise, entry_declarations, entry_namespace, located_namespace, located_namespaces, locs_pairwise, raw_located_namespaces, raw_pairwise, resolved_in_turn}
+pub use Rattle.cedar_fragments.specs.DefinitionsPairwise.{conditional_pairwise, declarations_pairwise, entry_declarations, entry_namespace, located_namespace, located_namespaces, locs_pairwise, raw_located_namespaces, raw_pairwise, resolved_in_turn, written_pairwise}
 pub use Rattle.cedar_fragments.specs.FragmentCopies.{IsActionDefCopy, IsActionFragmentCopy, IsActionParentCopy, IsActionsDefCopy, IsCommonTypeDefCopy, IsCommonTypeDefsCopy, IsEntityTypeDefCopy, IsEntityTypeFragmentCopy, IsEntityTypesDefCopy, IsNamespaceDefCopy, IsRequestsCopy, IsSchemaFragmentCopy, IsTagsCopy, SameDeclarations}
-pub use Rattle.cedar_fragments.specs.FragmentDeclarations.{conditional_bag, conditional_definition, conditional_fragment, definition_declarations, definition_namespace, fragment_declarations, resolved_action_type, resolved_definition, resolved_fragment}
+pub use Rattle.cedar_fragments.specs.FragmentDeclarations.{conditional_bag, conditional_definition, conditional_fragment, definition_declarations, definition_namespace, fragment_declarations, resolved_action_type, resolved_definition, resolved_fragment, written_bag, written_definition, written_fragment}
 pub use Rattle.cedar_fragments.specs.FragmentFault.{NamesAllOfADefinition}
 pub use Rattle.cedar_fragments.specs.FragmentLocs.{action_def_locs, action_fragment_locs, actions_locs, common_type_locs, common_types_locs, definition_locs, entity_fragment_locs, entity_type_locs, entity_types_locs, fragment_locs, no_locs, parent_locs, requests_locs, tags_locs}
 pub use Rattle.cedar_fragments.specs.FragmentNamespaces.{fragment_namespaces}

@@ -4,20 +4,20 @@
 //! full name of what it names. The parameter `A` is the same of the type of an action's parent.
 
 pub use action_def::ActionDef;
-pub(crate) use actions::{action_type_name, action_uid, refuse_attributes};
 pub use actions::{ActionFragment, ActionParent, ActionRequests, ActionsDef};
 pub use common_types::{CommonTypeDef, CommonTypeDefs};
 pub use declared_names::{ActionNames, CommonTypeNames, EntityTypeNames};
 pub use definition::ValidatorNamespaceDef;
 pub use entity_type_def::EntityTypeDef;
-pub(crate) use entity_types::entity_type_name;
 pub use entity_types::{EntityTypeFragment, EntityTypesDef};
 pub use fragment::ValidatorSchemaFragment;
-pub(crate) use full_name::{full_name, name_in};
+pub(crate) use full_name::name_in;
 pub use namespaces::Namespaces;
+pub use written::Written;
 
 mod action_def;
 mod actions;
+mod as_written;
 mod common_types;
 mod copy_actions;
 mod copy_definitions;
@@ -31,9 +31,10 @@ mod full_name;
 mod given_common_types;
 mod into_parts;
 mod located;
+mod named_action;
 mod namespaces;
 mod qualify_actions;
 mod qualify_definitions;
 mod qualify_entities;
 mod qualify_types;
-mod resolved;
+mod written;

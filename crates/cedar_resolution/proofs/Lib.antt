@@ -1,8 +1,7 @@
 pub mod Adding
 pub mod CollectedTogether
-pub mod DefinedNames
 pub mod Items
 pub mod KeptSoFar
-pub mod ResolutionFaults
-pub mod SameNames
+pub mod NamesDefined
 pub mod TakenNames
+pub mod WrittenSoFar

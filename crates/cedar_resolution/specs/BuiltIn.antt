@@ -4,14 +4,16 @@ use Rattle.std.specs.List.{filter, list_any}
 use Rattle.std.specs.Ordering.{is_eq}
 use Rattle.cedar_below.specs.Words.{PlainName, Text, id_text, name_cmp}
 use Rattle.cedar_below.specs.declared.id.Id.{Id}
-use Rattle.cedar_below.specs.declared.internal_name.InternalName.{InternalName}
-use Rattle.cedar_declarations.specs.Words.{alias_name, resolved_expr}
-use Rattle.cedar_names.specs.Expr.{Expr}
+use Rattle.cedar_declarations.specs.Words.{alias_name}
+use Rattle.cedar_names.specs.Words.{Expr, Reference, type_expr}
+use Rattle.cedar_names.specs.declared.json_schema.reference_type.ReferenceType.{ReferenceType}
 use Rattle.cedar_names.specs.declared.json_schema.type_of.Type.{«Type»}
 
--- types under base names, with what each stands for
-abbrev pub named_types : List (Id × «Type» InternalName) → List (Text × Expr)
-named_types types = map (λ it. (id_text it.0, resolved_expr it.1)) types
+-- types under base names, with what each stands for over names of some form, where it is given what
+-- a name refers to at a place of each kind
+abbrev pub named_types : (N : Type 0) → (ReferenceType → N → Reference) → List (Id × «Type» N)
+    → List (Text × Expr)
+named_types N refer types = map (λ it. (id_text it.0, type_expr N refer it.1)) types
 
 -- the base name alone is among the names
 abbrev pub is_taken : List PlainName → Text → Bool

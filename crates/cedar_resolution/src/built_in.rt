@@ -1,29 +1,40 @@
 //! The built-in types and their aliases.
 
 ghost use Rattle.std.specs.Prelude.{if◌then◌else◌, ◌≡◌, ◌↔◌, ◌++◌, [], ◌∷◌, Contains, IfOk, IsTrue, OnOk, map};
-ghost use Rattle.cedar_resolution.specs.Words.{built_in_name, built_in_types, built_ins, collected_common, extension_expr, free_aliases, held_names, id_text, name_of, named_types, plain_name, resolved_expr, resolved_variant, type_names};
+ghost use Rattle.cedar_resolution.specs.Words.{None, built_in_name, built_in_types, built_ins, extension_expr, free_aliases, held_names, id_text, name_of, named_types, plain_name, type_expr, type_names, variant_expr, written_common};
 
+use crate::declarations::DeclaredCommonType;
 use cedar_below::{Extensions, Id, InternalName, M, Name, UnreservedId, identifier};
-use cedar_fragments::defs::AllDefs;
+use cedar_fragments::defs::{AllDefs, WrittenName};
+use cedar_fragments::namespace::Written;
 use cedar_names::json_schema::{Type, TypeVariant};
 use std::alloc::Global;
 
-/// A common type: its full name, and its type.
-pub(crate) type CommonType = (InternalName, Type<InternalName>);
-
 /// A built-in type: its base name, and its type.
-type BuiltInType = (Id, Type<InternalName>);
+type BuiltInType<N> = (Id, Type<N>);
 
 /// A type variant as a type, without a location.
-fn plain(ty: TypeVariant<InternalName>) -> Type<InternalName>
-    ensures { resolved_expr result ≡ resolved_variant ty }
+fn plain<N: WrittenName + Drop>(ty: TypeVariant<N>) -> Type<N>
+    ensures { type_expr N (N.refer None) result ≡ variant_expr N (N.refer None) ty }
 {
     Type::Plain { ty, loc: None }
 }
 
+/// A type in which no name is written, so that its namespace doesn't matter.
+fn nowhere<N: WrittenName + Drop>(declared: Type<N>) -> Written<Type<N>>
+    ensures namespace { result.namespace ≡ None }
+    ensures declared { result.declared ≡ declared }
+{
+    Written {
+        namespace: None,
+        declared,
+    }
+}
+
 /// The extension type of a name.
-fn extension_type(alloc: Global, name: &Name) -> M<Type<InternalName>>
-    ensures { IfOk result (λ ty. resolved_expr ty ≡ extension_expr (plain_name name.now).base) }
+fn extension_type<N: WrittenName + Drop>(alloc: Global, name: &Name) -> M<Type<N>>
+    ensures { IfOk result (λ ty. type_expr N (N.refer None) ty
+        ≡ extension_expr (plain_name name.now).base) }
 {
     let text = String::from_str(alloc, name.basename().as_str())?;
     match UnreservedId::new(text) {
@@ -34,8 +45,12 @@ fn extension_type(alloc: Global, name: &Name) -> M<Type<InternalName>>
 
 /// The built-in types under their base names: the primitive types, and the extension types in the
 /// order in which they were handed in.
-fn built_in_types(alloc: Global, extensions: &Extensions) -> M<Vec<BuiltInType>>
-    ensures { IfOk result (λ types. named_types types.items ≡ built_in_types extensions.now) }
+fn built_in_types<N: WrittenName + Drop>(
+    alloc: Global,
+    extensions: &Extensions,
+) -> M<Vec<BuiltInType<N>>>
+    ensures { IfOk result (λ types. named_types N (N.refer None) types.items
+        ≡ built_in_types extensions.now) }
 {
     let mut types = Vec::new(alloc);
     types.push((identifier(alloc, "Bool")?, plain(TypeVariant::Boolean)))?;
@@ -58,14 +73,17 @@ fn built_in_type_name(alloc: Global, word: &Id) -> M<InternalName>
 }
 
 /// Built-in types under their full names.
-fn built_ins(alloc: Global, types: Vec<BuiltInType>) -> M<Vec<CommonType>>
+fn built_ins<N: WrittenName + Drop>(
+    alloc: Global,
+    types: Vec<BuiltInType<N>>,
+) -> M<Vec<DeclaredCommonType<N>>>
     ensures { IfOk result (λ named.
-        collected_common named.items ≡ map (λ it.
-        (built_in_name it.0, it.1)) (named_types types.items)) }
+        written_common N N.refer named.items ≡ map (λ it.
+        (built_in_name it.0, it.1)) (named_types N (N.refer None) types.items)) }
 {
     let mut named = Vec::new(alloc);
     for (word, ty) in types {
-        named.push((built_in_type_name(alloc, &word)?, ty))?;
+        named.push((built_in_type_name(alloc, &word)?, nowhere(ty)))?;
     }
     Ok(named)
 }
@@ -78,27 +96,33 @@ fn is_declared(declared: &AllDefs, name: &InternalName) -> bool
 }
 
 /// Adds a common type if its name is free.
-fn add_free(
-    named: &mut Vec<CommonType>,
+fn add_free<N: WrittenName + Drop>(
+    named: &mut Vec<DeclaredCommonType<N>>,
     name: InternalName,
-    ty: Type<InternalName>,
+    ty: Type<N>,
     is_free: bool,
 ) -> M<()>
-    ensures { OnOk result (collected_common named.new.items
-        ≡ (if is_free then collected_common named.old.items
-        ++ (name_of name, resolved_expr ty) ∷ [] else collected_common named.old.items)) }
+    ensures { OnOk result (written_common N N.refer named.new.items
+        ≡ (if is_free then written_common N N.refer named.old.items
+        ++ (name_of name, type_expr N (N.refer None) ty) ∷ []
+        else written_common N N.refer named.old.items)) }
 {
     if is_free {
-        named.push((name, ty))?;
+        named.push((name, nowhere(ty)))?;
     }
     Ok(())
 }
 
 /// The aliases of built-in types: each under its base name alone, unless a type of that name is
 /// declared.
-fn aliases(alloc: Global, types: Vec<BuiltInType>, declared: &AllDefs) -> M<Vec<CommonType>>
-    ensures { IfOk result (λ named. collected_common named.items
-        ≡ free_aliases (type_names (held_names declared.now)) (named_types types.items)) }
+fn aliases<N: WrittenName + Drop>(
+    alloc: Global,
+    types: Vec<BuiltInType<N>>,
+    declared: &AllDefs,
+) -> M<Vec<DeclaredCommonType<N>>>
+    ensures { IfOk result (λ named. written_common N N.refer named.items
+        ≡ free_aliases (type_names (held_names declared.now))
+        (named_types N (N.refer None) types.items)) }
 {
     let mut named = Vec::new(alloc);
     for (word, ty) in types {
@@ -111,12 +135,12 @@ fn aliases(alloc: Global, types: Vec<BuiltInType>, declared: &AllDefs) -> M<Vec<
 
 /// The common types that no fragment declares, where these names are declared: the built-in types,
 /// and after them their aliases.
-pub(crate) fn built_in_common_types(
+pub(crate) fn built_in_common_types<N: WrittenName + Drop>(
     alloc: Global,
     declared: &AllDefs,
     extensions: &Extensions,
-) -> M<Vec<CommonType>>
-    ensures { IfOk result (λ types. collected_common types.items
+) -> M<Vec<DeclaredCommonType<N>>>
+    ensures { IfOk result (λ types. written_common N N.refer types.items
         ≡ built_ins extensions.now ++ free_aliases (type_names (held_names declared.now))
         (built_in_types extensions.now)) }
 {

@@ -1,89 +1,125 @@
 //! How declarations are collected: moved out of fragments, in order.
 
 ghost use Rattle.std.specs.Prelude.{◌≡◌, ◌++◌, [], IfOk};
-ghost use Rattle.cedar_below.specs.declared.entity_type.EntityType.{EntityType as ActionEntityType};
-ghost use Rattle.cedar_below.specs.declared.internal_name.InternalName.{InternalName as Full};
-ghost use Rattle.cedar_resolution.specs.Words.{CollectsAlso, action_fragment_declarations, collected_actions, collected_common, collected_entities, common_type_declarations, declared_actions, declared_common, declared_entities, entity_type_declarations, resolved_action_type, resolved_bag, resolved_definition, resolved_fragment, resolved_reference};
+ghost use Rattle.std.specs.Option.{option_map};
+ghost use Rattle.cedar_resolution.specs.Words.{CollectsAlso, action_fragment_declarations, common_type_declarations, declared_actions, declared_common, declared_entities, entity_type_declarations, name_of, namespace_name, written_actions, written_bag, written_common, written_definition, written_entities, written_fragment, written_namespace};
 
-use crate::declarations::{Declarations, DeclaredAction, DeclaredEntityType};
-use cedar_below::{EntityType, EntityUID, InternalName, M};
+use crate::declarations::{Declarations, DeclaredAction, DeclaredCommonType, DeclaredEntityType};
+use cedar_below::{InternalName, M};
+use cedar_fragments::defs::WrittenName;
 use cedar_fragments::namespace::{
     ActionDef, ActionsDef, CommonTypeDef, CommonTypeDefs, EntityTypeDef, EntityTypesDef,
-    ValidatorNamespaceDef, ValidatorSchemaFragment,
+    ValidatorNamespaceDef, ValidatorSchemaFragment, Written,
 };
-use cedar_names::json_schema::Type;
 use std::alloc::Global;
 
-/// The common types, and then also those of a definition.
-fn add_common_types(
-    common_types: Vec<(InternalName, Type<InternalName>)>,
-    defs: CommonTypeDefs<InternalName>,
-) -> M<Vec<(InternalName, Type<InternalName>)>>
-    ensures { IfOk result (λ it. collected_common it.items
-        ≡ collected_common common_types.items
-        ++ declared_common (common_type_declarations Full resolved_reference defs)) }
+/// The name of a namespace, shared, so that what is declared in it has it at a count.
+fn shared_namespace(namespace: Option<&InternalName>) -> M<Option<InternalName>>
+    ensures { IfOk result (λ it. option_map name_of it ≡ namespace_name namespace.entry) }
+{
+    match namespace {
+        None => Ok(None),
+        Some(name) => Ok(Some(name.clone()?.into_shared()?)),
+    }
+}
+
+/// What is declared in a namespace.
+fn written_in<D: Drop>(namespace: &Option<InternalName>, declared: D) -> M<Written<D>>
+    ensures namespace { IfOk result (λ it.
+        written_namespace it ≡ option_map name_of namespace.now) }
+    ensures declared { IfOk result (λ it. it.declared ≡ declared) }
+{
+    let namespace = match namespace {
+        None => None,
+        Some(name) => Some(name.clone()?),
+    };
+    Ok(Written {
+        namespace,
+        declared,
+    })
+}
+
+/// The common types, and then also those of a definition of a namespace.
+fn add_common_types<N: WrittenName + Drop>(
+    common_types: Vec<DeclaredCommonType<N>>,
+    namespace: &Option<InternalName>,
+    defs: CommonTypeDefs<N>,
+) -> M<Vec<DeclaredCommonType<N>>>
+    ensures { IfOk result (λ it. written_common N N.refer it.items
+        ≡ written_common N N.refer common_types.items
+        ++ declared_common
+        (common_type_declarations N (N.refer (option_map name_of namespace.now)) defs)) }
 {
     let mut common_types = common_types;
     for def in defs.into_defs() {
         let CommonTypeDef { name, ty } = def;
-        common_types.push((name, ty))?;
+        let written = written_in(namespace, ty)?;
+        common_types.push((name, written))?;
     }
     Ok(common_types)
 }
 
-/// The entity types, and then also those of a definition.
-fn add_entity_types(
-    entity_types: Vec<DeclaredEntityType>,
-    defs: EntityTypesDef<InternalName>,
-) -> M<Vec<DeclaredEntityType>>
-    ensures { IfOk result (λ it. collected_entities it.items
-        ≡ collected_entities entity_types.items
-        ++ declared_entities (entity_type_declarations Full resolved_reference defs)) }
+/// The entity types, and then also those of a definition of a namespace.
+fn add_entity_types<N: WrittenName + Drop>(
+    entity_types: Vec<DeclaredEntityType<N>>,
+    namespace: &Option<InternalName>,
+    defs: EntityTypesDef<N>,
+) -> M<Vec<DeclaredEntityType<N>>>
+    ensures { IfOk result (λ it. written_entities N N.refer it.items
+        ≡ written_entities N N.refer entity_types.items
+        ++ declared_entities
+        (entity_type_declarations N (N.refer (option_map name_of namespace.now)) defs)) }
 {
     let alloc = *entity_types.allocator();
     let mut entity_types = entity_types;
     for def in defs.into_defs() {
         let EntityTypeDef { name, fragment } = def;
-        entity_types.push(Box::new(alloc, (name, fragment))?)?;
+        let written = written_in(namespace, fragment)?;
+        entity_types.push(Box::new(alloc, (name, written))?)?;
     }
     Ok(entity_types)
 }
 
-/// The actions, and then also those of a definition.
-fn add_actions(
-    actions: Vec<DeclaredAction>,
-    defs: ActionsDef<InternalName, EntityType>,
-) -> M<Vec<DeclaredAction>>
-    ensures { IfOk result (λ it. collected_actions it.items ≡ collected_actions actions.items
+/// The actions, and then also those of a definition of a namespace.
+fn add_actions<N: WrittenName + Drop>(
+    actions: Vec<DeclaredAction<N>>,
+    namespace: &Option<InternalName>,
+    defs: ActionsDef<N, N>,
+) -> M<Vec<DeclaredAction<N>>>
+    ensures { IfOk result (λ it. written_actions N N.refer it.items
+        ≡ written_actions N N.refer actions.items
         ++ declared_actions
-        (action_fragment_declarations Full resolved_reference ActionEntityType resolved_action_type
-        defs)) }
+        (action_fragment_declarations N (N.refer (option_map name_of namespace.now)) N
+        (N.refer (option_map name_of namespace.now)) defs)) }
 {
     let alloc = *actions.allocator();
     let mut actions = actions;
     for def in defs.into_defs() {
         let ActionDef { uid, fragment } = def;
-        actions.push(Box::new(alloc, (uid, fragment))?)?;
+        let written = written_in(namespace, fragment)?;
+        actions.push(Box::new(alloc, (uid, written))?)?;
     }
     Ok(actions)
 }
 
 /// What was collected, and then also what a definition declares.
-fn add_definition(
-    declared: Declarations,
-    definition: ValidatorNamespaceDef<InternalName, EntityType>,
-) -> M<Declarations>
-    ensures { IfOk result (CollectsAlso declared (resolved_definition definition)) }
+fn add_definition<N: WrittenName + Drop>(
+    declared: Declarations<N>,
+    definition: ValidatorNamespaceDef<N, N>,
+) -> M<Declarations<N>>
+    ensures { IfOk result (CollectsAlso N N.refer declared
+        (written_definition N N.refer definition)) }
 {
+    let namespace = shared_namespace(definition.namespace())?;
     let (common, entities, of_actions) = definition.into_parts();
     let Declarations {
         common_types,
         entity_types,
         actions,
     } = declared;
-    let common_types = add_common_types(common_types, common)?;
-    let entity_types = add_entity_types(entity_types, entities)?;
-    let actions = add_actions(actions, of_actions)?;
+    let common_types = add_common_types(common_types, &namespace, common)?;
+    let entity_types = add_entity_types(entity_types, &namespace, entities)?;
+    let actions = add_actions(actions, &namespace, of_actions)?;
     Ok(Declarations {
         common_types,
         entity_types,
@@ -92,11 +128,12 @@ fn add_definition(
 }
 
 /// What was collected, and then also what a fragment declares.
-fn add_fragment(
-    declared: Declarations,
-    fragment: ValidatorSchemaFragment<InternalName, EntityType>,
-) -> M<Declarations>
-    ensures { IfOk result (CollectsAlso declared (resolved_fragment fragment)) }
+fn add_fragment<N: WrittenName + Drop>(
+    declared: Declarations<N>,
+    fragment: ValidatorSchemaFragment<N, N>,
+) -> M<Declarations<N>>
+    ensures { IfOk result (CollectsAlso N N.refer declared
+        (written_fragment N N.refer fragment)) }
 {
     let mut declared = declared;
     for definition in fragment.into_definitions() {
@@ -106,11 +143,12 @@ fn add_fragment(
 }
 
 /// What was collected, and then also what these fragments declare.
-fn add_fragments(
-    declared: Declarations,
-    fragments: Vec<ValidatorSchemaFragment<InternalName, EntityType>>,
-) -> M<Declarations>
-    ensures { IfOk result (CollectsAlso declared (resolved_bag fragments.items)) }
+fn add_fragments<N: WrittenName + Drop>(
+    declared: Declarations<N>,
+    fragments: Vec<ValidatorSchemaFragment<N, N>>,
+) -> M<Declarations<N>>
+    ensures { IfOk result (CollectsAlso N N.refer declared
+        (written_bag N N.refer fragments.items)) }
 {
     let mut declared = declared;
     for fragment in fragments {
@@ -120,7 +158,7 @@ fn add_fragments(
 }
 
 /// No declarations.
-fn none(alloc: Global) -> Declarations
+fn none<N>(alloc: Global) -> Declarations<N>
     ensures common { result.common_types.items ≡ [] }
     ensures entities { result.entity_types.items ≡ [] }
     ensures actions { result.actions.items ≡ [] }
@@ -134,19 +172,19 @@ fn none(alloc: Global) -> Declarations
 
 /// What these fragments declare, in their order, moved out of them. It is refused where memory ran
 /// out alone: a name that is declared twice stands there twice.
-pub fn collect_declarations(
+pub fn collect_declarations<N: WrittenName + Drop>(
     alloc: Global,
-    fragments: Vec<ValidatorSchemaFragment<InternalName, EntityType>>,
-) -> M<Declarations>
+    fragments: Vec<ValidatorSchemaFragment<N, N>>,
+) -> M<Declarations<N>>
     ensures common { IfOk result (λ declared.
-        collected_common declared.common_types.items
-        ≡ declared_common (resolved_bag fragments.items)) }
+        written_common N N.refer declared.common_types.items
+        ≡ declared_common (written_bag N N.refer fragments.items)) }
     ensures entities { IfOk result (λ declared.
-        collected_entities declared.entity_types.items
-        ≡ declared_entities (resolved_bag fragments.items)) }
+        written_entities N N.refer declared.entity_types.items
+        ≡ declared_entities (written_bag N N.refer fragments.items)) }
     ensures actions { IfOk result (λ declared.
-        collected_actions declared.actions.items
-        ≡ declared_actions (resolved_bag fragments.items)) }
+        written_actions N N.refer declared.actions.items
+        ≡ declared_actions (written_bag N N.refer fragments.items)) }
 {
     add_fragments(none(alloc), fragments)
 }

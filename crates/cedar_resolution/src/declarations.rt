@@ -1,24 +1,28 @@
 //! The declarations of fragments, kind by kind.
 
 use cedar_below::{EntityType, EntityUID, InternalName};
-use cedar_fragments::namespace::{ActionFragment, EntityTypeFragment};
+use cedar_fragments::namespace::{ActionFragment, EntityTypeFragment, Written};
 use cedar_names::json_schema::Type;
+
+/// A common type that is declared: its full name, and its type with the namespace that the names
+/// in it are written in.
+pub type DeclaredCommonType<N> = (InternalName, Written<Type<N>>);
 
 /// An entity type under its full name, with what is declared of it. It stands behind a pointer, so
 /// that lists of many are short.
-pub type DeclaredEntityType = Box<(EntityType, EntityTypeFragment<InternalName>)>;
+pub type DeclaredEntityType<N> = Box<(EntityType, Written<EntityTypeFragment<N>>)>;
 
 /// An action under its uid, with what is declared of it, behind a pointer too.
-pub type DeclaredAction = Box<(EntityUID, ActionFragment<InternalName, EntityType>)>;
+pub type DeclaredAction<N> = Box<(EntityUID, Written<ActionFragment<N, N>>)>;
 
-/// What fragments declare, over full names: the common types, the entity types and the actions,
-/// each under its full name, in the order of the fragments.
+/// What fragments declare: the common types, the entity types and the actions, each under its full
+/// name and with the namespace that its names are written in, in the order of the fragments.
 #[derive(Debug, Drop)]
-pub struct Declarations {
+pub struct Declarations<N> {
     /// The common types, each with the type that it is defined as.
-    pub common_types: Vec<(InternalName, Type<InternalName>)>,
+    pub common_types: Vec<DeclaredCommonType<N>>,
     /// The entity types, each with what is declared of it.
-    pub entity_types: Vec<DeclaredEntityType>,
+    pub entity_types: Vec<DeclaredEntityType<N>>,
     /// The actions, each under its uid with what is declared of it.
-    pub actions: Vec<DeclaredAction>,
+    pub actions: Vec<DeclaredAction<N>>,
 }

@@ -1,16 +1,20 @@
 //! The names that fragments define.
 
 ghost use Rattle.std.specs.Prelude.{◌≡◌, ◌⊎◌, ◌++◌, IfOk, IfErr, OnOk, map};
-ghost use Rattle.cedar_resolution.specs.Words.{Bag, DeclaresJust, HasAlso, HoldsJust, IsFault, PlainName, PlainUid, action_shadowing, aliases, built_ins, collected_common, defined_names, fault_of, held_names, name_of, out_of_memory, type_shadowing};
+ghost use Rattle.cedar_resolution.specs.Words.{Bag, DeclaresJust, HasAlso, HoldsJust, IsFault, PlainName, PlainUid, action_shadowing, aliases, built_ins, defined_names, fault_of, held_names, name_of, out_of_memory, type_shadowing, written_common};
 
-use crate::built_in::{CommonType, built_in_common_types};
+use crate::built_in::built_in_common_types;
+use crate::declarations::DeclaredCommonType;
 use cedar_below::{Extensions, M};
 use cedar_declarations::SchemaError;
-use cedar_fragments::defs::AllDefs;
+use cedar_fragments::defs::{AllDefs, WrittenName};
 use std::alloc::Global;
 
 /// The same names, and among those of common types also those of some types.
-fn with_common_types(defs: AllDefs, types: &[CommonType]) -> M<AllDefs>
+fn with_common_types<N: WrittenName + Drop>(
+    defs: AllDefs,
+    types: &[DeclaredCommonType<N>],
+) -> M<AllDefs>
     ensures common { IfOk result (λ after.
         HasAlso (held_names after).common (held_names defs).common
         (map (λ it. name_of it.0) types.now)) }
@@ -28,12 +32,14 @@ fn with_common_types(defs: AllDefs, types: &[CommonType]) -> M<AllDefs>
 
 /// The names that fragments define over some extensions.
 #[derive(Debug, Drop)]
-pub(crate) struct DefinedNames {
+pub struct DefinedNames<N> {
     /// The names: those that are declared, the built-in types and their aliases, and the types of
     /// actions.
-    pub(crate) defs: AllDefs,
-    /// The built-in types, and after them their aliases.
-    pub(crate) built_in: Vec<CommonType>,
+    pub defs: AllDefs,
+    /// The common types that no fragment declares: the built-in types under their full names, and
+    /// after them their aliases, each under its base name alone unless a type of that name is
+    /// declared (RFC 24).
+    pub built_in: Vec<DeclaredCommonType<N>>,
 }
 
 /// All names that are defined over some extensions where just these are declared, and the common
@@ -43,15 +49,15 @@ pub(crate) struct DefinedNames {
 ///
 /// - `TypeShadowing`, `ActionShadowing`: a declared name would shadow another (RFC 70)
 /// - `Memory`: memory ran out
-pub(crate) fn defined_names(
+pub fn defined_names<N: WrittenName + Drop>(
     alloc: Global,
     declared: AllDefs,
     extensions: &Extensions,
-) -> Result<DefinedNames, SchemaError>
+) -> Result<DefinedNames<N>, SchemaError>
     ensures names { IfOk result (λ defined. (bag : Bag) → DeclaresJust bag declared
         → HoldsJust (held_names defined.defs) (defined_names bag extensions.now)) }
     ensures built_in { IfOk result (λ defined. (bag : Bag) → DeclaresJust bag declared
-        → collected_common defined.built_in.items
+        → written_common N N.refer defined.built_in.items
         ≡ built_ins extensions.now ++ aliases bag extensions.now) }
     ensures no_type_shadows { OnOk result ((bag : Bag) → DeclaresJust bag declared
         → (plain qualified : PlainName)
@@ -63,7 +69,7 @@ pub(crate) fn defined_names(
         → (fault_of error ≡ out_of_memory) ⊎ IsFault bag extensions.now (fault_of error)) }
 {
     declared.rfc_70_shadowing_checks()?;
-    let built_in = built_in_common_types(alloc, &declared, extensions)?;
+    let built_in = built_in_common_types::<N>(alloc, &declared, extensions)?;
     let defined = with_common_types(declared, &built_in)?;
     let defs = defined.with_action_types()?;
     Ok(DefinedNames { defs, built_in })

@@ -1,18 +1,21 @@
-//! Resolution: fragments in which each reference is the full name of what it stands for.
+//! What fragments define, before anything is elaborated.
 //!
-//! [`resolve_fragments`] is a step of the builder. It refuses where a declared name shadows
-//! another, or a reference names nothing that is declared or built in; else each reference of what
-//! it gives ([`Resolved`]) is a full name. [`collect_declarations`] then moves what is declared out
-//! of the fragments, kind by kind ([`Declarations`]). [`theorems`] has laws of these.
+//! [`fragments_as_written`] takes over fragments as they are written. [`defined_names`] gives all
+//! names that references are looked up among: the declared ones, the built-in types with their
+//! aliases, and the types of actions; it refuses where a declared name shadows another.
+//! [`collect_declarations`] moves what is declared out of the fragments, kind by kind
+//! ([`Declarations`]), each declaration with the namespace that its names are written in.
+//! [`theorems`] has laws of these.
 #![tactic(auto)]
 
 pub use collecting::collect_declarations;
-pub use declarations::{Declarations, DeclaredAction, DeclaredEntityType};
-pub use resolved::{Resolved, resolve_fragments, resolve_written_fragments};
+pub use declarations::{Declarations, DeclaredAction, DeclaredCommonType, DeclaredEntityType};
+pub use defined::{DefinedNames, defined_names};
+pub use written::fragments_as_written;
 
 mod built_in;
 mod collecting;
 mod declarations;
 mod defined;
-mod resolved;
 pub mod theorems;
+mod written;

@@ -10,7 +10,6 @@ mod KnownOfBuilt
 mod Mapped
 pub mod NamespaceLemmas
 mod ReadySteps
-mod ResolvedOver
 pub mod SchemaEquality
 mod SchemaKeys
 mod SchemaNames

@@ -1,53 +1,43 @@
 -- What each step is handed is what it asks for.
-use Rattle.std.proofs.Common.{◌≡◌, List, map, ap, sym, subst, inr, Contains}
-use Rattle.cedar_schema.specs.Words.{AreActionsOf, AreDeclaredEntityTypes, AreElaborated, AreTypesOf, Bag, CommonTypesAreSound, EntityType, Entries, Extensions, InternalName, IsReady, IsResolvedOver, Names, PlainName, SameItems, «Type», TypeScope, ValidatorEntityType, collected_actions, collected_common, collected_entities, declared_actions, declared_common, declared_entities, definitions, elaborated_types, extension_types, set_names, type_name, DeclaredAction, DeclaredEntityType}
-use Rattle.std.specs.BTreeSet.{BTreeSet}
+use Rattle.std.proofs.Common.{◌≡◌, List, map, ap, sym, subst, Contains}
+use Rattle.cedar_schema.specs.Words.{ActionBody, AreActionsOf, AreDeclaredEntityTypes, AreElaborated, AreTypesOf, Bag, CommonTypesAreSound, EntityBody, EntityType, Entries, Expr, Extensions, HoldsJust, IsNamedOver, IsReady, IsReserved, Names, PlainName, PlainUid, TypeScope, ValidatorEntityType, declared_actions, declared_common, declared_entities, defined_names, definitions, elaborated_types, extension_types, held_names, type_name}
 use Rattle.cedar_below.proofs.Lists.{Contains-preimage}
 use Rattle.cedar_declarations.proofs.BuiltInLemmas.{one_definition}
 use Rattle.cedar_declarations.proofs.TogetherLemmas.{said_is_declared}
-use Rattle.cedar_schema.proofs.CollectedBags.{collected_unreserved}
 use Rattle.cedar_schema.proofs.KnownBags.{knows_all}
 
-module _ (bag : Bag) (given : Extensions) (held : Names) (built_in : List (InternalName × «Type» InternalName))
-    (over : IsResolvedOver bag given held (collected_common built_in)) (names : BTreeSet InternalName)
-    (are_held : set_names names ≡ held.entities) (common : List (InternalName × «Type» InternalName))
-    (entity_types : List DeclaredEntityType)
-    (actions : List DeclaredAction)
-    (is_common : collected_common common ≡ declared_common bag)
-    (is_entities : collected_entities entity_types ≡ declared_entities bag)
-    (is_actions : collected_actions actions ≡ declared_actions bag) where
-  -- the names of entity types are those that the bag defines
-  same_names : SameItems (definitions bag given).entities (set_names names)
-  same_names =
-      let P : List PlainName → Type 0 = SameItems (definitions bag given).entities in subst P (sym are_held) over.entities
-
+module _ (bag : Bag) (given : Extensions) (held : Names) (built_in : List (PlainName × Expr)) (over : IsNamedOver bag given held built_in)
+    (common : List (PlainName × Expr)) (entity_types : List (PlainName × EntityBody)) (actions : List (PlainUid × ActionBody))
+    (is_common : common ≡ declared_common bag) (is_entities : entity_types ≡ declared_entities bag)
+    (is_actions : actions ≡ declared_actions bag)
+    (unreserved : (name : PlainName) → Contains (definitions bag given).entities name → ¬ IsReserved name) where
   -- the common types can be elaborated
-  pub types_of : AreTypesOf bag given common built_in names
+  pub types_of : AreTypesOf bag given common built_in held
   types_of = record {
     common = is_common;
     built_in = over.built_in;
-    names = same_names;
-    unreserved = collected_unreserved bag given entity_types actions is_entities is_actions;
+    held = over.names;
+    unreserved = unreserved;
     fit = over.fit;
   }
 
-  module _ (known : TypeScope) (known_names : known.entities.now ≡ names) (extensions_in_scope : known.extensions.now ≡ given)
+  module _ (known : TypeScope) (known_names : held_names known.defs.now ≡ held) (extensions_in_scope : known.extensions.now ≡ given)
       (written : AreElaborated bag given (elaborated_types known.common.now)) (sound : CommonTypesAreSound bag given) where
-    -- the same of what is known
-    known_same : SameItems (definitions bag given).entities (set_names known.entities.now)
+    -- the names in scope are those of the bag
+    known_same : HoldsJust (held_names known.defs.now) (defined_names bag given)
     known_same =
-        let P : BTreeSet InternalName → Type 0 = λ each. SameItems (definitions bag given).entities (set_names each) in
-        subst P (sym known_names) same_names
+        let P : Names → Type 0 = λ each. HoldsJust each (defined_names bag given) in
+        subst P (sym known_names) over.names
 
     -- the entity types can be built
     pub ready : IsReady bag given entity_types known
     ready = record {
       entities = is_entities;
-      placed = λ reference placed. over.resolves reference (inr placed);
+      names = known_same;
       knows = λ expr counted. knows_all bag given known known_same written expr;
       extensions = ap extension_types extensions_in_scope;
       one_definition = one_definition bag given over.fit sound.once;
-      unreserved = collected_unreserved bag given entity_types actions is_entities is_actions;
+      unreserved = unreserved;
     }
 
     -- the actions can be built
@@ -63,10 +53,9 @@ module _ (bag : Bag) (given : Extensions) (held : Names) (built_in : List (Inter
             subst P found.2 (said_is_declared bag (type_name found.0.0) it.body it.says),
         declared.complete name,
       );
-      placed = λ reference placed. over.resolves reference (inr placed);
-      named = over.parents;
+      names = known_same;
       knows = λ expr counted. knows_all bag given known known_same written expr;
       extensions = ap extension_types extensions_in_scope;
       one_definition = one_definition bag given over.fit sound.once;
-      unreserved = collected_unreserved bag given entity_types actions is_entities is_actions;
+      unreserved = unreserved;
     }

@@ -1,12 +1,12 @@
 -- What the steps make sure of, together, is that the bag isn't ill-formed.
-use Rattle.std.proofs.Common.{List, subst, map, Contains}
+use Rattle.std.proofs.Common.{List, inl, inr, subst, map, Contains}
 use Rattle.cedar_below.proofs.Lists.{Contains-preimage}
-use Rattle.cedar_schema.specs.Words.{ActionsAreSound, Bag, CommonTypesAreSound, EntityBody, EntityTypesAreSound, Expr, Extensions, HasNoDefinitionFault, HasOpenRecord, IsActionType, IsIllFormed, IsResolvedOver, Names, PlainName, ResolvesTo, action_attributes, action_entity_type, declared_entities, defined_names, reserved_name}
+use Rattle.cedar_schema.specs.Words.{ActionsAreSound, Bag, CommonTypesAreSound, EntityBody, EntityTypesAreSound, Expr, Extensions, HasNoDefinitionFault, HasOpenRecord, IsActionType, IsIllFormed, IsNamedOver, Names, PlainName, Reference, Refers, ResolvesTo, action_attributes, action_entity_type, declared_entities, defined_names, reserved_name}
 use Rattle.cedar_declaration_laws.proofs.MentionLemmas.{HasKnownExtensions}
 use Rattle.cedar_declaration_laws.proofs.SureBags.{of_counted, of_placed, sure_is_well}
 
 module _ (bag : Bag) (extensions : Extensions) (names : Names) (built_in : List (PlainName × Expr))
-    (resolved : IsResolvedOver bag extensions names built_in) (definitions_sound : HasNoDefinitionFault bag) (common : CommonTypesAreSound bag extensions)
+    (over : IsNamedOver bag extensions names built_in) (definitions_sound : HasNoDefinitionFault bag) (common : CommonTypesAreSound bag extensions)
     (entities : EntityTypesAreSound bag extensions) (actions : ActionsAreSound bag extensions) where
   -- a declared entity type is no type of actions
   declared_no_action : (name : PlainName) → Contains (map (λ it. it.0) (declared_entities bag)) name → ¬ IsActionType name
@@ -27,10 +27,16 @@ module _ (bag : Bag) (extensions : Extensions) (names : Names) (built_in : List 
             (λ lower each parent is. declared_no_action name (entities.parents lower name each parent is))
             (λ uid body each among place is. declared_no_action name (actions.entity_types uid body each name among place is))
             reference placed resolves;
-        resolves = resolved.resolves;
-        names = resolved.parents;
-        types_shadow = resolved.types_shadow;
-        actions_shadow = resolved.actions_shadow;
+        resolves = λ reference has. elim has [
+          | inl counts ↦ of_counted bag (λ expr. (each : Reference) → Refers expr each
+              → (name : PlainName) × ResolvesTo (defined_names bag extensions) each name)
+              common.resolves entities.resolves actions.resolves counts.0 counts.1 reference counts.2
+          | inr placed ↦ of_placed bag (λ each. (name : PlainName) × ResolvesTo (defined_names bag extensions) each name)
+              entities.placed actions.placed reference placed
+        ];
+        names = actions.named;
+        types_shadow = over.types_shadow;
+        actions_shadow = over.actions_shadow;
         entity_types_once = entities.once;
         common_types_once = common.once;
         actions_once = actions.once;

@@ -1,6 +1,6 @@
 pub mod Located
 pub mod LocatedType
-pub mod ResolvedBag
+pub mod NamedOver
 pub mod SchemaKeys
 pub mod SchemaParts
 pub mod Shared

@@ -8,22 +8,23 @@ pub use Rattle.cedar_below.specs.declared.internal_name.InternalName.{InternalNa
 pub use Rattle.cedar_below.specs.declared.loc.Loc.{Loc}
 pub use Rattle.cedar_below.specs.declared.validation_mode.ValidationMode.TheVariants.{Permissive}
 pub use Rattle.cedar_type_rules.specs.Words.{AreClean, Fields, FieldsBelow, IsClean, IsSortedByName, Ty, end, field_at, record_of, union_of}
-pub use Rattle.cedar_names.specs.Words.{ActionBody, EntityBody, Expr, positional_reference, raw_bag, raw_declarations, raw_fragment}
+pub use Rattle.cedar_names.specs.Words.{ActionBody, EntityBody, Expr, Reference, positional_reference, raw_bag, raw_declarations, raw_fragment}
 pub use Rattle.cedar_names.specs.declared.json_schema.conditional_name.ConditionalName.{ConditionalName}
 pub use Rattle.cedar_names.specs.declared.json_schema.fragment.Fragment.{Fragment}
 pub use Rattle.cedar_names.specs.declared.json_schema.raw_name.RawName.{RawName}
-pub use Rattle.cedar_names.specs.declared.json_schema.type_of.Type.{«Type»}
+pub use Rattle.cedar_names.specs.declared.json_schema.reference_type.ReferenceType.{ReferenceType}
 pub use Rattle.cedar_table.specs.Words.{Entries}
 pub use Rattle.cedar_types.specs.Words.{IsSortedByName-fields, attribute_of, fields_of, kind_ty, ty_of}
-pub use Rattle.cedar_declarations.specs.Words.{ActionEntity, ActionKind, AreActionEntities, AreEnvironmentsOf, Bag, ClosesAction, ClosesSchema, ClosesType, DefinesAction, EntityTypeKind, Fault, HasOpenRecord, IsConvertedBack, IsDeclaredAction, IsDeclaredEntityType, IsDeclaredSchema, IsFault, IsIllFormed, IsSchemaFault, IsTypeOfKind, IsValidSchema, IsWritable, ListsDescendantAction, Names, PlainSchema, PositionsFit, ResolvesBag, ResolvesTo, SameAction, SameActionEntity, SameActionKind, SameBag, SameEntityType, SameSchema, SchemaAction, SchemaEntityType, action_attributes, action_entity_type, action_shadowing, action_uids, aliases, built_ins, declared_actions, declared_common, declared_entities, defined_action, defined_names, definitions, external_action, fault_of, kind_fields, out_of_memory, reserved_name, resolved_reference, standard_kind, type_shadowing}
+pub use Rattle.cedar_declarations.specs.Words.{ActionEntity, ActionKind, AreActionEntities, AreEnvironmentsOf, Bag, ClosesAction, ClosesSchema, ClosesType, DefinesAction, EntityTypeKind, Fault, HasOpenRecord, IsConvertedBack, IsDeclaredAction, IsDeclaredEntityType, IsDeclaredSchema, IsFault, IsIllFormed, IsSchemaFault, IsTypeOfKind, IsValidSchema, IsWritable, ListsDescendantAction, Names, PlainSchema, PositionsFit, Refers, ResolvesTo, SameAction, SameActionEntity, SameActionKind, SameBag, SameEntityType, SameSchema, SchemaAction, SchemaEntityType, action_attributes, action_entity_type, action_uids, declared_actions, declared_common, declared_entities, defined_action, defined_names, definitions, external_action, fault_of, kind_fields, out_of_memory, reserved_name, standard_kind}
 pub use Rattle.cedar_declaration_laws.specs.Words.{HasNoReservedName, HasRecordContexts, IsBuiltFrom, IsInOrder, StandsUnderItsNames}
-pub use Rattle.cedar_fragments.specs.Words.{DefinedNamespace, HasNoDefinitionFault, HoldsJust, IsDefinitionFault, LocatedName, NamesAllOfADefinition, NamesAllWithAttributes, conditional_bag, conditional_fragment, definition_common_types, definition_namespaces, entry_common_names, entry_namespaces, fragment_common_names, fragment_definitions, held_names, located_name, named_namespace, named_namespaces, raw_common_names, raw_namespaces, resolved_action_type, written_common_names}
+pub use Rattle.cedar_fragments.specs.Words.{DefinedNamespace, HasNoDefinitionFault, HoldsJust, IsDefinitionFault, LocatedName, NamesAllOfADefinition, NamesAllWithAttributes, conditional_bag, conditional_fragment, definition_common_types, definition_namespaces, entry_common_names, entry_namespaces, fragment_common_names, fragment_definitions, held_names, located_name, named_namespace, named_namespaces, raw_common_names, raw_namespaces, written_bag, written_common_names}
 pub use Rattle.cedar_fragments.specs.declared.namespace.actions.ActionFragment.{ActionFragment}
 pub use Rattle.cedar_fragments.specs.declared.namespace.common_types.CommonTypeDef.{CommonTypeDef}
 pub use Rattle.cedar_fragments.specs.declared.namespace.definition.ValidatorNamespaceDef.{ValidatorNamespaceDef}
 pub use Rattle.cedar_fragments.specs.declared.namespace.entity_types.EntityTypeFragment.{EntityTypeFragment}
 pub use Rattle.cedar_fragments.specs.declared.namespace.fragment.ValidatorSchemaFragment.{ValidatorSchemaFragment}
-pub use Rattle.cedar_resolution.specs.Words.{DeclaredAction, DeclaredEntityType, collected_actions, collected_common, collected_entities, resolved_bag}
+pub use Rattle.cedar_fragments.specs.WrittenDeclarations.{written_actions, written_common, written_entities}
+pub use Rattle.cedar_fragments.specs.declared.namespace.written.Written.{Written}
 pub use Rattle.cedar_schema_elements.specs.Words.{PlainEntityType, action_of, entity_type_of, kind_principals, kind_resources, name_type_loc, owned_environment, plain_action_entity, plain_action_entry, plain_entry, plain_kind, schema_listing, schema_with}
 pub use Rattle.cedar_schema_elements.specs.declared.action_id.ValidatorActionId.{ValidatorActionId}
 pub use Rattle.cedar_schema_elements.specs.declared.entity_type.ValidatorEntityType.{ValidatorEntityType}
@@ -31,12 +32,12 @@ pub use Rattle.cedar_schema_elements.specs.declared.entity_type_kind.ValidatorEn
 pub use Rattle.cedar_queries.specs.Words.{AreAttributesOf, AreCleanTypes, AreDeclaredTypes, AreExactlyKnown, AreKnownOfAll, IsIncomplete, IsKnownType, IsKnownUid, MayBeIn, MayHaveAttribute, MayHaveTags, action_at, action_descendants, actions_for, all_principals, all_resources, context_at, declared_fields, descendants_of, environments_left, groups, has_name, is_nonempty, leaves_of, pending_types, schema_leaves, types_above, unresolved, unresolved_left}
 pub use Rattle.cedar_validation.specs.Words.{IsActionCopied, IsTypeCopied, last_named, last_of_uid}
 pub use Rattle.cedar_schema_writer.specs.Words.{AreProper, Refuses}
-pub use Rattle.cedar_elaboration.specs.Words.{AreElaborated, AreTypesOf, CommonTypesAreSound, Covers, elaborated_types, set_names}
+pub use Rattle.cedar_elaboration.specs.Words.{AreElaborated, AreTypesOf, CommonTypesAreSound, Covers, elaborated_types}
 pub use Rattle.cedar_elaboration.specs.declared.type_scope.TypeScope.{TypeScope}
 pub use Rattle.cedar_builder.specs.Words.{ActionsAreSound, AreActionsOf, AreDeclaredActions, AreDeclaredEntityTypes, EntityTypesAreSound, IsReady}
 pub use Rattle.cedar_schema.specs.Located.{AreShown, Shows, ShowsFragments, ShowsWritten, common_entries, namespace_entries}
 pub use Rattle.cedar_schema.specs.LocatedType.{loc_at, type_at}
-pub use Rattle.cedar_schema.specs.ResolvedBag.{IsResolvedOver}
+pub use Rattle.cedar_schema.specs.NamedOver.{IsNamedOver}
 pub use Rattle.cedar_schema.specs.SchemaKeys.{AreKeysLocated}
 pub use Rattle.cedar_schema.specs.SchemaParts.{parts_schema}
 pub use Rattle.cedar_schema.specs.ShownCommonTypes.{ShownCommonType, common_types_to_show, declared_common_type, fragment_common_types, is_shown, shown_common_type, shown_name, with_base}

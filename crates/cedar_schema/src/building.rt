@@ -2,18 +2,19 @@
 
 ghost use Rattle.std.specs.Prelude.{◌≡◌, ◌⊎◌, IfErr, IfOk, OnOk};
 ghost use Rattle.std.specs.Result.{result_map_both};
-ghost use Rattle.cedar_schema.specs.Words.{AreKeysLocated, IsBuiltFrom, IsDeclaredSchema, IsFault, IsIllFormed, IsResolvedOver, ShowsFragments, TypeNamesFit, collected_common, conditional_bag, extension_types, fault_of, held_names, out_of_memory, parts_schema, resolved_bag};
+ghost use Rattle.cedar_schema.specs.Words.{AreKeysLocated, AreShown, IsBuiltFrom, IsDeclaredSchema, IsFault, IsIllFormed, IsNamedOver, TypeNamesFit, extension_types, fault_of, held_names, out_of_memory, parts_schema, written_bag, written_common};
 
 use crate::collecting::{Located, located_in};
 use crate::shared::Shared;
-use cedar_below::{EntityType, EntityUID, Extensions, InternalName};
+use cedar_below::{EntityType, EntityUID, Extensions};
 use cedar_builder::{actions, entity_types};
 use cedar_declarations::SchemaError;
 use cedar_elaboration::{TypeScope, defined_common_types};
-use cedar_fragments::defs::AllDefs;
+use cedar_fragments::defs::{AllDefs, WrittenName};
 use cedar_fragments::namespace::ValidatorSchemaFragment;
-use cedar_names::json_schema::{ConditionalName, Type};
-use cedar_resolution::{Declarations, Resolved, collect_declarations, resolve_fragments};
+use cedar_resolution::{
+    Declarations, DeclaredCommonType, DefinedNames, collect_declarations, defined_names,
+};
 use cedar_schema_elements::{ValidatorActionId, ValidatorEntityType};
 use cedar_table::Table;
 use std::alloc::Global;
@@ -29,44 +30,43 @@ pub(crate) struct SchemaParts {
     pub(crate) located: Shared<Located>,
 }
 
-/// What fragments over full names declare, where the names of entity types are these, and so are
-/// the built-in types and their aliases.
-pub(crate) fn build_resolved(
+/// What fragments declare, where these are the names that are defined, and these the built-in types
+/// and their aliases.
+fn build_named<N: WrittenName + Drop>(
     alloc: Global,
-    fragments: Vec<ValidatorSchemaFragment<InternalName, EntityType>>,
-    defs: AllDefs,
-    built_in: Vec<(InternalName, Type<InternalName>)>,
+    fragments: Vec<ValidatorSchemaFragment<N, N>>,
+    defs: &AllDefs,
+    built_in: Vec<DeclaredCommonType<N>>,
     located: Shared<Located>,
     extensions: &Extensions,
 ) -> Result<SchemaParts, SchemaError>
     ensures declared { IfOk result (λ parts.
-        IsResolvedOver (resolved_bag fragments.items) extensions.now (held_names defs)
-        (collected_common built_in.items)
-        → IsDeclaredSchema (resolved_bag fragments.items) extensions.now (parts_schema parts)) }
+        IsNamedOver (written_bag N N.refer fragments.items) extensions.now (held_names defs.now)
+        (written_common N N.refer built_in.items)
+        → IsDeclaredSchema (written_bag N N.refer fragments.items) extensions.now
+        (parts_schema parts)) }
     ensures located { IfOk result (λ parts. parts.located ≡ located) }
     ensures keys { IfOk result (λ parts.
         AreKeysLocated parts.entity_types.entries parts.actions.entries) }
     ensures well_formed { OnOk result
-        (IsResolvedOver (resolved_bag fragments.items) extensions.now (held_names defs)
-        (collected_common built_in.items)
-        → ¬ IsIllFormed (resolved_bag fragments.items) extensions.now) }
+        (IsNamedOver (written_bag N N.refer fragments.items) extensions.now (held_names defs.now)
+        (written_common N N.refer built_in.items)
+        → ¬ IsIllFormed (written_bag N N.refer fragments.items) extensions.now) }
     ensures fault { IfErr result (λ error.
-        IsResolvedOver (resolved_bag fragments.items) extensions.now (held_names defs)
-        (collected_common built_in.items)
+        IsNamedOver (written_bag N N.refer fragments.items) extensions.now (held_names defs.now)
+        (written_common N N.refer built_in.items)
         → (fault_of error ≡ out_of_memory)
-        ⊎ IsFault (resolved_bag fragments.items) extensions.now (fault_of error)) }
+        ⊎ IsFault (written_bag N N.refer fragments.items) extensions.now (fault_of error)) }
 {
-    // Nothing asks for the other names any more: they go before what is built takes memory.
-    let names = defs.into_entity_type_names();
     let Declarations {
         common_types,
         entity_types: declared,
         actions: declared_actions,
     } = collect_declarations(alloc, fragments)?;
-    let common = defined_common_types(alloc, common_types, built_in, &names, extensions)?;
+    let common = defined_common_types(alloc, common_types, built_in, defs, extensions)?;
     let known = TypeScope {
         common: &common,
-        entities: &names,
+        defs,
         extensions,
     };
     let entity_types = entity_types(alloc, declared, &known)?;
@@ -81,27 +81,25 @@ pub(crate) fn build_resolved(
 }
 
 /// What fragments declare over some extensions, whose names of extension types have to fit, as
-/// [`Extensions::type_names_fit`] tests.
+/// [`Extensions::type_names_fit`] tests. Each name is looked up in the namespace that it is written
+/// in.
 ///
 /// It is refused exactly where the bag of their declarations is ill-formed, with a fault of it by
 /// name, or where memory runs out.
-pub(crate) fn build(
+pub(crate) fn build<N: WrittenName + Drop>(
     alloc: Global,
-    fragments: Vec<ValidatorSchemaFragment<ConditionalName, ConditionalName>>,
+    fragments: Vec<ValidatorSchemaFragment<N, N>>,
     extensions: &Extensions,
 ) -> Result<SchemaParts, SchemaError>
     requires { TypeNamesFit (extension_types extensions.now) }
-    ensures built { IsBuiltFrom (conditional_bag fragments.items) extensions.now
+    ensures built { IsBuiltFrom (written_bag N N.refer fragments.items) extensions.now
         (result_map_both parts_schema fault_of result) }
-    ensures located { IfOk result (λ parts. ShowsFragments fragments.items parts.located) }
+    ensures located { IfOk result (λ parts. AreShown N N fragments.items parts.located) }
     ensures keys { IfOk result (λ parts.
         AreKeysLocated parts.entity_types.entries parts.actions.entries) }
 {
     let located = Shared::new(alloc, located_in(alloc, &fragments)?)?;
-    let Resolved {
-        fragments,
-        defs,
-        built_in,
-    } = resolve_fragments(alloc, fragments, extensions)?;
-    build_resolved(alloc, fragments, defs, built_in, located, extensions)
+    let declared = AllDefs::new(alloc, &fragments)?;
+    let DefinedNames { defs, built_in } = defined_names::<N>(alloc, declared, extensions)?;
+    build_named(alloc, fragments, &defs, built_in, located, extensions)
 }

@@ -4,13 +4,11 @@ ghost use Rattle.std.specs.Prelude.{IfErr, IfOk};
 ghost use Rattle.std.specs.Result.{result_map_both};
 ghost use Rattle.cedar_schema.specs.Words.{AreKeysLocated, IsBuiltFrom, NamesAllOfADefinition, ShowsWritten, TypeNamesFit, extension_types, fault_of, parts_schema, raw_bag};
 
-use crate::building::{SchemaParts, build_resolved};
-use crate::collecting::located_in;
-use crate::shared::Shared;
+use crate::building::{SchemaParts, build};
 use cedar_below::Extensions;
 use cedar_declarations::SchemaError;
 use cedar_names::json_schema::{Fragment, RawName};
-use cedar_resolution::{Resolved, resolve_written_fragments};
+use cedar_resolution::fragments_as_written;
 use std::alloc::Global;
 
 /// What fragments declare over some extensions, whose names of extension types have to fit, as
@@ -33,11 +31,6 @@ pub(crate) fn build_raw(
     ensures keys { IfOk result (λ parts.
         AreKeysLocated parts.entity_types.entries parts.actions.entries) }
 {
-    let Resolved {
-        fragments,
-        defs,
-        built_in,
-    } = resolve_written_fragments(alloc, fragments, extensions)?;
-    let located = Shared::new(alloc, located_in(alloc, &fragments)?)?;
-    build_resolved(alloc, fragments, defs, built_in, located, extensions)
+    let fragments = fragments_as_written(alloc, fragments)?;
+    build(alloc, fragments, extensions)
 }

@@ -1,16 +1,20 @@
 //! What common types are elaborated as, and why they are refused.
 
+use crate::declarations::fragments_of;
 use crate::refusals::refusal_text;
 use cedar_below::InternalName;
 use cedar_declarations::SchemaError;
 use cedar_elaboration::common_types;
-use cedar_names::json_schema::{RecordType, Type, TypeOfAttribute, TypeVariant};
-use cedar_types::Type as Written;
+use cedar_fragments::defs::AllDefs;
+use cedar_fragments::namespace::Written;
+use cedar_names::json_schema::{RawName, RecordType, Type, TypeOfAttribute, TypeVariant};
+use cedar_resolution::DeclaredCommonType;
+use cedar_types::Type as Elaborated;
 use shorthand::checked::{holds, same};
-use shorthand::names::{internal_name, located_at, unreserved_id};
+use shorthand::names::{internal_name, located_at, raw, unreserved_id};
 use shorthand::sample_extensions;
 use std::alloc::Global;
-use std::collections::{BTreeMap, BTreeSet};
+use std::collections::BTreeMap;
 use std::test::Fail;
 
 /// A common type: its name, a form, and the word that the form is of.
@@ -19,19 +23,22 @@ type Row<'a> = (&'a str, &'a str, &'a str);
 /// The entity types of all tests, of which one has a reserved name.
 const ENTITIES: &[&str] = &["User", "Both", "__cedar"];
 
-/// Their names.
-fn entities(alloc: Global) -> Result<BTreeSet<InternalName>, Fail> {
-    let mut names = BTreeSet::new(alloc);
+/// The names of those, and of the common types of some rows.
+fn defined(alloc: Global, rows: &[Row]) -> Result<AllDefs, Fail> {
+    let mut all_defs = AllDefs::new(alloc, &fragments_of(alloc, &[])?)?;
     for word in ENTITIES {
-        names.insert(internal_name(alloc, word)?)?;
+        all_defs.mark_as_defined_as_entity_type(internal_name(alloc, word)?)?;
     }
-    Ok(names)
+    for &(key, _, _) in rows {
+        all_defs.mark_as_defined_as_common_type(internal_name(alloc, key)?)?;
+    }
+    Ok(all_defs)
 }
 
 /// A place of a name that may be that of a common type or of an entity type.
-fn either(alloc: Global, word: &str) -> Result<Type<InternalName>, Fail> {
+fn either(alloc: Global, word: &str) -> Result<Type<RawName>, Fail> {
     let ty = TypeVariant::EntityOrCommon {
-        type_name: internal_name(alloc, word)?,
+        type_name: raw(alloc, word)?,
     };
     Ok(Type::Plain { ty, loc: None })
 }
@@ -43,7 +50,7 @@ const KEYS: &[(&str, bool)] = &[("a@1", true), ("b@2", false)];
 fn attributes(
     alloc: Global,
     word: &str,
-) -> Result<BTreeMap<String, TypeOfAttribute<InternalName>>, Fail> {
+) -> Result<BTreeMap<String, TypeOfAttribute<RawName>>, Fail> {
     let mut attributes = BTreeMap::new(alloc);
     for &(key, required) in KEYS {
         let (key, loc) = located_at(key);
@@ -58,7 +65,7 @@ fn attributes(
 }
 
 /// The record type of those.
-fn record(alloc: Global, word: &str, is_open: bool) -> Result<TypeVariant<InternalName>, Fail> {
+fn record(alloc: Global, word: &str, is_open: bool) -> Result<TypeVariant<RawName>, Fail> {
     Ok(TypeVariant::Record(RecordType {
         attributes: attributes(alloc, word)?,
         additional_attributes: is_open,
@@ -66,13 +73,13 @@ fn record(alloc: Global, word: &str, is_open: bool) -> Result<TypeVariant<Intern
 }
 
 /// The type of a form and a word that is elaborated.
-fn variant(alloc: Global, form: &str, word: &str) -> Result<TypeVariant<InternalName>, Fail> {
+fn variant(alloc: Global, form: &str, word: &str) -> Result<TypeVariant<RawName>, Fail> {
     match form {
         "entity" => Ok(TypeVariant::Entity {
-            name: internal_name(alloc, word)?,
+            name: raw(alloc, word)?,
         }),
         "either" => Ok(TypeVariant::EntityOrCommon {
-            type_name: internal_name(alloc, word)?,
+            type_name: raw(alloc, word)?,
         }),
         "set" => Ok(TypeVariant::Set {
             element: Box::new(alloc, either(alloc, word)?)?,
@@ -87,10 +94,10 @@ fn variant(alloc: Global, form: &str, word: &str) -> Result<TypeVariant<Internal
 }
 
 /// The type of a form and a word.
-fn ty(alloc: Global, form: &str, word: &str) -> Result<Type<InternalName>, Fail> {
+fn ty(alloc: Global, form: &str, word: &str) -> Result<Type<RawName>, Fail> {
     let loc = None;
     if form == "common" {
-        let type_name = internal_name(alloc, word)?;
+        let type_name = raw(alloc, word)?;
         return Ok(Type::CommonTypeRef { type_name, loc });
     }
     let ty = variant(alloc, form, word)?;
@@ -98,16 +105,24 @@ fn ty(alloc: Global, form: &str, word: &str) -> Result<Type<InternalName>, Fail>
 }
 
 /// The common types of some rows, each with its full name, in their order.
-fn declared(alloc: Global, rows: &[Row]) -> Result<Vec<(InternalName, Type<InternalName>)>, Fail> {
+fn declared(alloc: Global, rows: &[Row]) -> Result<Vec<DeclaredCommonType<RawName>>, Fail> {
     let mut types = Vec::new(alloc);
     for &(key, form, word) in rows {
-        types.push((internal_name(alloc, key)?, ty(alloc, form, word)?))?;
+        let declared = ty(alloc, form, word)?;
+        let namespace = None;
+        types.push((
+            internal_name(alloc, key)?,
+            Written {
+                namespace,
+                declared,
+            },
+        ))?;
     }
     Ok(types)
 }
 
 /// Common types as text, each with its name.
-fn listed(alloc: Global, types: &BTreeMap<InternalName, Written>) -> Result<String, Fail> {
+fn listed(alloc: Global, types: &BTreeMap<InternalName, Elaborated>) -> Result<String, Fail> {
     let mut shown = String::new(alloc);
     for (name, ty) in types {
         shown.push_str(format!(in alloc; "{name}={ty};")?.as_str())?;
@@ -119,11 +134,11 @@ fn listed(alloc: Global, types: &BTreeMap<InternalName, Written>) -> Result<Stri
 fn elaborated(
     alloc: Global,
     rows: &[Row],
-) -> Result<Result<BTreeMap<InternalName, Written>, SchemaError>, Fail> {
+) -> Result<Result<BTreeMap<InternalName, Elaborated>, SchemaError>, Fail> {
     let types = declared(alloc, rows)?;
-    let entities = entities(alloc)?;
+    let all_defs = defined(alloc, rows)?;
     let extensions = sample_extensions(alloc)?;
-    Ok(common_types(alloc, &types, &entities, &extensions))
+    Ok(common_types(alloc, &types, &all_defs, &extensions))
 }
 
 /// The common types of some rows as they are elaborated, or why they are refused.

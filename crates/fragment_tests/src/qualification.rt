@@ -1,23 +1,44 @@
 //! What fragments become that are resolved together, and what they are refused for.
 
-use crate::copies::resolved_fragment;
 use crate::declarations::fragments_of;
 use crate::refusals::refusal_text;
+use cedar_below::{EntityType, Extensions, InternalName};
 use cedar_declarations::SchemaError;
-use cedar_resolution::{Resolved, collect_declarations, resolve_fragments};
+use cedar_fragments::defs::{AllDefs, WrittenName};
+use cedar_fragments::namespace::ValidatorSchemaFragment;
+use cedar_resolution::{DefinedNames, collect_declarations, defined_names};
 use shorthand::checked::{holds, same};
 use shorthand::names::internal_name;
 use shorthand::sample_extensions;
 use std::alloc::Global;
 use std::test::Fail;
 
+/// Fragments over full names.
+pub(crate) type Fragments = Vec<ValidatorSchemaFragment<InternalName, EntityType>>;
+
+/// The same fragments, where each name is that of what it resolves to among all that they define
+/// over some extensions.
+pub(crate) fn resolved<N: WrittenName + Drop>(
+    alloc: Global,
+    fragments: Vec<ValidatorSchemaFragment<N, N>>,
+    extensions: &Extensions,
+) -> Result<Fragments, SchemaError> {
+    let declared = AllDefs::new(alloc, &fragments)?;
+    let DefinedNames { defs, .. } = defined_names::<N>(alloc, declared, extensions)?;
+    let mut resolved = Vec::new(alloc);
+    for fragment in fragments {
+        resolved.push(fragment.qualify_within(&defs)?)?;
+    }
+    Ok(resolved)
+}
+
 /// What resolved fragments are shown as, or why they are refused.
 pub(crate) fn shown_or_refused(
     alloc: Global,
-    resolved: Result<Resolved, SchemaError>,
+    resolved: Result<Fragments, SchemaError>,
 ) -> Result<String, Fail> {
     match resolved {
-        Ok(resolved) => Ok(format!(in alloc; "{:?}", resolved.fragments)?),
+        Ok(resolved) => Ok(format!(in alloc; "{resolved:?}")?),
         Err(error) => Ok(refusal_text(alloc, error)?),
     }
 }
@@ -26,7 +47,7 @@ pub(crate) fn shown_or_refused(
 pub(crate) fn outcome(alloc: Global, texts: &[&str]) -> Result<String, Fail> {
     let extensions = sample_extensions(alloc)?;
     let fragments = fragments_of(alloc, texts)?;
-    shown_or_refused(alloc, resolve_fragments(alloc, fragments, &extensions))
+    shown_or_refused(alloc, resolved(alloc, fragments, &extensions))
 }
 
 /// What stands before and after the name of an entity type that an attribute is of.
@@ -182,8 +203,7 @@ fn what_names_nothing_or_shadows_is_refused(rt: HostRuntime) -> Result<(), Fail>
 
 /// How many common types, entity types and actions are collected from the fragment of a text.
 fn collected(alloc: Global, text: &str) -> Result<(usize, usize, usize), Fail> {
-    let fragment = resolved_fragment(alloc, text)?;
-    let declared = collect_declarations(alloc, vec![in alloc; fragment]?)?;
+    let declared = collect_declarations(alloc, fragments_of(alloc, &[text])?)?;
     Ok((
         declared.common_types.len(),
         declared.entity_types.len(),

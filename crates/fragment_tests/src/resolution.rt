@@ -4,7 +4,8 @@ use crate::declarations::fragments_of;
 use crate::refusals::refusal_text;
 use cedar_below::{EntityType, InternalName};
 use cedar_declarations::SchemaError;
-use cedar_fragments::defs::{AllDefs, ResolveName, resolve_all};
+use cedar_fragments::defs::{AllDefs, ResolveName, WrittenName, resolve_all};
+use cedar_fragments::namespace::ActionParent;
 use cedar_names::json_schema::{ConditionalName, QualifyError, ReferenceType};
 use cedar_schema_elements::ValidatorApplySpec;
 use shorthand::checked::same;
@@ -19,11 +20,12 @@ fn reference(alloc: Global, written: &str, kind: ReferenceType) -> Result<Condit
     Ok(raw(alloc, written)?.conditionally_qualify_with(alloc, Some(&inside), kind)?)
 }
 
-/// In the namespace `N` the common type `T`, the entity type `Both` and the common type `Both`; in
-/// the empty namespace the entity types `T` and `Only`; and in a reserved one a common type.
+/// In the namespace `N` the common type `T`, the entity type `Both`, the common type `Both` and the
+/// action `a`; in the empty namespace the entity types `T` and `Only` and the action `b`; and in a
+/// reserved one a common type.
 const DEFINED: &[&str] = &[
     "N: type T = Long; type Both = Long; entity Both; action a",
-    ": entity T; external entity Only",
+    ": entity T; external entity Only; action b",
     "__cedar: type Foo = Long",
 ];
 
@@ -71,6 +73,85 @@ fn references_resolve_to_the_first_that_is_permitted(rt: HostRuntime) -> Result<
     for &(written, kind, expected) in REFERENCES {
         let found = reference(alloc, written, kind)?.resolve(&all_defs);
         same(written, shown(alloc, found)?.as_str(), expected)?;
+    }
+    Ok(())
+}
+
+/// The name of what a name stands for in the namespace `N`, or why the reference that it is there
+/// is refused.
+fn found_within<N: WrittenName>(
+    alloc: Global,
+    name: &N,
+    kind: ReferenceType,
+    all_defs: &AllDefs,
+) -> Result<String, Fail> {
+    let inside = internal_name(alloc, "N")?;
+    match name.resolved_within(kind, Some(&inside), all_defs)? {
+        Some(full) => Ok(full.to_string(alloc)?),
+        None => {
+            let reference = name.reference_within(alloc, kind, Some(&inside))?;
+            shown(alloc, reference.resolve(all_defs))
+        }
+    }
+}
+
+#[test]
+fn names_resolve_where_they_are_written(rt: HostRuntime) -> Result<(), Fail> {
+    let alloc = rt.alloc();
+    let all_defs = AllDefs::new(alloc, &fragments_of(alloc, DEFINED)?)?;
+    for &(written, kind, expected) in REFERENCES {
+        let name = raw(alloc, written)?;
+        let found = found_within(alloc, &name, kind, &all_defs)?;
+        same(written, found.as_str(), expected)?;
+        let reference = reference(alloc, written, kind)?;
+        let found = found_within(alloc, &reference, kind, &all_defs)?;
+        same(written, found.as_str(), expected)?;
+    }
+    Ok(())
+}
+
+/// Parents of actions that are written in the namespace `N`, each an id and the name of a type, with
+/// the action that is named or the refusal.
+const PARENTS: &[(&str, &str, &str)] = &[
+    ("a", "Action", "N::Action::\"a\""),
+    ("b", "Action", "Action::\"b\""),
+    (
+        "b",
+        "N::Action",
+        "no action is declared as \"b\" of type N::Action",
+    ),
+    (
+        "c",
+        "Action",
+        "no action is declared as \"c\" of type N::Action or Action",
+    ),
+];
+
+/// The action that a parent names in the namespace `N`, or why it is refused.
+fn parent_named<N: WrittenName>(
+    alloc: Global,
+    parent: &ActionParent<N>,
+    all_defs: &AllDefs,
+) -> Result<String, Fail> {
+    let inside = internal_name(alloc, "N")?;
+    match parent.named_within(Some(&inside), all_defs) {
+        Ok(uid) => Ok(format!(in alloc; "{uid}")?),
+        Err(error) => Ok(refusal_text(alloc, error)?),
+    }
+}
+
+#[test]
+fn parents_name_actions_where_they_are_written(rt: HostRuntime) -> Result<(), Fail> {
+    let alloc = rt.alloc();
+    let all_defs = AllDefs::new(alloc, &fragments_of(alloc, DEFINED)?)?;
+    for &(id, ty, expected) in PARENTS {
+        let parent = ActionParent {
+            id: String::from_str(alloc, id)?,
+            ty: raw(alloc, ty)?,
+            loc: None,
+        };
+        let found = parent_named(alloc, &parent, &all_defs)?;
+        same(expected, found.as_str(), expected)?;
     }
     Ok(())
 }

@@ -1,12 +1,12 @@
-//! Fragments that are resolved as they are written.
+//! Fragments that are taken over as they are written, and resolved so.
 
 use crate::copies::resolved_fragment;
-use crate::qualification::{REFUSED, SETTLED, outcome, shown_or_refused};
+use crate::qualification::{REFUSED, SETTLED, outcome, resolved, shown_or_refused};
 use crate::shown::shown;
 use cedar_fragments::defs::AllDefs;
 use cedar_fragments::namespace::ValidatorSchemaFragment;
 use cedar_names::json_schema::{Fragment, RawName};
-use cedar_resolution::resolve_written_fragments;
+use cedar_resolution::fragments_as_written;
 use shorthand::checked::same;
 use shorthand::{fragment_of, sample_extensions};
 use std::alloc::Global;
@@ -44,11 +44,11 @@ fn written(alloc: Global, texts: &[&str]) -> Result<Vec<Fragment<RawName>>, Fail
 /// What becomes of the fragments of some texts as they are written.
 fn written_outcome(alloc: Global, texts: &[&str]) -> Result<String, Fail> {
     let extensions = sample_extensions(alloc)?;
-    let fragments = written(alloc, texts)?;
-    shown_or_refused(
-        alloc,
-        resolve_written_fragments(alloc, fragments, &extensions),
-    )
+    let outcome = match fragments_as_written(alloc, written(alloc, texts)?) {
+        Ok(fragments) => resolved(alloc, fragments, &extensions),
+        Err(error) => Err(error),
+    };
+    shown_or_refused(alloc, outcome)
 }
 
 #[test]
@@ -98,11 +98,11 @@ const WRITTEN: &str = ": entity O | N::M: type C = Long; type D = c:C@2; entity 
 /// What the fragment of a text becomes as it is written, with its names resolved among its own.
 fn resolved_as_written(alloc: Global, text: &str) -> Result<String, Fail> {
     let mut fragments = written(alloc, &[text])?;
-    let all_defs = AllDefs::written(alloc, fragments.as_slice())?;
     match fragments.pop() {
         Some(fragment) => {
-            let resolved = ValidatorSchemaFragment::from_written(fragment, &all_defs)?;
-            Ok(shown(alloc, resolved)?)
+            let fragment = ValidatorSchemaFragment::as_written(alloc, fragment)?;
+            let all_defs = AllDefs::single_fragment(alloc, &fragment)?;
+            Ok(shown(alloc, fragment.qualify_within(&all_defs)?)?)
         }
         None => Err(Fail::from("no fragment")),
     }

@@ -1,14 +1,11 @@
 //! What references resolve to.
 
-ghost use Rattle.std.proofs.Common.{refl};
-ghost use Rattle.std.specs.Prelude.{◌≡◌, IfOk, IfErr, MatchOption, Contains, Option, map};
-ghost use Rattle.cedar_fragments.specs.Words.{HoldsPairwise, IsDefined, IsFirst, IsRefused, IsRefusedAmong, PlainName, Reference, ReferenceType, ResolvesTo, StandsWhere, conditional_reference, held_names, name_of, names_of, namespace_name, positional_reference, raw_reference};
+ghost use Rattle.std.specs.Prelude.{IfOk, IfErr, MatchOption, Contains, map};
+ghost use Rattle.cedar_fragments.specs.Words.{HoldsPairwise, IsDefined, IsFirst, IsRefused, IsRefusedAmong, PlainName, Reference, ResolvesTo, StandsWhere, conditional_reference, held_names, name_of, names_of, positional_reference};
 
 use crate::defs::all_defs::AllDefs;
 use cedar_below::{InternalName, M, NonEmpty};
-use cedar_names::json_schema::{
-    ConditionalName, QualifyError, RawName, ReferenceType, TypeNotDefinedError,
-};
+use cedar_names::json_schema::{ConditionalName, QualifyError, ReferenceType, TypeNotDefinedError};
 
 /// The name as it was declared in a kind that a reference of the kind permits, if it was.
 fn declared<'a>(
@@ -116,63 +113,6 @@ impl ResolveName for ConditionalName {
     fn resolve(self, all_defs: &AllDefs) -> Result<InternalName, QualifyError> {
         let kind = *self.reference_type();
         resolve_at(self, kind, all_defs)
-    }
-}
-
-/// Names that resolve where they are written in a namespace, at a position that permits some kinds.
-///
-/// The ghost members say what a name refers to there, and that its kind is that of the position.
-pub(crate) trait ResolveWithin: Sized {
-    ghost refer: { Option PlainName → ReferenceType → Self → Reference };
-
-    ghost keeps_kind: { (namespace : Option PlainName) (kind : ReferenceType) (name : Self)
-        → (refer namespace kind name).kind ≡ kind };
-
-    /// The full name of what the name stands for at a position of the kind in the namespace. It is
-    /// refused with `TypeNotDefined`, which holds the reference itself, if there is none, or with
-    /// `Memory` if memory runs out.
-    fn resolve_within(
-        self,
-        kind: ReferenceType,
-        namespace: Option<&InternalName>,
-        all_defs: &AllDefs,
-    ) -> Result<InternalName, QualifyError>
-        ensures resolved { IfOk result (λ found. ResolvesTo (held_names all_defs.now)
-            (refer (namespace_name namespace.entry) kind self) (name_of found)) }
-        ensures refused { IfErr result (IsRefused (held_names all_defs.now)
-            (refer (namespace_name namespace.entry) kind self)) };
-}
-
-impl ResolveWithin for ConditionalName {
-    ghost refer = { λ _. positional_reference };
-
-    ghost keeps_kind = { λ _ _ _. refl };
-
-    /// What one of the possibilities stands for, whatever the namespace.
-    fn resolve_within(
-        self,
-        kind: ReferenceType,
-        _namespace: Option<&InternalName>,
-        all_defs: &AllDefs,
-    ) -> Result<InternalName, QualifyError> {
-        resolve_at(self, kind, all_defs)
-    }
-}
-
-impl ResolveWithin for RawName {
-    ghost refer = { raw_reference };
-
-    ghost keeps_kind = { λ _ _ _. refl };
-
-    /// What the name stands for where it is written in the namespace.
-    fn resolve_within(
-        self,
-        kind: ReferenceType,
-        namespace: Option<&InternalName>,
-        all_defs: &AllDefs,
-    ) -> Result<InternalName, QualifyError> {
-        let name = self.conditionally_qualify_with(all_defs.alloc, namespace, kind)?;
-        resolve_at(name, kind, all_defs)
     }
 }
 

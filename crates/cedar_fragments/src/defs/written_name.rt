@@ -1,14 +1,16 @@
 //! Names that are looked up where they are written.
 
 ghost use Rattle.std.proofs.Common.{refl};
-ghost use Rattle.std.specs.Prelude.{◌≡◌, ◌∷◌, [], Contains, IfOk, MatchOption, Option};
-ghost use Rattle.cedar_fragments.specs.Words.{IsDefined, IsFirst, IsUnresolved, PlainName, Reference, ReferenceType, ResolvesTo, conditional_reference, held_names, name_of, namespace_name, positional_reference, raw_reference};
+ghost use Rattle.std.specs.Prelude.{◌≡◌, ◌∷◌, [], Contains, IfErr, IfOk, MatchOption, Option};
+ghost use Rattle.cedar_fragments.specs.Words.{IsDefined, IsFirst, IsRefused, IsUnresolved, PlainName, Reference, ReferenceType, ResolvesTo, conditional_reference, held_names, name_of, namespace_name, positional_reference, raw_reference};
 
 use crate::defs::all_defs::AllDefs;
 use crate::defs::resolve::{first_defined, shared_name};
 use crate::namespace::name_in;
-use cedar_below::{InternalName, M};
-use cedar_names::json_schema::{ConditionalName, RawName, ReferenceType};
+use cedar_below::{InternalName, M, NonEmpty};
+use cedar_names::json_schema::{
+    ConditionalName, QualifyError, RawName, ReferenceType, TypeNotDefinedError,
+};
 use std::alloc::Global;
 
 /// Names that are looked up in the namespace that they are written in, at a position that permits
@@ -127,5 +129,30 @@ impl WrittenName for RawName {
     ) -> M<ConditionalName> {
         self.clone()?
             .conditionally_qualify_with(alloc, namespace, kind)
+    }
+}
+
+/// The full name of what a name that is written in the namespace stands for, at a position of the
+/// kind. It is refused with `TypeNotDefined`, which holds the reference itself, if there is none,
+/// or with `Memory` if memory runs out.
+pub(crate) fn resolve_within<N: WrittenName>(
+    name: &N,
+    kind: ReferenceType,
+    namespace: Option<&InternalName>,
+    all_defs: &AllDefs,
+) -> Result<InternalName, QualifyError>
+    ensures resolved { IfOk result (λ found. ResolvesTo (held_names all_defs.now)
+        (N.refer (namespace_name namespace.entry) kind name.now) (name_of found)) }
+    ensures refused { IfErr result (IsRefused (held_names all_defs.now)
+        (N.refer (namespace_name namespace.entry) kind name.now)) }
+{
+    match name.resolved_within(kind, namespace, all_defs)? {
+        Some(found) => Ok(found),
+        None => Err(QualifyError::TypeNotDefined(TypeNotDefinedError {
+            undefined_types: NonEmpty {
+                head: name.reference_within(all_defs.alloc, kind, namespace)?,
+                tail: Vec::new(all_defs.alloc),
+            },
+        })),
     }
 }

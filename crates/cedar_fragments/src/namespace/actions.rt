@@ -88,41 +88,36 @@ fn action_id(alloc: Global) -> M<Id>
     identifier(alloc, "Action")
 }
 
-/// A reference to a parent of an action, by a name that is written in a namespace.
-fn action_parent(
-    alloc: Global,
-    namespace: Option<&InternalName>,
-    written: ActionEntityUID<RawName>,
-) -> M<ActionParent<ConditionalName>>
-    ensures { IfOk result (λ it. fragment_parent Conditional positional_reference it
-        ≡ parent_action Raw (raw_reference (namespace_name namespace.entry))
-        (namespace_name namespace.entry) written) }
+/// A parent of an action by the name that is written of its type; where none is, by the base name
+/// of all types of actions.
+fn written_parent(alloc: Global, written: ActionEntityUID<RawName>) -> M<ActionParent<RawName>>
+    ensures { IfOk result (λ it. (namespace : Option PlainName)
+        → fragment_parent Raw (raw_reference namespace) it
+        ≡ parent_action Raw (raw_reference namespace) namespace written) }
 {
     let ActionEntityUID { id, ty, loc } = written;
-    let name = match ty {
+    let ty = match ty {
         Some(name) => name,
         None => RawName::new(InternalName::new(action_id(alloc)?, Vec::new(alloc), loc)),
     };
-    let ty = name.conditionally_qualify_with(alloc, namespace, ReferenceType::Entity)?;
     Ok(ActionParent { id, ty, loc })
 }
 
-/// References to the parents of an action; none where none are written.
-fn action_parents(
+/// The parents of an action, by the names that are written; none where none are.
+fn written_parents(
     alloc: Global,
-    namespace: Option<&InternalName>,
     written: Option<Vec<ActionEntityUID<RawName>>>,
-) -> M<Vec<ActionParent<ConditionalName>>>
-    ensures { IfOk result (λ it. map (fragment_parent Conditional positional_reference) it.items
-        ≡ parent_actions Raw (raw_reference (namespace_name namespace.entry))
-        (namespace_name namespace.entry) written) }
+) -> M<Vec<ActionParent<RawName>>>
+    ensures { IfOk result (λ it. (namespace : Option PlainName)
+        → map (fragment_parent Raw (raw_reference namespace)) it.items
+        ≡ parent_actions Raw (raw_reference namespace) namespace written) }
 {
-    let mut parents = Vec::new(alloc);
     let Some(written) = written else {
-        return Ok(parents);
+        return Ok(Vec::new(alloc));
     };
+    let mut parents = Vec::with_capacity(alloc, written.len())?;
     for parent in written {
-        parents.push(action_parent(alloc, namespace, parent)?)?;
+        parents.push(written_parent(alloc, parent)?)?;
     }
     Ok(parents)
 }
@@ -164,20 +159,13 @@ fn written_requests(alloc: Global, written: Option<ApplySpec<RawName>>) -> Actio
     }
 }
 
-impl ActionFragment<RawName, ConditionalName> {
-    /// What is declared of an action without attributes that is written in a namespace, by the
-    /// names that are written, and references to its parents.
-    pub(crate) fn as_written(
-        alloc: Global,
-        namespace: Option<&InternalName>,
-        written: ActionType<RawName>,
-    ) -> M<Self>
+impl ActionFragment<RawName, RawName> {
+    /// What is declared of an action without attributes, by the names that are written.
+    pub(crate) fn as_written(alloc: Global, written: ActionType<RawName>) -> M<Self>
         requires { written.attributes ≡ None }
-        ensures { IfOk result (λ it.
-            action_fragment_body Raw (raw_reference (namespace_name namespace.entry)) Conditional
-            positional_reference it
-            ≡ action_body Raw (raw_reference (namespace_name namespace.entry))
-            (namespace_name namespace.entry) written) }
+        ensures { IfOk result (λ it. (namespace : Option PlainName)
+            → action_fragment_body Raw (raw_reference namespace) Raw (raw_reference namespace) it
+            ≡ action_body Raw (raw_reference namespace) namespace written) }
     {
         let ActionType {
             applies_to,
@@ -186,7 +174,7 @@ impl ActionFragment<RawName, ConditionalName> {
             loc,
             ..
         } = written;
-        let parents = action_parents(alloc, namespace, member_of)?;
+        let parents = written_parents(alloc, member_of)?;
         let requests = if external {
             None
         } else {
@@ -198,6 +186,25 @@ impl ActionFragment<RawName, ConditionalName> {
             loc,
         })
     }
+}
+
+/// References to the parents of an action, by names that are written in a namespace.
+fn conditional_parents(
+    alloc: Global,
+    namespace: Option<&InternalName>,
+    written: Vec<ActionParent<RawName>>,
+) -> M<Vec<ActionParent<ConditionalName>>>
+    ensures { IfOk result (λ it. map (fragment_parent Conditional positional_reference) it.items
+        ≡ map (fragment_parent Raw (raw_reference (namespace_name namespace.entry)))
+        written.items) }
+{
+    let mut parents = Vec::with_capacity(alloc, written.len())?;
+    for parent in written {
+        let ActionParent { id, ty, loc } = parent;
+        let ty = ty.conditionally_qualify_with(alloc, namespace, ReferenceType::Entity)?;
+        parents.push(ActionParent { id, ty, loc })?;
+    }
+    Ok(parents)
 }
 
 /// The requests of an action by references, of those by names that are written in a namespace.
@@ -242,7 +249,8 @@ impl ActionFragment<ConditionalName, ConditionalName> {
             requests,
             parents,
             loc,
-        } = ActionFragment::as_written(alloc, namespace, written)?;
+        } = ActionFragment::as_written(alloc, written)?;
+        let parents = conditional_parents(alloc, namespace, parents)?;
         let requests = match requests {
             None => None,
             Some(requests) => Some(conditional_requests(alloc, namespace, requests)?),

@@ -1,8 +1,7 @@
 //! Fragments and definitions taken apart, so that what they declare can be moved out of them.
 
 ghost use Rattle.std.specs.Prelude.{◌≡◌, ◌++◌, map};
-ghost use Rattle.std.specs.List.{flat_map};
-ghost use Rattle.cedar_fragments.specs.Words.{Reference, action_fragment_declaration, action_fragment_declarations, common_type_declaration, common_type_declarations, definition_declarations, entity_type_declaration, entity_type_declarations, fragment_declarations};
+ghost use Rattle.cedar_fragments.specs.Words.{Reference, action_fragment_declaration, action_fragment_declarations, common_type_declaration, common_type_declarations, definition_declarations, entity_type_declaration, entity_type_declarations, fragment_definitions};
 ghost use Rattle.cedar_names.specs.declared.json_schema.reference_type.ReferenceType.{ReferenceType as Kind};
 
 use crate::namespace::action_def::ActionDef;
@@ -16,9 +15,7 @@ use crate::namespace::fragment::ValidatorSchemaFragment;
 impl<N, A> ValidatorSchemaFragment<N, A> {
     /// The definitions, in order.
     pub fn into_definitions(self) -> Vec<ValidatorNamespaceDef<N, A>>
-        ensures { (refer : Kind → N → Reference) (refer_action : Kind → A → Reference)
-            → fragment_declarations N refer A refer_action self
-            ≡ flat_map (definition_declarations N refer A refer_action) result.items }
+        ensures { result.items ≡ fragment_definitions N A self }
     {
         self.definitions
     }

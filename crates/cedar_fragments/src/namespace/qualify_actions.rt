@@ -8,7 +8,7 @@ ghost use Rattle.cedar_below.specs.declared.internal_name.InternalName.{Internal
 ghost use Rattle.cedar_names.specs.declared.json_schema.conditional_name.ConditionalName.{ConditionalName as Conditional};
 ghost use Rattle.cedar_names.specs.declared.json_schema.reference_type.ReferenceType.TheVariants.{Entity as entity};
 
-use crate::defs::{AllDefs, ResolveWithin};
+use crate::defs::{AllDefs, WrittenName};
 use crate::namespace::action_def::ActionDef;
 use crate::namespace::actions::{ActionFragment, ActionParent, ActionRequests, ActionsDef};
 use crate::namespace::qualify_types::{qualify_entity_types, qualify_type};
@@ -38,7 +38,7 @@ fn action_type(name: &InternalName, id: &String, all_defs: &AllDefs) -> M<Option
 }
 
 /// The type of the first action that has the id and a type of some names, if there is one.
-fn first_action_type(
+pub(crate) fn first_action_type(
     names: &NonEmpty<InternalName>,
     id: &String,
     all_defs: &AllDefs,
@@ -62,62 +62,65 @@ fn first_action_type(
     Ok(None)
 }
 
-/// The same parent of an action, by the type of the action that it names.
-fn qualify_parent(
-    parent: ActionParent<ConditionalName>,
+/// The same parent of an action, by the type of the action that it names, whose type is written in
+/// the namespace.
+fn qualify_parent<N: WrittenName + Drop>(
+    parent: ActionParent<N>,
+    namespace: Option<&InternalName>,
     all_defs: &AllDefs,
 ) -> Result<ActionParent<EntityType>, SchemaError>
     ensures resolved { IfOk result (λ it. ResolvesParent (held_names all_defs.now)
-        (fragment_parent Conditional positional_reference parent)
+        (fragment_parent N (N.refer (namespace_name namespace.entry)) parent)
         (fragment_parent ActionEntityType resolved_action_type it)) }
     ensures locs { IfOk result (λ it.
-        parent_locs ActionEntityType no_locs it ≡ parent_locs Conditional no_locs parent) }
+        parent_locs ActionEntityType no_locs it ≡ parent_locs N no_locs parent) }
     ensures fault { IfErr result (λ error. IsUnresolvable (held_names all_defs.now)
-        (λ reference. ⊥) (λ it. fragment_parent Conditional positional_reference parent ≡ it)
+        (λ reference. ⊥)
+        (λ it. fragment_parent N (N.refer (namespace_name namespace.entry)) parent ≡ it)
         (λ reference. ⊥) (fault_of error)) }
 {
     let ActionParent { id, ty, loc } = parent;
-    match first_action_type(ty.possibilities(), &id, all_defs)? {
+    let kind = ReferenceType::Entity;
+    let reference = ty.reference_within(all_defs.alloc, kind, namespace)?;
+    match first_action_type(reference.possibilities(), &id, all_defs)? {
         Some(ty) => Ok(ActionParent { id, ty, loc }),
-        None => {
-            let ty = ConditionalName::new(ty.into_possibilities(), ReferenceType::Entity);
-            Err(SchemaError::ActionNotDefined(NonEmpty {
-                head: ActionEntityUID {
-                    id,
-                    ty: Some(ty),
-                    loc,
-                },
-                tail: Vec::new(all_defs.alloc),
-            }))
-        }
+        None => Err(SchemaError::ActionNotDefined(NonEmpty {
+            head: ActionEntityUID {
+                id,
+                ty: Some(reference),
+                loc,
+            },
+            tail: Vec::new(all_defs.alloc),
+        })),
     }
 }
 
 /// The same parents of an action, by the types of the actions that they name.
-fn qualify_parents(
-    parents: Vec<ActionParent<ConditionalName>>,
+fn qualify_parents<N: WrittenName + Drop>(
+    parents: Vec<ActionParent<N>>,
+    namespace: Option<&InternalName>,
     all_defs: &AllDefs,
 ) -> Result<Vec<ActionParent<EntityType>>, SchemaError>
     ensures resolved { IfOk result (λ it. HoldsPairwise (ResolvesParent (held_names all_defs.now))
-        (map (fragment_parent Conditional positional_reference) parents.items)
+        (map (fragment_parent N (N.refer (namespace_name namespace.entry))) parents.items)
         (map (fragment_parent ActionEntityType resolved_action_type) it.items)) }
     ensures locs { IfOk result (λ it. flat_map (parent_locs ActionEntityType no_locs) it.items
-        ≡ flat_map (parent_locs Conditional no_locs) parents.items) }
+        ≡ flat_map (parent_locs N no_locs) parents.items) }
     ensures fault { IfErr result (λ error. IsUnresolvable (held_names all_defs.now)
         (λ reference. ⊥) (Contains (map
-        (fragment_parent Conditional positional_reference) parents.items)) (λ reference.
-        ⊥) (fault_of error)) }
+        (fragment_parent N (N.refer (namespace_name namespace.entry))) parents.items))
+        (λ reference. ⊥) (fault_of error)) }
 {
-    let mut qualified = Vec::new(all_defs.alloc);
+    let mut qualified = Vec::with_capacity(all_defs.alloc, parents.len())?;
     for parent in parents {
-        qualified.push(qualify_parent(parent, all_defs)?)?;
+        qualified.push(qualify_parent(parent, namespace, all_defs)?)?;
     }
     Ok(qualified)
 }
 
 /// The names of the entity types that principals or resources resolve to, which must not be
 /// reserved.
-fn qualify_requested<N: ResolveWithin + Drop>(
+fn qualify_requested<N: WrittenName + Drop>(
     names: Vec<N>,
     namespace: Option<&InternalName>,
     all_defs: &AllDefs,
@@ -145,7 +148,7 @@ fn qualify_requested<N: ResolveWithin + Drop>(
 }
 
 /// The same requests of an action, where each name is that of what it resolves to.
-fn qualify_requests<N: ResolveWithin + Drop>(
+fn qualify_requests<N: WrittenName + Drop>(
     requests: ActionRequests<N>,
     namespace: Option<&InternalName>,
     all_defs: &AllDefs,
@@ -181,7 +184,7 @@ fn qualify_requests<N: ResolveWithin + Drop>(
     })
 }
 
-impl<N: ResolveWithin + Drop> ActionFragment<N, ConditionalName> {
+impl<N: WrittenName + Drop> ActionFragment<N, N> {
     /// The same action, where each name that is written in the namespace is that of what it
     /// resolves to.
     pub(crate) fn qualify_within(
@@ -190,27 +193,27 @@ impl<N: ResolveWithin + Drop> ActionFragment<N, ConditionalName> {
         all_defs: &AllDefs,
     ) -> Result<ActionFragment<InternalName, EntityType>, SchemaError>
         ensures resolved { IfOk result (λ it. ResolvesBody (held_names all_defs.now)
-            (action (action_fragment_body N (N.refer (namespace_name namespace.entry)) Conditional
-            positional_reference self))
+            (action (action_fragment_body N (N.refer (namespace_name namespace.entry)) N
+            (N.refer (namespace_name namespace.entry)) self))
             (action (action_fragment_body Full resolved_reference ActionEntityType
             resolved_action_type it))) }
         ensures locs { IfOk result (λ it.
             action_fragment_locs Full no_locs ActionEntityType no_locs it
-            ≡ action_fragment_locs N no_locs Conditional no_locs self) }
+            ≡ action_fragment_locs N no_locs N no_locs self) }
         ensures unreserved { OnOk result (NoneIsReserved (held_names all_defs.now)
             (IsRequestedIn
-            (action (action_fragment_body N (N.refer (namespace_name namespace.entry)) Conditional
-            positional_reference self)))) }
+            (action (action_fragment_body N (N.refer (namespace_name namespace.entry)) N
+            (N.refer (namespace_name namespace.entry)) self)))) }
         ensures fault { IfErr result (λ error. IsUnresolvableIn (held_names all_defs.now)
-            (action (action_fragment_body N (N.refer (namespace_name namespace.entry)) Conditional
-            positional_reference self)) (fault_of error)) }
+            (action (action_fragment_body N (N.refer (namespace_name namespace.entry)) N
+            (N.refer (namespace_name namespace.entry)) self)) (fault_of error)) }
     {
         let ActionFragment {
             requests,
             parents,
             loc,
         } = self;
-        let parents = qualify_parents(parents, all_defs)?;
+        let parents = qualify_parents(parents, namespace, all_defs)?;
         let requests = match requests {
             None => None,
             Some(requests) => Some(qualify_requests(requests, namespace, all_defs)?),
@@ -256,6 +259,39 @@ impl ActionFragment<ConditionalName, ConditionalName> {
     }
 }
 
+impl<N: WrittenName + Drop> ActionsDef<N, N> {
+    /// The same actions, where each name that is written in the namespace is that of what it
+    /// resolves to.
+    pub(crate) fn qualify_within(
+        self,
+        namespace: Option<&InternalName>,
+        all_defs: &AllDefs,
+    ) -> Result<ActionsDef<InternalName, EntityType>, SchemaError>
+        ensures resolved { IfOk result (λ it. ResolvesBag (held_names all_defs.now)
+            (action_fragment_declarations N (N.refer (namespace_name namespace.entry)) N
+            (N.refer (namespace_name namespace.entry)) self)
+            (action_fragment_declarations Full resolved_reference ActionEntityType
+            resolved_action_type it)) }
+        ensures locs { IfOk result (λ it. actions_locs Full no_locs ActionEntityType no_locs it
+            ≡ actions_locs N no_locs N no_locs self) }
+        ensures unreserved { OnOk result (NoneIsReserved (held_names all_defs.now)
+            (IsRequested
+            (action_fragment_declarations N (N.refer (namespace_name namespace.entry)) N
+            (N.refer (namespace_name namespace.entry)) self))) }
+        ensures fault { IfErr result (λ error. IsUnresolvableBag (held_names all_defs.now)
+            (action_fragment_declarations N (N.refer (namespace_name namespace.entry)) N
+            (N.refer (namespace_name namespace.entry)) self) (fault_of error)) }
+    {
+        let mut defs = Vec::with_capacity(all_defs.alloc, self.defs.len())?;
+        for def in self.defs {
+            let ActionDef { uid, fragment } = def;
+            let fragment = fragment.qualify_within(namespace, all_defs)?;
+            defs.push(ActionDef { uid, fragment })?;
+        }
+        Ok(ActionsDef { defs })
+    }
+}
+
 impl ActionsDef<ConditionalName, ConditionalName> {
     /// The same actions, where each name is that of what it resolves to.
     ///
@@ -284,12 +320,6 @@ impl ActionsDef<ConditionalName, ConditionalName> {
             (action_fragment_declarations Conditional positional_reference Conditional
             positional_reference self) (fault_of error)) }
     {
-        let mut defs = Vec::new(all_defs.alloc);
-        for def in self.defs {
-            let ActionDef { uid, fragment } = def;
-            let fragment = fragment.fully_qualify_type_references(all_defs)?;
-            defs.push(ActionDef { uid, fragment })?;
-        }
-        Ok(ActionsDef { defs })
+        self.qualify_within(None, all_defs)
     }
 }

@@ -5,7 +5,7 @@ ghost use Rattle.cedar_fragments.specs.Words.{HoldsPairwise, IsRefusedAmong, Ref
 ghost use Rattle.cedar_below.specs.declared.internal_name.InternalName.{InternalName as Full};
 ghost use Rattle.cedar_names.specs.declared.json_schema.reference_type.ReferenceType.TheVariants.{Entity as entity};
 
-use crate::defs::{AllDefs, ResolveWithin};
+use crate::defs::{AllDefs, WrittenName, resolve_within};
 use cedar_below::{InternalName, put};
 use cedar_names::json_schema::{
     QualifyError, RecordType, ReferenceType, Type, TypeOfAttribute, TypeVariant,
@@ -15,7 +15,7 @@ use std::collections::BTreeMap;
 /// The same type, where each name is that of what it resolves to. It is refused with
 /// `TypeNotDefined` if a name resolves to nothing.
 #[cycle(qualify)]
-pub(crate) fn qualify_type<N: ResolveWithin + Drop>(
+pub(crate) fn qualify_type<N: WrittenName + Drop>(
     ty: Type<N>,
     namespace: Option<&InternalName>,
     all_defs: &AllDefs,
@@ -32,7 +32,7 @@ pub(crate) fn qualify_type<N: ResolveWithin + Drop>(
             Ok(Type::Plain { ty, loc })
         }
         Type::CommonTypeRef { type_name, loc } => {
-            let type_name = type_name.resolve_within(ReferenceType::Common, namespace, all_defs)?;
+            let type_name = resolve_within(&type_name, ReferenceType::Common, namespace, all_defs)?;
             Ok(Type::CommonTypeRef { type_name, loc })
         }
     }
@@ -40,7 +40,7 @@ pub(crate) fn qualify_type<N: ResolveWithin + Drop>(
 
 /// The type variant, with each name that of what it resolves to.
 #[cycle(qualify)]
-fn qualify_variant<N: ResolveWithin + Drop>(
+fn qualify_variant<N: WrittenName + Drop>(
     ty: TypeVariant<N>,
     namespace: Option<&InternalName>,
     all_defs: &AllDefs,
@@ -65,11 +65,12 @@ fn qualify_variant<N: ResolveWithin + Drop>(
             Ok(TypeVariant::Record(record_type))
         }
         TypeVariant::Entity { name } => {
-            let name = name.resolve_within(ReferenceType::Entity, namespace, all_defs)?;
+            let name = resolve_within(&name, ReferenceType::Entity, namespace, all_defs)?;
             Ok(TypeVariant::Entity { name })
         }
         TypeVariant::EntityOrCommon { type_name } => {
-            let type_name = type_name.resolve_within(
+            let type_name = resolve_within(
+                &type_name,
                 ReferenceType::CommonOrEntity,
                 namespace,
                 all_defs,
@@ -82,7 +83,7 @@ fn qualify_variant<N: ResolveWithin + Drop>(
 
 /// The record type, with each name in its attributes that of what it resolves to.
 #[cycle(qualify)]
-fn qualify_record<N: ResolveWithin + Drop>(
+fn qualify_record<N: WrittenName + Drop>(
     record_type: RecordType<N>,
     namespace: Option<&InternalName>,
     all_defs: &AllDefs,
@@ -113,7 +114,7 @@ fn qualify_record<N: ResolveWithin + Drop>(
 
 /// The names of the entity types that some names resolve to. It is refused with `TypeNotDefined` if
 /// one resolves to none.
-pub(crate) fn qualify_entity_types<N: ResolveWithin + Drop>(
+pub(crate) fn qualify_entity_types<N: WrittenName + Drop>(
     names: Vec<N>,
     namespace: Option<&InternalName>,
     all_defs: &AllDefs,
@@ -128,7 +129,7 @@ pub(crate) fn qualify_entity_types<N: ResolveWithin + Drop>(
 {
     let mut qualified = Vec::with_capacity(all_defs.alloc, names.len())?;
     for name in names {
-        qualified.push(name.resolve_within(ReferenceType::Entity, namespace, all_defs)?)?;
+        qualified.push(resolve_within(&name, ReferenceType::Entity, namespace, all_defs)?)?;
     }
     Ok(qualified)
 }

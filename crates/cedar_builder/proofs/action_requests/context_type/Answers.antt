@@ -4,7 +4,7 @@ use Rattle.cedar_builder.specs.Words.{context_not_record, ty_of}
 use Rattle.cedar_builder.proofs.action_requests.context_type.Goals as goal
 
 pub returns-clause-fault : goal.returns-clause-fault
-returns-clause-fault c = inr (inr (
+returns-clause-fault g c = inr (inr (
   ap context_not_record c.in_ok-clone.ensures.uid,
   (
     ty_of c.in_ok-elaborated.elaborated,

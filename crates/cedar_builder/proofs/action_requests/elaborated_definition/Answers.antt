@@ -1,61 +1,65 @@
-use Rattle.std.proofs.Common.{map, ◌∙◌, inl, inr, refl}
+use Rattle.std.proofs.Common.{map, inl, inr, refl}
 use Rattle.std.proofs.IntoIterSteps.{All-taken}
-use Rattle.cedar_builder.specs.Words.{Entity, action_of, fault_of, kind_principals, kind_resources, name_of, names_in, resolved_expr, resolved_reference, ty_of, uid_of}
-use Rattle.cedar_builder.proofs.ActionsElaborated.{SameItems-none, kind_elaborated, name_among, named_by, principals_fault, resources_fault}
+use Rattle.cedar_builder.specs.Words.{Entity, action_of, fault_of, held_names, kind_principals, kind_resources, names_in, namespace_name, ty_of, type_expr, uid_of}
+use Rattle.cedar_builder.proofs.ActionsElaborated.{SameItems-none, kind_elaborated, named_by, principals_fault, resources_fault}
 use Rattle.cedar_fragments.proofs.FragmentLemmas.{exit_holds}
 use Rattle.cedar_builder.proofs.action_requests.elaborated_definition.Goals as goal
 
 -- a context is refused for its types, or as it is no record type
 pub returns-in_err-context-clause-fault : goal.returns-in_err-context-clause-fault
-returns-in_err-context-clause-fault c =
+returns-in_err-context-clause-fault g c =
+    let refer = g.N.WrittenName.refer (namespace_name c.args.namespace) in
     let it = c.args.requests.now in
     exit_holds _ _ _ c.from_residual.ensures.1
     (elim c.in_err-context.ensures.fault [
       | inl wanting ↦ inl wanting
-      | inr (inl refused) ↦ inr (inl (resolved_expr it.context, refl, refused))
+      | inr (inl refused) ↦ inr (inl (type_expr g.row.N.Denot refer it.context, refl, refused))
       | inr (inr none) ↦ inr (inr (inl none))
     ])
 
 -- a fault of the principals is one of the requests
 pub returns-in_err-principals-clause-fault : goal.returns-in_err-principals-clause-fault
-returns-in_err-principals-clause-fault c =
+returns-in_err-principals-clause-fault g c =
+    let refer = g.N.WrittenName.refer (namespace_name c.args.namespace) in
     let types = names_in c.args.entity_types.now in
     let fault = fault_of c.in_err-principals.field-0.0 in
     let it = c.args.requests.now in
     exit_holds _ _ _ c.from_residual-in_err-principals.ensures.1
-    (principals_fault c.args.scope.now types (uid_of c.args.uid) (map (resolved_reference Entity) it.principals.items)
-    (map (resolved_reference Entity) it.resources.items) (resolved_expr it.context) fault
+    (principals_fault c.args.scope.now types (uid_of c.args.uid) (map (refer Entity) it.principals.items)
+    (map (refer Entity) it.resources.items) (type_expr g.row.N.Denot refer it.context) fault
     (rw c.deref.ensures.value at c.in_err-principals.ensures.fault))
 
 -- so is one of the resources
 pub returns-in_err-resources-clause-fault : goal.returns-in_err-resources-clause-fault
-returns-in_err-resources-clause-fault c =
+returns-in_err-resources-clause-fault g c =
+    let refer = g.N.WrittenName.refer (namespace_name c.args.namespace) in
     let types = names_in c.args.entity_types.now in
     let fault = fault_of c.in_err-resources.field-0.0 in
     let it = c.args.requests.now in
     exit_holds _ _ _ c.from_residual-in_err-resources.ensures.1
-    (resources_fault c.args.scope.now types (uid_of c.args.uid) (map (resolved_reference Entity) it.principals.items)
-    (map (resolved_reference Entity) it.resources.items) (resolved_expr it.context) fault
+    (resources_fault c.args.scope.now types (uid_of c.args.uid) (map (refer Entity) it.principals.items)
+    (map (refer Entity) it.resources.items) (type_expr g.row.N.Denot refer it.context) fault
     (rw c.deref-2.ensures.value at c.in_err-resources.ensures.fault))
 
 -- principals, resources and context are those that are declared
 pub returns-clause-elaborates : goal.returns-clause-elaborates
-returns-clause-elaborates c =
+returns-clause-elaborates g c =
+    let refer = g.N.WrittenName.refer (namespace_name c.args.namespace) in
+    let held = held_names c.args.scope.now.defs.now in
     let made = c.in_ok-new_defined in
     let it = c.args.requests.now in
     let kind = (action_of made.field-0).kind in
     let from = made.ensures.descendants in
     let of_principals = made.ensures.principals in
     let of_resources = made.ensures.resources in
+    let principals = map (refer Entity) it.principals.items in
+    let resources = map (refer Entity) it.resources.items in
     record {
       uid = made.ensures.uid;
-      kind = kind_elaborated c.args.scope.now (map (resolved_reference Entity) it.principals.items)
-          (map (resolved_reference Entity) it.resources.items) (resolved_expr it.context) (ty_of c.in_ok-context.context) kind
-          (named_by it.principals.items c.in_ok-principals.principals.items (kind_principals kind)
-          (c.in_ok-principals.ensures.names ∙ (λ i. map name_of (c.deref.ensures.value i)))
+      kind = kind_elaborated c.args.scope.now principals resources (type_expr g.row.N.Denot refer it.context) (ty_of c.in_ok-context.context) kind
+          (named_by held principals c.in_ok-principals.principals.items (kind_principals kind) (rw c.deref.ensures.value at c.in_ok-principals.ensures.names)
           (rw (All-taken of_principals.0 of_principals.1 of_principals.3, of_principals.2.0) at of_principals.4))
-          (named_by it.resources.items c.in_ok-resources.resources.items (kind_resources kind)
-          (c.in_ok-resources.ensures.names ∙ (λ i. map name_of (c.deref-2.ensures.value i)))
+          (named_by held resources c.in_ok-resources.resources.items (kind_resources kind) (rw c.deref-2.ensures.value at c.in_ok-resources.ensures.names)
           (rw (All-taken of_resources.0 of_resources.1 of_resources.3, of_resources.2.0) at of_resources.4))
           made.ensures.context c.in_ok-context.ensures.elaborates;
       no_descendants = SameItems-none (action_of made.field-0).descendants
@@ -64,16 +68,13 @@ returns-clause-elaborates c =
 
 -- the context is closed, and the types are declared
 pub returns-clause-sound : goal.returns-clause-sound
-returns-clause-sound c =
-    let it = c.args.requests.now in
-    record {
-      closed = λ expr counts. rw counts at c.in_ok-context.ensures.closed;
-      extensions = λ expr counts. rw counts at c.in_ok-context.ensures.extensions;
-      record_context = (ty_of c.in_ok-context.context, c.in_ok-context.ensures.elaborates, c.in_ok-context.ensures.is_record);
-      entity_types = λ name place. elim place [
-        | inl principal ↦ (rw c.deref.ensures.value at c.in_ok-principals.ensures.declared) name
-            (name_among it.principals.items name principal)
-        | inr resource ↦ (rw c.deref-2.ensures.value at c.in_ok-resources.ensures.declared) name
-            (name_among it.resources.items name resource)
-      ];
-    }
+returns-clause-sound g c = record {
+  closed = λ expr counts. rw counts at c.in_ok-context.ensures.closed;
+  extensions = λ expr counts. rw counts at c.in_ok-context.ensures.extensions;
+  resolves = λ expr counts. rw counts at c.in_ok-context.ensures.resolved;
+  record_context = (ty_of c.in_ok-context.context, c.in_ok-context.ensures.elaborates, c.in_ok-context.ensures.is_record);
+  placed = λ reference place. elim place [
+    | inl principal ↦ (rw c.deref.ensures.value at c.in_ok-principals.ensures.declared) reference principal
+    | inr resource ↦ (rw c.deref-2.ensures.value at c.in_ok-resources.ensures.declared) reference resource
+  ];
+}

@@ -6,15 +6,16 @@ use Rattle.cedar_builder.proofs.EntityTypesElaborated.{closed_elaborated}
 use Rattle.cedar_builder.proofs.entity_type_kinds.shape_attributes.Goals as goal
 
 pub returns-in-Record-clause-elaborates : goal.returns-in-Record-clause-elaborates
-returns-in-Record-clause-elaborates c = λ defined knows.
+returns-in-Record-clause-elaborates g c = λ defined knows.
     closed_elaborated (rw (ap ty_of c.in-Record.is, ty_of-record c.in-Record.attrs c.in-Record.open_attributes) at
     (c.in_ok-elaborated.ensures.elaborates defined knows))
 
 pub returns : goal.returns
-returns c = record {
+returns g c = record {
   elaborates = tt;
   closed = tt;
   extensions = tt;
+  resolved = tt;
   fault = inr (inr (
     ap shape_not_record c.in_ok-clone.ensures.name,
     (

@@ -1,9 +1,11 @@
-use Rattle.std.proofs.Common.{◌≡◌, ◌++◌, map, take}
-use Rattle.cedar_builder.specs.DeclaredNodes.{plain_edge}
+use Rattle.std.proofs.Common.{◌++◌, List, map, take}
+use Rattle.cedar_builder.specs.Words.{HoldsPairwise, IsEdgeOf, held_names}
 use Rattle.cedar_builder.proofs.parents.add_parents.Given as goal
 
 abbrev pub invariant-loop-parent : goal.invariant-loop-parent
 invariant-loop-parent g l =
-    let plain = plain_edge g.D.HasParents.key_name g.D.HasParents.reference_to in
-    map plain l.edges.items ≡ map plain l.initial.edges.items
-    ++ map (λ reference. (g.D.HasParents.key_name l.lower, reference)) (map g.D.HasParents.reference_of (take l.parent-index l.parent-items))
+    let is = g.D.HasParents in
+    let IsOf = IsEdgeOf is.key_name (is.Resolves (held_names l.defs)) in
+    (parents : List (is.Name × is.Reference)) → HoldsPairwise IsOf l.initial.edges.items parents
+    → HoldsPairwise IsOf l.edges.items
+    (parents ++ map (λ reference. (is.key_name l.lower, reference)) (map (is.reference_of l.declaration) (take l.parent-index l.parent-items)))

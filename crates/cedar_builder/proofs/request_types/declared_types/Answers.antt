@@ -1,46 +1,53 @@
-use Rattle.std.proofs.Common.{◌≡◌, ◌+◌, ◌++◌, [], ◌∷◌, map, take, ap, sym, ◌∙◌, inl, inr}
+use Rattle.std.proofs.Common.{◌≡◌, ◌+◌, ◌++◌, [], ◌∷◌, map, take, ap, ◌∙◌, inr}
 use Rattle.std.proofs.lemmas.List.{map-append, take_all}
-use Rattle.cedar_builder.specs.Words.{Entity, name_of, names_in, resolved_reference, type_name}
+use Rattle.cedar_builder.specs.Words.{Entity, held_names, names_in, namespace_name, type_name}
 use Rattle.cedar_declarations.proofs.OccurrenceLemmas.{Contains-image}
-use Rattle.cedar_builder.proofs.NodeEdges.{item_among, take_item}
-use Rattle.cedar_builder.proofs.RequestTypes.{included_more}
+use Rattle.cedar_builder.proofs.NodeEdges.{item_among, map_item}
+use Rattle.cedar_builder.proofs.RequestTypes.{named_more, placed_more}
 use Rattle.cedar_fragments.proofs.FragmentLemmas.{exit_holds}
 use Rattle.cedar_builder.proofs.request_types.declared_types.Goals as goal
 
 -- the name at fault is one of all
-pub returns-in_err-ty-clause-fault : goal.returns-in_err-ty-clause-fault
-returns-in_err-ty-clause-fault c =
+pub returns-in_err-declared_type-clause-fault : goal.returns-in_err-declared_type-clause-fault
+returns-in_err-declared_type-clause-fault g c =
+    let refer = g.N.WrittenName.refer (namespace_name c.args.namespace) Entity in
     let names = c.args.names.now in
     let name = c.name-item.result in
-    exit_holds _ _ _ c.from_residual.ensures.1
-    (elim c.in_err-ty.ensures.fault [
-      | inl wanting ↦ inl wanting
-      | inr refused ↦ inr (
-        name_of name,
-        Contains-image (resolved_reference Entity) names name
-            (item_among names c.loop-name.name-index name c.loop-name-test.true c.name-item.is),
-        refused,
-      )
-    ])
+    exit_holds _ _ _ c.from_residual-in_err-declared_type.ensures.1
+    (inr (
+      refer name,
+      Contains-image refer names name
+          (item_among names c.loop-name.name-index name c.loop-name-test.true c.name-item.is),
+      c.in_err-declared_type.ensures.fault,
+    ))
 
 -- one more name is that of a declared entity type
 pub loop-name-preserved : goal.loop-name-preserved
-loop-name-preserved c =
+loop-name-preserved g c =
+    let refer = g.N.WrittenName.refer (namespace_name c.args.namespace) Entity in
+    let held = held_names c.args.defs.now in
     let names = c.args.names.now in
     let name = c.name-item.result in
     let index = c.loop-name.name-index in
-    let more : map name_of (take index names) ++ name_of name ∷ [] ≡ map name_of (take (index + 1) names) =
-    sym (ap (map name_of) (take_item names index name c.loop-name-test.true c.name-item.is)
-    ∙ map-append name_of (take index names) (name ∷ [])) in (
-      ap (map type_name) c.in_ok-push.ensures.items
-          ∙ (map-append type_name c.loop-name.types.items (c.in_ok-ty.ty ∷ [])
-          ∙ ((λ i. c.loop-name.invariant.0 i ++ c.in_ok-ty.ensures.name i ∷ []) ∙ more)),
-      rw more at
-          (included_more (names_in c.args.entity_types.now) (map name_of (take index names)) (name_of name) c.loop-name.invariant.1
-          c.in_ok-ty.ensures.declared),
+    let so_far = map refer (take index names) in
+    let types = names_in c.args.entity_types.now in
+    let more : so_far ++ refer name ∷ [] ≡ map refer (take (index + 1) names) =
+    map_item refer names index name c.loop-name-test.true c.name-item.is in
+    let found =
+    ap (map type_name) c.in_ok-push.ensures.items ∙ map-append type_name c.loop-name.types.items (c.in_ok-declared_type.field-0 ∷ []) in
+    let resolves = c.in_ok-declared_type.ensures.name.1 in (
+      rw (found, ← more)
+          (named_more held so_far (refer name) (type_name c.in_ok-declared_type.field-0) resolves (map type_name c.loop-name.types.items) c.loop-name.invariant.0),
+      rw (← more)
+          (placed_more held so_far (refer name) (type_name c.in_ok-declared_type.field-0) resolves types c.loop-name.invariant.1 c.in_ok-declared_type.ensures.declared),
     )
 
 -- at the end all are
+pub returns-clause-names : goal.returns-clause-names
+returns-clause-names g c =
+    rw (take_all c.loop-name.name-index c.args.names.now c.loop-name-test.false) at c.loop-name.invariant.0
+
+-- and each is declared
 pub returns-clause-declared : goal.returns-clause-declared
-returns-clause-declared c =
+returns-clause-declared g c =
     rw (take_all c.loop-name.name-index c.args.names.now c.loop-name-test.false) at c.loop-name.invariant.1

@@ -1,8 +1,11 @@
-use Rattle.std.proofs.Common.{◌≡◌, Contains, map, take}
-use Rattle.cedar_builder.specs.Words.{PlainName, name_of, names_in, type_name}
+use Rattle.std.proofs.Common.{map, take}
+use Rattle.cedar_builder.specs.Words.{AreNamed, Entity, held_names, names_in, namespace_name, type_name}
+use Rattle.cedar_builder.proofs.RequestTypes.{AllPlaced}
 use Rattle.cedar_builder.proofs.request_types.declared_types.Given as goal
 
 abbrev pub invariant-loop-name : goal.invariant-loop-name
-invariant-loop-name l =
-    (map type_name l.types.items ≡ map name_of (take l.name-index l.names))
-    × ((name : PlainName) → Contains (map name_of (take l.name-index l.names)) name → Contains (names_in l.entity_types) name)
+invariant-loop-name g l =
+    AreNamed (held_names l.defs) (map (g.N.WrittenName.refer (namespace_name l.namespace) Entity) (take l.name-index l.names))
+    (map type_name l.types.items)
+    × AllPlaced (held_names l.defs) (names_in l.entity_types)
+    (map (g.N.WrittenName.refer (namespace_name l.namespace) Entity) (take l.name-index l.names))

@@ -1,9 +1,11 @@
 use Rattle.std.specs.List.{flat_map}
 use Rattle.std.specs.Vec.Iter.{into_iter_items}
-use Rattle.cedar_fragments.specs.FragmentDeclarations.{resolved_definition, resolved_fragment}
+use Rattle.cedar_resolution.specs.Words.{written_definition, written_fragment}
 use Rattle.cedar_resolution.proofs.CollectedTogether.{CollectsTogether}
 use Rattle.cedar_resolution.proofs.collecting.add_fragment.Given as goal
 
 abbrev pub invariant-loop-definition : goal.invariant-loop-definition
-invariant-loop-definition l =
-    CollectsTogether l.fn.declared (resolved_fragment l.fn.fragment) l.declared (flat_map resolved_definition (into_iter_items l.definition-iterator))
+invariant-loop-definition g l =
+    let N = g.row.N.Denot in
+    let refer = g.N.WrittenName.refer in
+    CollectsTogether N refer l.fn.declared (written_fragment N refer l.fn.fragment) l.declared (flat_map (written_definition N refer) (into_iter_items l.definition-iterator))

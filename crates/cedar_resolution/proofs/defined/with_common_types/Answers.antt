@@ -1,14 +1,14 @@
 use Rattle.std.proofs.Common.{◌∙◌}
-use Rattle.cedar_resolution.specs.Words.{InternalName, PlainName, «Type», held_names, name_of}
+use Rattle.cedar_resolution.specs.Words.{InternalName, PlainName, «Type», Written, held_names, name_of}
 use Rattle.cedar_fragments.proofs.SetLemmas.{HasAlso-next, HasAlso-all}
 use Rattle.cedar_resolution.proofs.defined.with_common_types.Goals as goal
 
 -- the name of a common type
-abbrev key : InternalName × «Type» InternalName → PlainName
+abbrev key : {N : Type 0} → InternalName × Written («Type» N) → PlainName
 key it = name_of it.0
 
 pub loop-it-preserved : goal.loop-it-preserved
-loop-it-preserved c = (
+loop-it-preserved g c = (
   HasAlso-next key (held_names c.args.defs).common c.args.types.now _ _ c.loop-it.it-index c.it-item.result _
       c.loop-it-test.true c.it-item.is c.in_ok-clone.ensures.name c.loop-it.invariant.0
       c.in_ok-mark_as_defined_as_common_type.ensures.added,
@@ -17,6 +17,6 @@ loop-it-preserved c = (
 )
 
 pub returns-clause-common : goal.returns-clause-common
-returns-clause-common c =
+returns-clause-common g c =
     HasAlso-all key (held_names c.args.defs).common c.args.types.now _ c.loop-it.it-index c.loop-it-test.false
     c.loop-it.invariant.0

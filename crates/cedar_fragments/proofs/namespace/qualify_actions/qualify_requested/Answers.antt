@@ -10,7 +10,7 @@ use Rattle.cedar_fragments.proofs.namespace.qualify_actions.qualify_requested.Go
 -- a resolved name that is reserved comes from one of the references
 pub returns-then-is_reserved-clause-fault : goal.returns-then-is_reserved-clause-fault
 returns-then-is_reserved-clause-fault g c =
-    let refer = g.N.ResolveWithin.refer (namespace_name c.args.namespace) in
+    let refer = g.N.WrittenName.refer (namespace_name c.args.namespace) in
     let names = held_names c.args.all_defs.now in
     let all = map (refer Entity) c.args.names.items in
     let items = c.in_ok-qualified.qualified.items in
@@ -32,7 +32,7 @@ loop-name-preserved g c =
 -- at the end none is
 pub returns-clause-unreserved : goal.returns-clause-unreserved
 returns-clause-unreserved g c =
-    let refer = g.N.ResolveWithin.refer (namespace_name c.args.namespace) in
+    let refer = g.N.WrittenName.refer (namespace_name c.args.namespace) in
     let names = held_names c.args.all_defs.now in
     let all = map (refer Entity) c.args.names.items in
     let listed = c.deref-name-items.result.now in

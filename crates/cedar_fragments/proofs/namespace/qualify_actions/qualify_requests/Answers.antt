@@ -11,7 +11,7 @@ use Rattle.cedar_fragments.proofs.namespace.qualify_actions.qualify_requests.Goa
 pub returns-in_err-principals-clause-fault : goal.returns-in_err-principals-clause-fault
 returns-in_err-principals-clause-fault g c =
     let N = g.row.N.Denot in
-    let refer = g.N.ResolveWithin.refer (namespace_name c.args.namespace) in
+    let refer = g.N.WrittenName.refer (namespace_name c.args.namespace) in
     let names = held_names c.args.all_defs.now in
     let it = fragment_requests N refer (Some c.args.requests) in
     let all = map (refer Entity) c.args.requests.principals.items in
@@ -23,7 +23,7 @@ returns-in_err-principals-clause-fault g c =
 pub returns-in_err-resources-clause-fault : goal.returns-in_err-resources-clause-fault
 returns-in_err-resources-clause-fault g c =
     let N = g.row.N.Denot in
-    let refer = g.N.ResolveWithin.refer (namespace_name c.args.namespace) in
+    let refer = g.N.WrittenName.refer (namespace_name c.args.namespace) in
     let names = held_names c.args.all_defs.now in
     let it = fragment_requests N refer (Some c.args.requests) in
     let all = map (refer Entity) c.args.requests.resources.items in
@@ -35,7 +35,7 @@ returns-in_err-resources-clause-fault g c =
 pub returns-in_err-context-clause-fault : goal.returns-in_err-context-clause-fault
 returns-in_err-context-clause-fault g c =
     let N = g.row.N.Denot in
-    let refer = g.N.ResolveWithin.refer (namespace_name c.args.namespace) in
+    let refer = g.N.WrittenName.refer (namespace_name c.args.namespace) in
     let names = held_names c.args.all_defs.now in
     let it = fragment_requests N refer (Some c.args.requests) in
     let context = (type_expr N refer) c.args.requests.context in

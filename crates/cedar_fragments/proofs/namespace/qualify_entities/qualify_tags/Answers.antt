@@ -8,7 +8,7 @@ use Rattle.cedar_fragments.proofs.namespace.qualify_entities.qualify_tags.Goals 
 pub returns-in_err-ty-in-Some-clause-refused : goal.returns-in_err-ty-in-Some-clause-refused
 returns-in_err-ty-in-Some-clause-refused g c =
     let N = g.row.N.Denot in
-    let refer = g.N.ResolveWithin.refer (namespace_name c.args.namespace) in
+    let refer = g.N.WrittenName.refer (namespace_name c.args.namespace) in
     let names = held_names c.args.all_defs.now in
     let RefersInTags : Reference → Type 0 = λ reference. (expr : Expr) × (option_map (type_expr N refer) c.args.tags ≡ Some expr) × Refers expr reference in
     exit_holds _ _ _ c.from_residual.ensures.1

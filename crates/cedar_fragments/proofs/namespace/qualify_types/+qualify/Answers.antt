@@ -12,7 +12,7 @@ use Rattle.cedar_fragments.proofs.namespace.qualify_types.+qualify.Goals as goal
 pub qualify_record-returns-in_err-ty-clause-refused : goal.qualify_record-returns-in_err-ty-clause-refused
 qualify_record-returns-in_err-ty-clause-refused g t c =
     let N = g.row.N.Denot in
-    let refer = g.N.ResolveWithin.refer (namespace_name c.args.namespace) in
+    let refer = g.N.WrittenName.refer (namespace_name c.args.namespace) in
     let names = held_names c.args.all_defs.now in
     let it = c.args.record_type in
     let ty = (out-TypeOfAttribute N c.in-Some.attribute).ty in
@@ -25,7 +25,7 @@ qualify_record-returns-in_err-ty-clause-refused g t c =
 pub qualify_record-loop-name-preserved : goal.qualify_record-loop-name-preserved
 qualify_record-loop-name-preserved g t c =
     let N = g.row.N.Denot in
-    let refer = g.N.ResolveWithin.refer (namespace_name c.args.namespace) in
+    let refer = g.N.WrittenName.refer (namespace_name c.args.namespace) in
     let names = held_names c.args.all_defs.now in
     let all = (out-RecordType N c.args.record_type).attributes.entries in
     rw c.in_ok-put.ensures (
@@ -41,7 +41,7 @@ qualify_record-loop-name-preserved g t c =
 pub qualify_record-returns-clause-resolved : goal.qualify_record-returns-clause-resolved
 qualify_record-returns-clause-resolved g t c =
     let N = g.row.N.Denot in
-    let refer = g.N.ResolveWithin.refer (namespace_name c.args.namespace) in
+    let refer = g.N.WrittenName.refer (namespace_name c.args.namespace) in
     let names = held_names c.args.all_defs.now in
     let it : Made names refer = record {
       attributes = c.loop-name.attributes;
@@ -83,7 +83,7 @@ qualify_type-returns-in_ok-type_name-in-CommonTypeRef-clause-locs g t c =
 pub qualify_type-returns-in_err-ty-in-Plain-clause-refused : goal.qualify_type-returns-in_err-ty-in-Plain-clause-refused
 qualify_type-returns-in_err-ty-in-Plain-clause-refused g t c =
     let N = g.row.N.Denot in
-    let refer = g.N.ResolveWithin.refer (namespace_name c.args.namespace) in
+    let refer = g.N.WrittenName.refer (namespace_name c.args.namespace) in
     let names = held_names c.args.all_defs.now in
     let same = ap (type_expr N refer) c.in-Plain.is ∙ type-Plain N refer c.in-Plain.ty c.in-Plain.loc in
     exit_holds _ _ _ c.from_residual.ensures.1
@@ -95,7 +95,7 @@ pub qualify_type-returns-in_err-type_name-in-CommonTypeRef-clause-refused :
     goal.qualify_type-returns-in_err-type_name-in-CommonTypeRef-clause-refused
 qualify_type-returns-in_err-type_name-in-CommonTypeRef-clause-refused g t c =
     let N = g.row.N.Denot in
-    let refer = g.N.ResolveWithin.refer (namespace_name c.args.namespace) in
+    let refer = g.N.WrittenName.refer (namespace_name c.args.namespace) in
     let names = held_names c.args.all_defs.now in
     let same = ap (type_expr N refer) c.in-CommonTypeRef.is ∙ type-CommonTypeRef N refer c.in-CommonTypeRef.type_name c.in-CommonTypeRef.loc in
     exit_holds _ _ _ (c.from_residual-in_err-type_name-in-CommonTypeRef).ensures.1
@@ -107,8 +107,8 @@ pub qualify_type-returns-in_ok-type_name-in-CommonTypeRef-clause-resolved :
     goal.qualify_type-returns-in_ok-type_name-in-CommonTypeRef-clause-resolved
 qualify_type-returns-in_ok-type_name-in-CommonTypeRef-clause-resolved g t c =
     let N = g.row.N.Denot in
-    let refer = g.N.ResolveWithin.refer (namespace_name c.args.namespace) in
-    let keeps_kind = g.N.ResolveWithin.keeps_kind (namespace_name c.args.namespace) in
+    let refer = g.N.WrittenName.refer (namespace_name c.args.namespace) in
+    let keeps_kind = g.N.WrittenName.keeps_kind (namespace_name c.args.namespace) in
     let names = held_names c.args.all_defs.now in
     resolves_as names (ap (type_expr N refer) c.in-CommonTypeRef.is ∙ type-CommonTypeRef N refer c.in-CommonTypeRef.type_name c.in-CommonTypeRef.loc)
     (type-CommonTypeRef InternalName resolved_reference (c.in_ok-type_name-in-CommonTypeRef).type_name c.in-CommonTypeRef.loc)
@@ -119,7 +119,7 @@ qualify_type-returns-in_ok-type_name-in-CommonTypeRef-clause-resolved g t c =
 pub qualify_variant-returns-in_err-element-in-Set-clause-refused : goal.qualify_variant-returns-in_err-element-in-Set-clause-refused
 qualify_variant-returns-in_err-element-in-Set-clause-refused g t c =
     let N = g.row.N.Denot in
-    let refer = g.N.ResolveWithin.refer (namespace_name c.args.namespace) in
+    let refer = g.N.WrittenName.refer (namespace_name c.args.namespace) in
     let names = held_names c.args.all_defs.now in
     let same = ap (variant_expr N refer) c.in-Set.is ∙ (variant-Set N refer c.in-Set.element
     ∙ ap (λ ty. set_expr (type_expr N refer ty)) (sym c.into_inner.ensures)) in
@@ -132,7 +132,7 @@ pub qualify_variant-returns-in_err-record_type-in-Record-clause-refused :
     goal.qualify_variant-returns-in_err-record_type-in-Record-clause-refused
 qualify_variant-returns-in_err-record_type-in-Record-clause-refused g t c =
     let N = g.row.N.Denot in
-    let refer = g.N.ResolveWithin.refer (namespace_name c.args.namespace) in
+    let refer = g.N.WrittenName.refer (namespace_name c.args.namespace) in
     let names = held_names c.args.all_defs.now in
     let same = ap (variant_expr N refer) c.in-Record.is ∙ variant-Record N refer c.in-Record.record_type in
     exit_holds _ _ _ (c.from_residual-in_err-record_type-in-Record).ensures.1
@@ -143,7 +143,7 @@ qualify_variant-returns-in_err-record_type-in-Record-clause-refused g t c =
 pub qualify_variant-returns-in_err-name-in-Entity-clause-refused : goal.qualify_variant-returns-in_err-name-in-Entity-clause-refused
 qualify_variant-returns-in_err-name-in-Entity-clause-refused g t c =
     let N = g.row.N.Denot in
-    let refer = g.N.ResolveWithin.refer (namespace_name c.args.namespace) in
+    let refer = g.N.WrittenName.refer (namespace_name c.args.namespace) in
     let names = held_names c.args.all_defs.now in
     let same = ap (variant_expr N refer) c.in-Entity.is ∙ variant-Entity N refer c.in-Entity.name in
     exit_holds _ _ _ (c.from_residual-in_err-name-in-Entity).ensures.1
@@ -155,7 +155,7 @@ pub qualify_variant-returns-in_err-type_name-in-EntityOrCommon-clause-refused :
     goal.qualify_variant-returns-in_err-type_name-in-EntityOrCommon-clause-refused
 qualify_variant-returns-in_err-type_name-in-EntityOrCommon-clause-refused g t c =
     let N = g.row.N.Denot in
-    let refer = g.N.ResolveWithin.refer (namespace_name c.args.namespace) in
+    let refer = g.N.WrittenName.refer (namespace_name c.args.namespace) in
     let names = held_names c.args.all_defs.now in
     let same = ap (variant_expr N refer) c.in-EntityOrCommon.is ∙ variant-EntityOrCommon N refer c.in-EntityOrCommon.type_name in
     exit_holds _ _ _ (c.from_residual-in_err-type_name-in-EntityOrCommon).ensures.1
@@ -166,21 +166,21 @@ qualify_variant-returns-in_err-type_name-in-EntityOrCommon-clause-refused g t c 
 pub qualify_variant-returns-in-String-clause-resolved : goal.qualify_variant-returns-in-String-clause-resolved
 qualify_variant-returns-in-String-clause-resolved g t c =
     let N = g.row.N.Denot in
-    let refer = g.N.ResolveWithin.refer (namespace_name c.args.namespace) in
+    let refer = g.N.WrittenName.refer (namespace_name c.args.namespace) in
     resolves_as (held_names c.args.all_defs.now) (ap (variant_expr N refer) c.in-String.is ∙ variant-String N refer)
     (variant-String InternalName resolved_reference) resolves_text
 
 pub qualify_variant-returns-in-Long-clause-resolved : goal.qualify_variant-returns-in-Long-clause-resolved
 qualify_variant-returns-in-Long-clause-resolved g t c =
     let N = g.row.N.Denot in
-    let refer = g.N.ResolveWithin.refer (namespace_name c.args.namespace) in
+    let refer = g.N.WrittenName.refer (namespace_name c.args.namespace) in
     resolves_as (held_names c.args.all_defs.now) (ap (variant_expr N refer) c.in-Long.is ∙ variant-Long N refer)
     (variant-Long InternalName resolved_reference) resolves_long
 
 pub qualify_variant-returns-in-Boolean-clause-resolved : goal.qualify_variant-returns-in-Boolean-clause-resolved
 qualify_variant-returns-in-Boolean-clause-resolved g t c =
     let N = g.row.N.Denot in
-    let refer = g.N.ResolveWithin.refer (namespace_name c.args.namespace) in
+    let refer = g.N.WrittenName.refer (namespace_name c.args.namespace) in
     resolves_as (held_names c.args.all_defs.now) (ap (variant_expr N refer) c.in-Boolean.is ∙ variant-Boolean N refer)
     (variant-Boolean InternalName resolved_reference) resolves_truth
 
@@ -189,7 +189,7 @@ pub qualify_variant-returns-in_ok-element-in-Set-2-clause-resolved :
     goal.qualify_variant-returns-in_ok-element-in-Set-2-clause-resolved
 qualify_variant-returns-in_ok-element-in-Set-2-clause-resolved g t c =
     let N = g.row.N.Denot in
-    let refer = g.N.ResolveWithin.refer (namespace_name c.args.namespace) in
+    let refer = g.N.WrittenName.refer (namespace_name c.args.namespace) in
     resolves_as (held_names c.args.all_defs.now)
     (ap (variant_expr N refer) c.in-Set.is ∙ (variant-Set N refer c.in-Set.element
     ∙ ap (λ ty. set_expr (type_expr N refer ty)) (sym c.into_inner.ensures)))
@@ -202,8 +202,8 @@ pub qualify_variant-returns-in_ok-name-in-Entity-clause-resolved :
     goal.qualify_variant-returns-in_ok-name-in-Entity-clause-resolved
 qualify_variant-returns-in_ok-name-in-Entity-clause-resolved g t c =
     let N = g.row.N.Denot in
-    let refer = g.N.ResolveWithin.refer (namespace_name c.args.namespace) in
-    let keeps_kind = g.N.ResolveWithin.keeps_kind (namespace_name c.args.namespace) in
+    let refer = g.N.WrittenName.refer (namespace_name c.args.namespace) in
+    let keeps_kind = g.N.WrittenName.keeps_kind (namespace_name c.args.namespace) in
     let names = held_names c.args.all_defs.now in
     resolves_as names (ap (variant_expr N refer) c.in-Entity.is ∙ variant-Entity N refer c.in-Entity.name)
     (variant-Entity InternalName resolved_reference (c.in_ok-name-in-Entity).name)
@@ -213,8 +213,8 @@ pub qualify_variant-returns-in_ok-type_name-in-EntityOrCommon-clause-resolved :
     goal.qualify_variant-returns-in_ok-type_name-in-EntityOrCommon-clause-resolved
 qualify_variant-returns-in_ok-type_name-in-EntityOrCommon-clause-resolved g t c =
     let N = g.row.N.Denot in
-    let refer = g.N.ResolveWithin.refer (namespace_name c.args.namespace) in
-    let keeps_kind = g.N.ResolveWithin.keeps_kind (namespace_name c.args.namespace) in
+    let refer = g.N.WrittenName.refer (namespace_name c.args.namespace) in
+    let keeps_kind = g.N.WrittenName.keeps_kind (namespace_name c.args.namespace) in
     let names = held_names c.args.all_defs.now in
     resolves_as names (ap (variant_expr N refer) c.in-EntityOrCommon.is ∙ variant-EntityOrCommon N refer c.in-EntityOrCommon.type_name)
     (variant-EntityOrCommon InternalName resolved_reference (c.in_ok-type_name-in-EntityOrCommon).type_name)
@@ -225,7 +225,7 @@ qualify_variant-returns-in_ok-type_name-in-EntityOrCommon-clause-resolved g t c 
 pub qualify_variant-returns-in-Extension-clause-resolved : goal.qualify_variant-returns-in-Extension-clause-resolved
 qualify_variant-returns-in-Extension-clause-resolved g t c =
     let N = g.row.N.Denot in
-    let refer = g.N.ResolveWithin.refer (namespace_name c.args.namespace) in
+    let refer = g.N.WrittenName.refer (namespace_name c.args.namespace) in
     resolves_as (held_names c.args.all_defs.now) (ap (variant_expr N refer) c.in-Extension.is ∙ variant-Extension N refer c.in-Extension.name)
     (variant-Extension InternalName resolved_reference c.in-Extension.name) (resolves_extension _)
 

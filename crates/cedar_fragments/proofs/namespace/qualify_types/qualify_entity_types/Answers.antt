@@ -12,7 +12,7 @@ loop-name-init g c = turn_none _ _ _ _ _ _ c.into_iter-name-iterator.ensures.int
 
 pub returns-in_err-resolve_within-clause-refused : goal.returns-in_err-resolve_within-clause-refused
 returns-in_err-resolve_within-clause-refused g c =
-    let refer = g.N.ResolveWithin.refer (namespace_name c.args.namespace) in
+    let refer = g.N.WrittenName.refer (namespace_name c.args.namespace) in
     let names = held_names c.args.all_defs.now in
     let among = turn_next _ _ _ _ _ _ _ c.in-Some.name c.in-Some.ensures.steps.0 c.loop-name.invariant in
     exit_holds _ _ _ c.from_residual-in_err-resolve_within.ensures.1
@@ -21,7 +21,7 @@ returns-in_err-resolve_within-clause-refused g c =
 
 pub loop-name-preserved : goal.loop-name-preserved
 loop-name-preserved g c =
-    let same = g.N.ResolveWithin.keeps_kind (namespace_name c.args.namespace) Entity c.in-Some.name in
+    let same = g.N.WrittenName.keeps_kind (namespace_name c.args.namespace) Entity c.in-Some.name in
     let found = name_of c.in_ok-resolve_within.field-0 in
     turn_more _ _ _ _ _ _ _ _ c.in-Some.name c.in_ok-resolve_within.field-0 c.in-Some.ensures.steps.0 c.in_ok-push.ensures.items
     (found, c.in_ok-resolve_within.ensures.resolved, ap (λ each. reference_to_one each found) (sym same)) c.loop-name.invariant

@@ -5,6 +5,6 @@ use Rattle.cedar_fragments.proofs.namespace.qualify_types.qualify_entity_types.G
 
 abbrev pub invariant-loop-name : goal.invariant-loop-name
 invariant-loop-name g l =
-    let refer = g.N.ResolveWithin.refer (namespace_name l.namespace) in
+    let refer = g.N.WrittenName.refer (namespace_name l.namespace) in
     TurnSoFar (ResolvesReference (held_names l.all_defs)) (refer Entity) (resolved_reference Entity) l.fn.names.items
     l.qualified.items (into_iter_items l.name-iterator)

@@ -1,8 +1,8 @@
 use Rattle.std.proofs.Common.{take}
-use Rattle.cedar_fragments.specs.HeldNames.{held_names, declared_names, HoldsAlso}
+use Rattle.cedar_fragments.specs.HeldNames.{listed_names, declared_names, HoldsAlso}
 use Rattle.cedar_fragments.proofs.defs.all_defs.AllDefs.new.Given as goal
 
 abbrev pub invariant-loop-fragment : goal.invariant-loop-fragment
 invariant-loop-fragment g l =
-    HoldsAlso (held_names l.defs) (held_names l.initial.defs)
+    HoldsAlso (listed_names l.names) (listed_names l.initial.names)
     (declared_names g.row.N.Denot g.row.A.Denot (take l.fragment-index l.fragments))

@@ -1,9 +1,12 @@
-use Rattle.cedar_fragments.proofs.NamesSoFar.{just_these}
-use Rattle.cedar_fragments.specs.HeldNames.{held_names, fragment_names}
+use Rattle.std.proofs.lemmas.Result.{IfOk-weaker}
+use Rattle.cedar_fragments.proofs.NamesSoFar.{HoldsJust-through, just_these}
+use Rattle.cedar_fragments.specs.HeldNames.{held_names, listed_names, fragment_names}
 use Rattle.cedar_fragments.proofs.defs.all_defs.AllDefs.single_fragment.Goals as goal
 
 pub returns : goal.returns
 returns g c =
-    just_these (held_names c.none-defs.result) (held_names c.add_fragment.new.self)
-    (fragment_names g.row.N.Denot g.row.A.Denot c.args.fragment.now) c.none-defs.ensures.common c.none-defs.ensures.entities
-    c.none-defs.ensures.actions c.in_ok-add_fragment.ensures
+    let all = fragment_names g.row.N.Denot g.row.A.Denot c.args.fragment.now in
+    let listed = listed_names c.add_fragment.new.self in
+    let just = just_these (listed_names c.none-names.result) listed all c.none-names.ensures.common c.none-names.ensures.entities
+    c.none-names.ensures.actions c.in_ok-add_fragment.ensures in
+    IfOk-weaker c.into_defs.result _ _ (λ defs held. HoldsJust-through (held_names defs) listed all held just) c.into_defs.ensures

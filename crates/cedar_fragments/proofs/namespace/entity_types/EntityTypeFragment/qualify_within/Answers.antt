@@ -10,7 +10,7 @@ use Rattle.cedar_fragments.proofs.namespace.entity_types.EntityTypeFragment.qual
 pub returns-in_err-parents-in-Standard-clause-refused : goal.returns-in_err-parents-in-Standard-clause-refused
 returns-in_err-parents-in-Standard-clause-refused g c =
     let N = g.row.N.Denot in
-    let refer = g.N.ResolveWithin.refer (namespace_name c.args.namespace) in
+    let refer = g.N.WrittenName.refer (namespace_name c.args.namespace) in
     let names = held_names c.args.all_defs.now in
     let it = c.in-Standard in
     let body = standard (map (refer Entity) it.parents.items) (type_expr N refer it.attributes.0) (option_map (type_expr N refer) it.tags) in
@@ -23,7 +23,7 @@ returns-in_err-parents-in-Standard-clause-refused g c =
 pub returns-in_err-attributes-in-Standard-clause-refused : goal.returns-in_err-attributes-in-Standard-clause-refused
 returns-in_err-attributes-in-Standard-clause-refused g c =
     let N = g.row.N.Denot in
-    let refer = g.N.ResolveWithin.refer (namespace_name c.args.namespace) in
+    let refer = g.N.WrittenName.refer (namespace_name c.args.namespace) in
     let names = held_names c.args.all_defs.now in
     let it = c.in-Standard in
     let body = standard (map (refer Entity) it.parents.items) (type_expr N refer it.attributes.0) (option_map (type_expr N refer) it.tags) in
@@ -36,7 +36,7 @@ returns-in_err-attributes-in-Standard-clause-refused g c =
 pub returns-in_err-tags-in-Standard-clause-refused : goal.returns-in_err-tags-in-Standard-clause-refused
 returns-in_err-tags-in-Standard-clause-refused g c =
     let N = g.row.N.Denot in
-    let refer = g.N.ResolveWithin.refer (namespace_name c.args.namespace) in
+    let refer = g.N.WrittenName.refer (namespace_name c.args.namespace) in
     let names = held_names c.args.all_defs.now in
     let it = c.in-Standard in
     let body = standard (map (refer Entity) it.parents.items) (type_expr N refer it.attributes.0) (option_map (type_expr N refer) it.tags) in
@@ -50,7 +50,7 @@ returns-in_err-tags-in-Standard-clause-refused g c =
 pub returns-in_err-parents-in-External-clause-refused : goal.returns-in_err-parents-in-External-clause-refused
 returns-in_err-parents-in-External-clause-refused g c =
     let N = g.row.N.Denot in
-    let refer = g.N.ResolveWithin.refer (namespace_name c.args.namespace) in
+    let refer = g.N.WrittenName.refer (namespace_name c.args.namespace) in
     let names = held_names c.args.all_defs.now in
     let it = c.in-External in
     exit_holds _ _ _ (c.from_residual-in_err-parents-in-External).ensures.1

@@ -25,7 +25,7 @@ pub returns-in_err-definition-clause-fault : goal.returns-in_err-definition-clau
 returns-in_err-definition-clause-fault c =
     let entry : Option Name × NamespaceDefinition RawName = (c.in-Some.name, c.in-Some.written) in
     let fault = fault_of c.in_err-definition.field-0.0 in
-    let among = next_entry c.args.fragment.0.entries c.loop-name.name-iterator c.next.new.self c.loop-name.definitions.items
+    let among = next_entry conditional_definition c.args.fragment.0.entries c.loop-name.name-iterator c.next.new.self c.loop-name.definitions.items
     entry c.in-Some.ensures.steps c.loop-name.invariant.0 in
     exit_holds _ _ _ c.from_residual.ensures.1
     (refusal_included (entry_declarations entry) (raw_fragment c.args.fragment)
@@ -37,7 +37,7 @@ pub returns-in_err-definition-clause-all_named : goal.returns-in_err-definition-
 returns-in_err-definition-clause-all_named c =
     let entry : Option Name × NamespaceDefinition RawName = (c.in-Some.name, c.in-Some.written) in
     let fault = fault_of c.in_err-definition.field-0.0 in
-    let among = next_entry c.args.fragment.0.entries c.loop-name.name-iterator c.next.new.self c.loop-name.definitions.items
+    let among = next_entry conditional_definition c.args.fragment.0.entries c.loop-name.name-iterator c.next.new.self c.loop-name.definitions.items
     entry c.in-Some.ensures.steps c.loop-name.invariant.0 in
     exit_holds _ _ _ c.from_residual.ensures.1
     (named_of_definition (c.args.fragment ∷ []) c.args.fragment entry (Contains-cons c.args.fragment [] c.args.fragment (inl refl)) among fault

@@ -1,8 +1,0 @@
-use Rattle.std.proofs.lemmas.Result.{IfOk-weaker}
-use Rattle.cedar_schema_elements.specs.ValidatorActionId.{action_of}
-use Rattle.cedar_builder.proofs.ActionsTogether.{external_told}
-use Rattle.cedar_builder.proofs.action_nodes.ValidatorActionIdDeclaredNodeEntityUIDActionScope.declared.Goals as goal
-
-pub returns-clause-external : goal.returns-clause-external
-returns-clause-external c = IfOk-weaker c.elaborated_action.result _ _
-    (λ it elaborated. external_told c.args.scope.now.types.now _ (action_of it).kind elaborated.kind) c.elaborated_action.ensures.elaborates
