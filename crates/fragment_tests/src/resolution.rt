@@ -110,8 +110,8 @@ fn names_resolve_where_they_are_written(rt: HostRuntime) -> Result<(), Fail> {
     Ok(())
 }
 
-/// Parents of actions that are written in the namespace `N`, each an id and the name of a type, with
-/// the action that is named or the refusal.
+/// Parents of actions that are written in the namespace `N`, each an id and the name of a type,
+/// with the action that is named or the refusal.
 const PARENTS: &[(&str, &str, &str)] = &[
     ("a", "Action", "N::Action::\"a\""),
     ("b", "Action", "Action::\"b\""),
