@@ -1,5 +1,5 @@
 -- Which definitions of namespaces, and which fragments, JSON values and texts describe.
-use Rattle.std.specs.Prelude.{List, [], ◌∷◌, not, ◌&&◌, map, Option, Some, None, cond, option_map, option_and_then, codes, string_bytes}
+use Rattle.std.specs.Prelude.{◌≡◌, List, [], ◌∷◌, not, ◌&&◌, map, Option, Some, None, cond, option_map, option_and_then, codes, string_bytes}
 use Rattle.std.specs.BTreeMap.{BTreeMap, insert_entry}
 use Rattle.std.specs.Option.{option_cmp}
 use Rattle.std.specs.declared.alloc.Global.{Global}
@@ -70,6 +70,14 @@ written_namespaces all = map (λ entry.
 -- the plain data of a fragment
 abbrev pub written_fragment : Fragment RawName → WrittenFragment
 written_fragment it = written_namespaces it.0
+
+-- an entry was put to others whose key stands for what was read of a key, and whose value is shown
+-- as what was read of a value
+abbrev pub IsEntryPut : {K A L B : Type 0} → (K → K → Ordering) → (K → L) → (A → B) → Option L
+    → Option B → List (K × A) → List (K × A) → Type 0
+IsEntryPut {K} {A} cmp shown_key shown key described old new =
+    (entry : K × A) × (key ≡ Some (shown_key entry.0)) × (described ≡ Some (shown entry.1))
+    × (new ≡ insert_entry cmp old entry.0 entry.1)
 
 -- what members describe, each under what its key stands for, put to what those before them do
 abbrev pub entries_of : {K A : Type 0} → (K → K → Ordering) → (Text → Option K) → (Json → Option A)

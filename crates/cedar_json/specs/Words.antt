@@ -18,7 +18,7 @@ pub use Rattle.cedar_names.specs.declared.json_schema.type_of.TypeOfAttribute.{T
 pub use Rattle.cedar_declarations.specs.declared.schema_error.SchemaError.{SchemaError}
 pub use Rattle.cedar_json.specs.ActionFormat.{WrittenAction, WrittenParent, action_by, action_of, optional, pairs_in, parent_by, parent_of, parents_of, requests_by, requests_of, unless_null, written_action, written_pairs, written_parent, written_requests}
 pub use Rattle.cedar_json.specs.CedarExtensions.{Signature, cedar_function, cedar_type_names, signature, signatures, unqualified}
-pub use Rattle.cedar_json.specs.DefinitionFormat.{WrittenDefinition, WrittenFragment, actions_in, common_key, common_type_of, common_types_in, definition_by, definition_of, entity_types_in, entries_in, entries_of, fragment_of, id_key, namespace_key, written_actions, written_common_types, written_definition, written_entity_types, written_fragment, written_namespaces}
+pub use Rattle.cedar_json.specs.DefinitionFormat.{IsEntryPut, WrittenDefinition, WrittenFragment, actions_in, common_key, common_type_of, common_types_in, definition_by, definition_of, entity_types_in, entries_in, entries_of, fragment_of, id_key, namespace_key, written_actions, written_common_types, written_definition, written_entity_types, written_fragment, written_namespaces}
 pub use Rattle.cedar_json.specs.EntityFormat.{WrittenEntity, at_least_one, body_by, choices_in, empty_record, entity_by, entity_of, entity_reference, parents_in, references_in, shape_in, standard_by, standard_of, tags_in, written_entity, written_kind}
 pub use Rattle.cedar_json.specs.ExtensionRows.{AreKinds, AreNames, AreRows, IsKind, IsRow, SpellsName, inserted, kind_type, row_signature}
 pub use Rattle.cedar_json.specs.Fields.{IsOther, annotations_fit, are_annotations, flag_or, further_fields, has_only, is_among, is_text_or_null, keys_among, known_fields, nth_member, own_fields, text_held, texts_of, type_fields, type_word}

@@ -7,7 +7,7 @@ ghost use Rattle.std.specs.declared.cmp.Ordering.{Ordering};
 ghost use Rattle.json.specs.Find.{get, get_member};
 ghost use Rattle.json.specs.Json.{Json, object};
 ghost use Rattle.json.specs.Value.{members_view, value_view};
-ghost use Rattle.cedar_json.specs.Words.{IsTrueOf, Text, entries_in, entries_of, field_or, member_at, optional};
+ghost use Rattle.cedar_json.specs.Words.{IsEntryPut, IsTrueOf, Text, entries_in, entries_of, field_or, member_at, optional};
 
 use crate::described::written;
 use crate::fault::{Fault, FaultKind, Wanted};
@@ -63,16 +63,17 @@ pub(crate) trait Key: Ord {
     ghost same_order: { (a b : Self) → Self.cmp a b ≡ order (shown_key a) (shown_key b) };
 }
 
-/// What the member at an index describes, under what its key stands for.
+/// Puts what the member at an index describes to the others, under what its key stands for.
 fn take_entry<K: Key + Drop, T: Taken + Drop>(
     alloc: Global,
     index: usize,
     member: (&str, Value<'_>),
     cursor: Cursor<'_>,
-) -> Result<(K, T), Fault>
+    all: &mut Filling<K, T>,
+) -> Result<(), Fault>
     ensures value { MatchResult result
-        (λ entry. (K.key_of member.entry.0.now ≡ Some (K.shown_key entry.0))
-        × (T.describes (value_view member.entry.1) ≡ Some (T.shown entry.1)))
+        (λ _. IsEntryPut K.cmp K.shown_key T.shown (K.key_of member.entry.0.now)
+        (T.describes (value_view member.entry.1)) all.old all.new)
         (λ fault. fault ≢ Fault.Memory → (K.key_of member.entry.0.now ≡ None)
         ⊎ (T.describes (value_view member.entry.1) ≡ None)) }
     ensures place { IfErr result (λ fault. (j : Json) → member_at index j
@@ -84,7 +85,7 @@ fn take_entry<K: Key + Drop, T: Taken + Drop>(
     let taken = T::take(alloc, &mut value, cursor);
     drop(value);
     match taken {
-        Ok(it) => Ok((key, it)),
+        Ok(it) => Ok(all.put(key, it)?),
         Err(fault) => Err(fault.in_member(index)),
     }
 }
@@ -106,12 +107,10 @@ fn take_entries<K: Key + Drop, T: Taken + Drop>(
     let mut all = Filling::new(alloc);
     let mut at = cursor.first();
     for (index, member) in members.into_iter().enumerate() {
-        let entry = take_entry::<K, T>(alloc, index, member, at)?;
-        all.put(entry.0, entry.1)?;
+        take_entry::<K, T>(alloc, index, member, at, &mut all)?;
         at = at.next();
     }
-    let map = all.finish()?;
-    Ok(map)
+    Ok(all.finish()?)
 }
 
 impl<K: Key + Drop, T: Taken + Drop> Taken for BTreeMap<K, T> {

@@ -12,3 +12,7 @@ returns-in_err-key-clause-place g c =
 pub returns-in-Err-clause-place : goal.returns-in-Err-clause-place
 returns-in-Err-clause-place g c =
     λ j is. c.in_member.ensures.place j (c.args.member.0.now, value_view c.args.member.1) is c.in-Err.ensures.place
+
+-- the entry that was put is the key and the value that were read
+pub returns-in_ok-put-in-Ok-clause-value : goal.returns-in_ok-put-in-Ok-clause-value
+returns-in_ok-put-in-Ok-clause-value g c = ((c.in_ok-key.key, c.in-Ok.it), c.in_ok-key.ensures.value, c.in-Ok.ensures.value, c.in_ok-put-in-Ok.ensures)
