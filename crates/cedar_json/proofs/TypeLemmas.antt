@@ -1,5 +1,5 @@
 -- The definition of types by look-ups.
-use Rattle.std.proofs.Common.{◌≡◌, ℕ, ◌+◌, ◌<◌, ◌≤◌, length, drop, drop_of_length-le, get_or, BTreeMap, List, [], ◌∷◌, Bool, true, false, cond, Option, Some, None, Result, MatchResult, ◌≢◌, subst, option_map, option_and_then, codes, string_bytes, string_cmp, Bor, String, Global, refl, ap, ap₂, sym, ◌∙◌}
+use Rattle.std.proofs.Common.{◌≡◌, ℕ, ◌+◌, ◌<◌, ◌≤◌, length, drop, drop_of_length-le, get_or, BTreeMap, List, [], ◌∷◌, Bool, true, false, cond, Option, Some, None, Result, Ok, Err, MatchResult, ◌≢◌, subst, option_map, option_and_then, codes, string_bytes, string_cmp, Bor, String, Global, refl, ap, ap₂, sym, ◌∙◌}
 use Rattle.std.proofs.lemmas.List.{drop_more}
 use Rattle.std.specs.BTreeMap.{insert_entry}
 use Rattle.std.proofs.lemmas.Bool.{cond-false}
@@ -195,12 +195,12 @@ pub attributes_field-none : (j : Json) → option_and_then as_object (get (codes
 attributes_field-none j none = attributes_held-found (get (codes "attributes") j) ∙ ap (option_and_then (λ (m : Members). attributes_of m [])) none
 
 -- what a result says of one description, it says of an equal one
-pub described_too : {X A : Type 0} (r : Result X Fault) (shown : X → A) (d e : Option A) → e ≡ d
-    → MatchResult r (λ it. d ≡ Some (shown it)) (λ refusal. refusal ≢ fault.Memory → d ≡ None)
-    → MatchResult r (λ it. e ≡ Some (shown it)) (λ refusal. refusal ≢ fault.Memory → e ≡ None)
-described_too {X} {A} r shown d e same said =
-    let Says : Option A → Type 0 = λ o. MatchResult r (λ it. o ≡ Some (shown it)) (λ refusal. refusal ≢ fault.Memory → o ≡ None) in
-    subst Says (sym same) said
+pub described_too : {X A : Type 0} (r : Result X Fault) (shown : X → A) (d e : Option A) (IsSo IsToo : Fault → Type 0) → e ≡ d
+    → ((refusal : Fault) → IsSo refusal → IsToo refusal)
+    → MatchResult r (λ it. d ≡ Some (shown it)) (λ refusal. (refusal ≢ fault.Memory → d ≡ None) × IsSo refusal)
+    → MatchResult r (λ it. e ≡ Some (shown it)) (λ refusal. (refusal ≢ fault.Memory → e ≡ None) × IsToo refusal)
+described_too (Ok it) shown d e IsSo IsToo same weaker said = same ∙ said
+described_too (Err refusal) shown d e IsSo IsToo same weaker said = (λ other. same ∙ said.0 other, weaker refusal said.1)
 
 fails : {P : Type 0} (b : Bool) → Decides b P → (P → ⊥) → b ≡ false
 fails true is unless = absurd (unless (is.0 refl))

@@ -1,5 +1,5 @@
 -- The definition of values by look-ups.
-use Rattle.std.proofs.Common.{◌≡◌, ◌≢◌, ℕ, ℤ, ◌+◌, ◌<◌, arith, rules, FitsSigned, of_z, to_z, to_z-of_z, w64, Vec, BTreeMap, ◌≤◌, List, [], ◌∷◌, ◌++◌, length, drop, drop_of_length-le, map, Bool, true, false, cond, Option, Some, None, option_map, option_and_then, codes, string_bytes, string_cmp, Bor, String, Global, refl, ap, sym, ◌∙◌}
+use Rattle.std.proofs.Common.{◌≡◌, ◌≢◌, ℕ, ℤ, ◌+◌, ◌<◌, arith, rules, FitsSigned, of_z, to_z, to_z-of_z, w64, Vec, BTreeMap, ◌≤◌, List, [], ◌∷◌, ◌++◌, length, drop, drop_of_length-le, map, Bool, true, false, cond, Option, Some, None, IsSomeAnd, subst, option_map, option_and_then, codes, string_bytes, string_cmp, Bor, String, Global, refl, ap, sym, ◌∙◌}
 use Rattle.std.proofs.lemmas.List.{length-append}
 use Rattle.std.specs.BTreeMap.{insert_entry}
 use Rattle.std.specs.Str.{bytes_eq}
@@ -218,6 +218,19 @@ view-String : (s : Bor Text) → value_view {A = Global} (kit.String s) ≡ stri
 view-String s = search (rules, the_lemmas)
 
 -- the rows of values that hold no others
+pub null_is : (v : Value Global) → v ≡ kit.Null → value_view v ≡ null
+null_is v is = ap value_view is ∙ view-Null
+
+pub array_is : (v : Value Global) (items : Vec (Value Global) Global) → v ≡ kit.Array items → value_view v ≡ array (items_view items.items)
+array_is v items is = ap value_view is ∙ view-Array items
+
+-- a number that is no whole one of 64 bits is so found
+pub no_long : (v : Value Global) (s : Bor Text) → v ≡ kit.Number s → None ≡ option_and_then whole_number (as_number (value_view v))
+    → IsSomeAnd (as_number (value_view v)) (λ text. whole_number text ≡ None)
+no_long v s is none =
+    let found : as_number (value_view v) ≡ Some s.now = ap as_number (ap value_view is ∙ view-Number s) in
+    subst (λ o. IsSomeAnd o (λ text. whole_number text ≡ None)) (sym found) (sym (none ∙ ap (option_and_then whole_number) found))
+
 pub null_row : (v : Value Global) → v ≡ kit.Null → value_of (value_view v) ≡ None
 null_row v is = ap (λ x. value_of (value_view x)) is ∙ ap value_of view-Null ∙ value_of-null
 

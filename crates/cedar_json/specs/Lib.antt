@@ -9,6 +9,7 @@ pub mod Lists
 pub mod Mark
 pub mod Nesting
 pub mod Place
+pub mod Reading
 pub mod RefusalPlace
 pub mod Repeats
 pub mod Table

@@ -26,6 +26,7 @@ pub use Rattle.cedar_json.specs.Filling.{IsAscending, all_put}
 pub use Rattle.cedar_json.specs.Lists.{all_of, field_or}
 pub use Rattle.cedar_json.specs.Mark.{Mark, Marks, mark_of, marked, open_record}
 pub use Rattle.cedar_json.specs.Place.{IsFault, IsTrueOf, member_at, step_into}
+pub use Rattle.cedar_json.specs.Reading.{IsReadFrom, IsReadWhere}
 pub use Rattle.cedar_json.specs.RefusalPlace.{IsAttributedAction, IsAttributedPlace, IsExtensionType, IsFirstPlace, IsPlaceOf, IsSecondPlaceOf, IsShadowedPlace, IsSought}
 pub use Rattle.cedar_json.specs.Repeats.{IsRepeatIn, IsRepeated}
 pub use Rattle.cedar_json.specs.Table.{action_marks, common_type_marks, definition_marks, entity_type_marks, fragment_marks, full_name, kind_marks, namespace_of, requests_marks}

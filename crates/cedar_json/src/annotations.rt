@@ -21,11 +21,9 @@ fn is_text_or_null(value: &Value<'_>) -> bool
 
 /// Refuses members that are no annotations.
 fn check_annotation_members(alloc: Global, members: &Vec<(&str, Value<'_>)>) -> Result<(), Fault>
-    ensures value { MatchResult result
-        (λ _. are_annotations (members_view members.now.items) ≡ true)
-        (λ _. are_annotations (members_view members.now.items) ≡ false) }
-    ensures place { IfErr result
-        (λ fault. IsTrueOf fault (object (members_view members.now.items))) }
+    ensures { MatchResult result (λ _. are_annotations (members_view members.now.items) ≡ true) (λ
+        fault. (are_annotations (members_view members.now.items) ≡ false) × IsTrueOf fault (object
+        (members_view members.now.items))) }
 {
     for (index, member) in members.iter().enumerate() {
         if !is_identifier(member.0) {
@@ -41,10 +39,9 @@ fn check_annotation_members(alloc: Global, members: &Vec<(&str, Value<'_>)>) -> 
 /// Refuses an object whose field `annotations` holds no annotations: an object of identifiers with
 /// texts or `null`. The field may be absent.
 pub(crate) fn check_annotations(alloc: Global, value: &Value<'_>) -> Result<(), Fault>
-    ensures value { MatchResult result
-        (λ _. annotations_fit (get (codes "annotations") (value_view value.now)) ≡ true)
-        (λ _. annotations_fit (get (codes "annotations") (value_view value.now)) ≡ false) }
-    ensures place { IfErr result (λ fault. IsTrueOf fault (value_view value.now)) }
+    ensures { MatchResult result (λ _. annotations_fit (get (codes "annotations") (value_view
+        value.now)) ≡ true) (λ fault. (annotations_fit (get (codes "annotations") (value_view
+        value.now)) ≡ false) × IsTrueOf fault (value_view value.now)) }
 {
     let name = "annotations";
     let Some(held) = value.get(name) else {

@@ -4,7 +4,7 @@ ghost use Rattle.std.specs.Prelude.{◌≡◌, ◌≢◌, List, Option, Some, No
 ghost use Rattle.json.specs.Find.{as_array, get};
 ghost use Rattle.json.specs.Json.{Json, array};
 ghost use Rattle.json.specs.Value.{items_view, value_view};
-ghost use Rattle.cedar_json.specs.Words.{IsTrueOf, all_of, field_or, optional, unless_null};
+ghost use Rattle.cedar_json.specs.Words.{IsReadFrom, IsReadWhere, IsTrueOf, all_of, field_or, optional, unless_null};
 
 use crate::fault::{Fault, FaultKind, Wanted};
 use crate::fields::lack;
@@ -25,10 +25,7 @@ pub(crate) trait Described: Sized {
 
     /// What the value describes.
     fn read(alloc: Global, value: &Value<'_>, cursor: Cursor<'_>) -> Result<Self, Fault>
-        ensures value { MatchResult result
-            (λ it. describes (value_view value.now) ≡ Some (shown it))
-            (λ fault. fault ≢ Fault.Memory → describes (value_view value.now) ≡ None) }
-        ensures place { IfErr result (λ fault. IsTrueOf fault (value_view value.now)) };
+        ensures { IsReadFrom (value_view value.now) (describes (value_view value.now)) shown result };
 }
 
 /// What some items describe.
@@ -37,10 +34,8 @@ fn read_items<T: Described + Drop>(
     items: &Vec<Value<'_>>,
     cursor: Cursor<'_>,
 ) -> Result<Vec<T>, Fault>
-    ensures value { MatchResult result
-        (λ all. all_of T.describes (items_view items.now.items) ≡ Some (map T.shown all.items))
-        (λ fault. fault ≢ Fault.Memory → all_of T.describes (items_view items.now.items) ≡ None) }
-    ensures place { IfErr result (λ fault. IsTrueOf fault (array (items_view items.now.items))) }
+    ensures { IsReadFrom (array (items_view items.now.items)) (all_of T.describes (items_view
+        items.now.items)) (λ all. map T.shown all.items) result }
 {
     let mut all = Vec::with_capacity(alloc, items.len())?;
     let mut at = cursor.first();
@@ -76,12 +71,8 @@ pub(crate) fn described_field<T: Described + Drop>(
     name: &'static str,
     cursor: Cursor<'_>,
 ) -> Result<T, Fault>
-    ensures value { MatchResult result
-        (λ it. option_and_then T.describes (get name.now (value_view value.now))
-        ≡ Some (T.shown it))
-        (λ fault. fault ≢ Fault.Memory
-        → option_and_then T.describes (get name.now (value_view value.now)) ≡ None) }
-    ensures place { IfErr result (λ fault. IsTrueOf fault (value_view value.now)) }
+    ensures { IsReadFrom (value_view value.now) (option_and_then T.describes (get name.now
+        (value_view value.now))) T.shown result }
 {
     match value.get(name) {
         Some(held) => match T::read(alloc, held, cursor.field(value, name)) {
@@ -100,12 +91,8 @@ pub(crate) fn field_or_else<T: Described + Drop>(
     absent: T,
     cursor: Cursor<'_>,
 ) -> Result<T, Fault>
-    ensures value { MatchResult result
-        (λ it. field_or (T.shown absent) T.describes (get name.now (value_view value.now))
-        ≡ Some (T.shown it))
-        (λ fault. fault ≢ Fault.Memory
-        → field_or (T.shown absent) T.describes (get name.now (value_view value.now)) ≡ None) }
-    ensures place { IfErr result (λ fault. IsTrueOf fault (value_view value.now)) }
+    ensures { IsReadFrom (value_view value.now) (field_or (T.shown absent) T.describes (get
+        name.now (value_view value.now))) T.shown result }
 {
     match value.get(name) {
         None => Ok(absent),
@@ -134,14 +121,8 @@ pub(crate) fn optional_field<T: Described + Drop>(
     name: &'static str,
     cursor: Cursor<'_>,
 ) -> Result<Option<T>, Fault>
-    ensures value { MatchResult result
-        (λ it. optional T.describes (get name.now (value_view value.now))
-        ≡ Some (option_map T.shown it))
-        (λ fault. fault ≢ Fault.Memory
-        → optional T.describes (get name.now (value_view value.now)) ≡ None) }
-    ensures place { IfErr result (λ fault. (j : Json)
-        → get name.now j ≡ get name.now (value_view value.now)
-        → IsTrueOf fault j) }
+    ensures { IsReadWhere (λ j. get name.now j ≡ get name.now (value_view value.now)) (optional
+        T.describes (get name.now (value_view value.now))) (option_map T.shown) result }
 {
     match written(value, name) {
         None => Ok(None),

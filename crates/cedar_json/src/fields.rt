@@ -37,10 +37,9 @@ pub(crate) fn field<'v, 'a>(
     value: &'v Value<'a>,
     name: &'static str,
 ) -> Result<&'v Value<'a>, Fault>
-    ensures value { MatchResult result
-        (λ held. get name.now (value_view value.now) ≡ Some (value_view held.now))
-        (λ _. get name.now (value_view value.now) ≡ None) }
-    ensures place { IfErr result (λ fault. IsTrueOf fault (value_view value.now)) }
+    ensures { MatchResult result (λ held. get name.now (value_view value.now) ≡ Some (value_view
+        held.now)) (λ fault. (get name.now (value_view value.now) ≡ None) × IsTrueOf fault
+        (value_view value.now)) }
 {
     match value.get(name) {
         Some(held) => Ok(held),
@@ -54,10 +53,9 @@ pub(crate) fn text_field<'a>(
     value: &Value<'a>,
     name: &'static str,
 ) -> Result<&'a str, Fault>
-    ensures value { MatchResult result
-        (λ text. option_and_then as_str (get name.now (value_view value.now)) ≡ Some text.now)
-        (λ _. option_and_then as_str (get name.now (value_view value.now)) ≡ None) }
-    ensures place { IfErr result (λ fault. IsTrueOf fault (value_view value.now)) }
+    ensures { MatchResult result (λ text. option_and_then as_str (get name.now (value_view
+        value.now)) ≡ Some text.now) (λ fault. (option_and_then as_str (get name.now (value_view
+        value.now)) ≡ None) × IsTrueOf fault (value_view value.now)) }
 {
     match value.get(name) {
         Some(held) => match held.as_str() {
@@ -74,11 +72,9 @@ pub(crate) fn object_field<'v, 'a>(
     value: &'v Value<'a>,
     name: &'static str,
 ) -> Result<&'v Vec<(&'a str, Value<'a>)>, Fault>
-    ensures value { MatchResult result
-        (λ members. option_and_then as_object (get name.now (value_view value.now))
-        ≡ Some (members_view members.now.items))
-        (λ _. option_and_then as_object (get name.now (value_view value.now)) ≡ None) }
-    ensures place { IfErr result (λ fault. IsTrueOf fault (value_view value.now)) }
+    ensures { MatchResult result (λ members. option_and_then as_object (get name.now (value_view
+        value.now)) ≡ Some (members_view members.now.items)) (λ fault. (option_and_then as_object
+        (get name.now (value_view value.now)) ≡ None) × IsTrueOf fault (value_view value.now)) }
 {
     match value.get(name) {
         Some(held) => match members_of(held) {
@@ -96,10 +92,9 @@ pub(crate) fn flag_field(
     name: &'static str,
     absent: bool,
 ) -> Result<bool, Fault>
-    ensures value { MatchResult result
-        (λ flag. flag_or absent (get name.now (value_view value.now)) ≡ Some flag)
-        (λ _. flag_or absent (get name.now (value_view value.now)) ≡ None) }
-    ensures place { IfErr result (λ fault. IsTrueOf fault (value_view value.now)) }
+    ensures { MatchResult result (λ flag. flag_or absent (get name.now (value_view value.now)) ≡
+        Some flag) (λ fault. (flag_or absent (get name.now (value_view value.now)) ≡ None) ×
+        IsTrueOf fault (value_view value.now)) }
 {
     match value.get(name) {
         Some(held) => match held.as_bool() {
@@ -212,10 +207,9 @@ fn other_member(members: &Vec<(&str, Value<'_>)>, own: &[&str], more: &[&str]) -
 
 /// Refuses what is no object, or an object of a kind with other fields than it may have.
 pub(crate) fn check_fields(alloc: Global, value: &Value<'_>, row: Row) -> Result<(), Fault>
-    ensures value { MatchResult result
-        (λ _. has_only (known_fields row (value_view value.now)) (value_view value.now) ≡ true)
-        (λ _. has_only (known_fields row (value_view value.now)) (value_view value.now) ≡ false) }
-    ensures place { IfErr result (λ fault. IsTrueOf fault (value_view value.now)) }
+    ensures { MatchResult result (λ _. has_only (known_fields row (value_view value.now))
+        (value_view value.now) ≡ true) (λ fault. (has_only (known_fields row (value_view
+        value.now)) (value_view value.now) ≡ false) × IsTrueOf fault (value_view value.now)) }
 {
     let Some(members) = members_of(value) else {
         return Err(Fault::here(alloc, FaultKind::Wants(Wanted::Object)));

@@ -4,7 +4,7 @@ ghost use Rattle.std.specs.Prelude.{◌≡◌, ◌≢◌, Some, None, true, fals
 ghost use Rattle.std.specs.List.{list_all};
 ghost use Rattle.json.specs.Find.{as_str};
 ghost use Rattle.json.specs.Json.{Json};
-ghost use Rattle.cedar_json.specs.Words.{IsTrueOf, begins_identifier, is_identifier_byte, is_identifier_start, is_identifier_text, is_unreserved, plain_name, plain_name_in, raw_name, spelled_name, unreserved_id_text};
+ghost use Rattle.cedar_json.specs.Words.{IsReadWhere, IsTrueOf, begins_identifier, is_identifier_byte, is_identifier_start, is_identifier_text, is_unreserved, plain_name, plain_name_in, raw_name, spelled_name, unreserved_id_text};
 
 use crate::fault::{Fault, FaultKind};
 use cedar_below::{Loc, Name, NameFault, UnreservedId};
@@ -46,11 +46,7 @@ pub(crate) fn is_identifier(text: &str) -> bool
 
 /// The name that a text spells, with the location.
 pub(crate) fn read_name(alloc: Global, text: &str, loc: Option<Loc>) -> Result<RawName, Fault>
-    ensures value { MatchResult result
-        (λ name. spelled_name text.now ≡ Some (raw_name name))
-        (λ fault. fault ≢ Fault.Memory → spelled_name text.now ≡ None) }
-    ensures place { IfErr result (λ fault. (j : Json) → as_str j ≡ Some text.now
-        → IsTrueOf fault j) }
+    ensures { IsReadWhere (λ j. as_str j ≡ Some text.now) (spelled_name text.now) raw_name result }
 {
     match RawName::from_str(alloc, text) {
         Ok(name) => Ok(RawName::new(name.into_internal().with_loc(loc))),
@@ -65,11 +61,9 @@ pub(crate) fn read_name(alloc: Global, text: &str, loc: Option<Loc>) -> Result<R
 
 /// The identifier other than the reserved word that a text spells.
 pub(crate) fn read_unreserved_id(alloc: Global, text: &str) -> Result<UnreservedId, Fault>
-    ensures value { MatchResult result
-        (λ id. (is_unreserved text.now ≡ true) × (unreserved_id_text id ≡ text.now))
-        (λ fault. fault ≢ Fault.Memory → is_unreserved text.now ≡ false) }
-    ensures place { IfErr result (λ fault. (j : Json) → as_str j ≡ Some text.now
-        → IsTrueOf fault j) }
+    ensures { MatchResult result (λ id. (is_unreserved text.now ≡ true) × (unreserved_id_text id ≡
+        text.now)) (λ fault. (fault ≢ Fault.Memory → is_unreserved text.now ≡ false) × ((j : Json)
+        → as_str j ≡ Some text.now → IsTrueOf fault j)) }
 {
     match UnreservedId::from_str(alloc, text) {
         Ok(id) => Ok(id),
@@ -85,11 +79,8 @@ pub(crate) fn read_unreserved_id(alloc: Global, text: &str) -> Result<Unreserved
 
 /// The name that isn't reserved which a text spells.
 pub(crate) fn read_plain_name(alloc: Global, text: &str) -> Result<Name, Fault>
-    ensures value { MatchResult result
-        (λ name. plain_name_in text.now ≡ Some (plain_name name))
-        (λ fault. fault ≢ Fault.Memory → plain_name_in text.now ≡ None) }
-    ensures place { IfErr result (λ fault. (j : Json) → as_str j ≡ Some text.now
-        → IsTrueOf fault j) }
+    ensures { IsReadWhere (λ j. as_str j ≡ Some text.now) (plain_name_in text.now) plain_name
+        result }
 {
     match Name::from_str(alloc, text) {
         Ok(name) => Ok(name),

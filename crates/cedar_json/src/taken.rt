@@ -7,7 +7,7 @@ ghost use Rattle.std.specs.declared.cmp.Ordering.{Ordering};
 ghost use Rattle.json.specs.Find.{get, get_member};
 ghost use Rattle.json.specs.Json.{Json, object};
 ghost use Rattle.json.specs.Value.{members_view, value_view};
-ghost use Rattle.cedar_json.specs.Words.{IsEntryPut, IsTrueOf, Text, entries_in, entries_of, field_or, member_at, optional};
+ghost use Rattle.cedar_json.specs.Words.{IsEntryPut, IsReadFrom, IsReadWhere, IsTrueOf, Text, entries_in, entries_of, field_or, member_at, optional};
 
 use crate::described::written;
 use crate::fault::{Fault, FaultKind, Wanted};
@@ -30,10 +30,7 @@ pub(crate) trait Taken: Sized {
 
     /// What the value describes, of which anything may be left.
     fn take(alloc: Global, value: &mut Value<'_>, cursor: Cursor<'_>) -> Result<Self, Fault>
-        ensures value { MatchResult result
-            (λ it. describes (value_view value.old) ≡ Some (shown it))
-            (λ fault. fault ≢ Fault.Memory → describes (value_view value.old) ≡ None) }
-        ensures place { IfErr result (λ fault. IsTrueOf fault (value_view value.old)) };
+        ensures { IsReadFrom (value_view value.old) (describes (value_view value.old)) shown result };
 }
 
 /// What a key of an object stands for, under which a map holds what the member describes.
@@ -53,12 +50,9 @@ pub(crate) trait Key: Ord {
     fn read_key(alloc: Global, key: &str, index: usize, cursor: Cursor<'_>) -> Result<Self, Fault>
     where
         Self: Sized,
-        ensures value { MatchResult result
-            (λ it. key_of key.now ≡ Some (shown_key it))
-            (λ fault. fault ≢ Fault.Memory → key_of key.now ≡ None) }
-        ensures place { IfErr result (λ fault. (j held : Json) → member_at index j
-            ≡ Some (key.now, held)
-            → IsTrueOf fault j) };
+        ensures { MatchResult result (λ it. key_of key.now ≡ Some (shown_key it)) (λ fault. (fault
+            ≢ Fault.Memory → key_of key.now ≡ None) × ((j held : Json) → member_at index j ≡ Some
+            (key.now, held) → IsTrueOf fault j)) };
 
     ghost same_order: { (a b : Self) → Self.cmp a b ≡ order (shown_key a) (shown_key b) };
 }
@@ -71,14 +65,13 @@ fn take_entry<K: Key + Drop, T: Taken + Drop>(
     cursor: Cursor<'_>,
     all: &mut Filling<K, T>,
 ) -> Result<(), Fault>
-    ensures value { MatchResult result
-        (λ _. IsEntryPut K.cmp K.shown_key T.shown (K.key_of member.entry.0.now)
-        (T.describes (value_view member.entry.1)) all.old all.new)
-        (λ fault. fault ≢ Fault.Memory → (K.key_of member.entry.0.now ≡ None)
-        ⊎ (T.describes (value_view member.entry.1) ≡ None)) }
-    ensures place { IfErr result (λ fault. (j : Json) → member_at index j
-        ≡ Some (member.entry.0.now, value_view member.entry.1)
-        → IsTrueOf fault j) }
+    ensures { MatchResult result (λ _. IsEntryPut K.cmp K.shown_key T.shown (K.key_of
+        member.entry.0.now) (T.describes (value_view member.entry.1)) all.old all.new) (λ fault.
+        (fault ≢ Fault.Memory → (K.key_of member.entry.0.now ≡ None) ⊎ (T.describes (value_view
+        member.entry.1) ≡ None)) × ((j : Json) → member_at index j ≡ Some (
+          member.entry.0.now,
+          value_view member.entry.1,
+        ) → IsTrueOf fault j)) }
 {
     let (name, mut value) = member;
     let key = K::read_key(alloc, name, index, cursor)?;
@@ -96,13 +89,12 @@ fn take_entries<K: Key + Drop, T: Taken + Drop>(
     members: Vec<(&str, Value<'_>)>,
     cursor: Cursor<'_>,
 ) -> Result<BTreeMap<K, T>, Fault>
-    ensures value { MatchResult result
-        (λ all. entries_of K.order K.key_of T.describes (members_view members.entry.items) []
-        ≡ Some (map (λ entry. (K.shown_key entry.0, T.shown entry.1)) all.entries))
-        (λ fault. fault ≢ Fault.Memory
-        → entries_of K.order K.key_of T.describes (members_view members.entry.items) [] ≡ None) }
-    ensures place { IfErr result
-        (λ fault. IsTrueOf fault (object (members_view members.entry.items))) }
+    ensures { IsReadFrom (object (members_view members.entry.items)) (entries_of K.order K.key_of
+        T.describes (members_view members.entry.items) []) (λ all. map (λ entry. (
+          K.shown_key
+              entry.0,
+          T.shown entry.1,
+        )) all.entries) result }
 {
     let mut all = Filling::new(alloc);
     let mut at = cursor.first();
@@ -176,14 +168,8 @@ pub(crate) fn taken_field<T: Taken + Drop>(
     name: &'static str,
     cursor: Cursor<'_>,
 ) -> Result<T, Fault>
-    ensures value { MatchResult result
-        (λ it. option_and_then T.describes (get name.now (value_view value.old))
-        ≡ Some (T.shown it))
-        (λ fault. fault ≢ Fault.Memory
-        → option_and_then T.describes (get name.now (value_view value.old)) ≡ None) }
-    ensures place { IfErr result (λ fault. (j : Json)
-        → get name.now j ≡ get name.now (value_view value.old)
-        → IsTrueOf fault j) }
+    ensures value { IsReadWhere (λ j. get name.now j ≡ get name.now (value_view value.old))
+        (option_and_then T.describes (get name.now (value_view value.old))) T.shown result }
     ensures others { (other : Text) → bytes_eq name.now other ≡ false
         → get other (value_view value.new) ≡ get other (value_view value.old) }
 {
@@ -205,14 +191,8 @@ pub(crate) fn taken_or_else<T: Taken + Drop>(
     absent: T,
     cursor: Cursor<'_>,
 ) -> Result<T, Fault>
-    ensures value { MatchResult result
-        (λ it. field_or (T.shown absent) T.describes (get name.now (value_view value.old))
-        ≡ Some (T.shown it))
-        (λ fault. fault ≢ Fault.Memory
-        → field_or (T.shown absent) T.describes (get name.now (value_view value.old)) ≡ None) }
-    ensures place { IfErr result (λ fault. (j : Json)
-        → get name.now j ≡ get name.now (value_view value.old)
-        → IsTrueOf fault j) }
+    ensures value { IsReadWhere (λ j. get name.now j ≡ get name.now (value_view value.old)) (field_or
+        (T.shown absent) T.describes (get name.now (value_view value.old))) T.shown result }
     ensures others { (other : Text) → bytes_eq name.now other ≡ false
         → get other (value_view value.new) ≡ get other (value_view value.old) }
 {
@@ -229,14 +209,8 @@ pub(crate) fn taken_unless_null<T: Taken + Drop>(
     name: &'static str,
     cursor: Cursor<'_>,
 ) -> Result<Option<T>, Fault>
-    ensures value { MatchResult result
-        (λ it. optional T.describes (get name.now (value_view value.old))
-        ≡ Some (option_map T.shown it))
-        (λ fault. fault ≢ Fault.Memory
-        → optional T.describes (get name.now (value_view value.old)) ≡ None) }
-    ensures place { IfErr result (λ fault. (j : Json)
-        → get name.now j ≡ get name.now (value_view value.old)
-        → IsTrueOf fault j) }
+    ensures value { IsReadWhere (λ j. get name.now j ≡ get name.now (value_view value.old)) (optional
+        T.describes (get name.now (value_view value.old))) (option_map T.shown) result }
     ensures others { (other : Text) → bytes_eq name.now other ≡ false
         → get other (value_view value.new) ≡ get other (value_view value.old) }
 {

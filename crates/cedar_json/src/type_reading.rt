@@ -3,7 +3,7 @@
 ghost use Rattle.std.specs.Prelude.{◌≡◌, ◌≢◌, [], Some, None, MatchResult, IfErr, codes, option_and_then, option_map};
 ghost use Rattle.json.specs.Json.{object};
 ghost use Rattle.json.specs.Value.{value_view, members_view};
-ghost use Rattle.cedar_json.specs.Words.{Common, Expr, IsTrueOf, additional_field, attribute_of, attributes_field, attributes_of, element_field, extension_in, plain_members, raw_attribute, raw_expr, raw_name, raw_variant, record_of, reference_in, set_expr, spelled_name, text_held, type_by_word, type_of, type_with};
+ghost use Rattle.cedar_json.specs.Words.{Common, Expr, IsReadFrom, IsTrueOf, additional_field, attribute_of, attributes_field, attributes_of, element_field, extension_in, plain_members, raw_attribute, raw_expr, raw_name, raw_variant, record_of, reference_in, set_expr, spelled_name, text_held, type_by_word, type_of, type_with};
 
 use crate::annotations::check_annotations;
 use crate::described::Described;
@@ -19,12 +19,8 @@ use std::collections::BTreeMap;
 
 /// The name that the field `name` holds.
 fn name_field(alloc: Global, value: &Value<'_>, cursor: Cursor<'_>) -> Result<RawName, Fault>
-    ensures value { MatchResult result
-        (λ name. option_and_then spelled_name (text_held (codes "name") (value_view value.now))
-        ≡ Some (raw_name name))
-        (λ fault. fault ≢ Fault.Memory
-        → option_and_then spelled_name (text_held (codes "name") (value_view value.now)) ≡ None) }
-    ensures place { IfErr result (λ fault. IsTrueOf fault (value_view value.now)) }
+    ensures { IsReadFrom (value_view value.now) (option_and_then spelled_name (text_held (codes
+        "name") (value_view value.now))) raw_name result }
 {
     let field = "name";
     let text = text_field(alloc, value, field)?;
@@ -47,12 +43,8 @@ fn extension_type(
     value: &Value<'_>,
     cursor: Cursor<'_>,
 ) -> Result<Type<RawName>, Fault>
-    ensures value { MatchResult result
-        (λ ty. option_and_then extension_in (text_held (codes "name") (value_view value.now))
-        ≡ Some (raw_expr None ty))
-        (λ fault. fault ≢ Fault.Memory
-        → option_and_then extension_in (text_held (codes "name") (value_view value.now)) ≡ None) }
-    ensures place { IfErr result (λ fault. IsTrueOf fault (value_view value.now)) }
+    ensures { IsReadFrom (value_view value.now) (option_and_then extension_in (text_held (codes
+        "name") (value_view value.now))) (raw_expr None) result }
 {
     let field = "name";
     let text = text_field(alloc, value, field)?;
@@ -69,12 +61,9 @@ fn common_type(
     word: &str,
     cursor: Cursor<'_>,
 ) -> Result<Type<RawName>, Fault>
-    ensures value { MatchResult result
-        (λ ty. reference_in Common word.now ≡ Some (raw_expr None ty))
-        (λ fault. fault ≢ Fault.Memory → reference_in Common word.now ≡ None) }
-    ensures place { IfErr result (λ fault.
-        text_held (codes "type") (value_view value.now) ≡ Some word.now
-        → IsTrueOf fault (value_view value.now)) }
+    ensures { MatchResult result (λ ty. reference_in Common word.now ≡ Some (raw_expr None ty)) (λ
+        fault. (fault ≢ Fault.Memory → reference_in Common word.now ≡ None) × (text_held (codes
+        "type") (value_view value.now) ≡ Some word.now → IsTrueOf fault (value_view value.now))) }
 {
     match read_name(alloc, word, cursor.field(value, "type").loc()) {
         Ok(type_name) => Ok(Type::CommonTypeRef {
@@ -106,10 +95,8 @@ pub(crate) fn read_type_of(
     row: Row,
     cursor: Cursor<'_>,
 ) -> Result<Type<RawName>, Fault>
-    ensures value { MatchResult result
-        (λ ty. type_with row (value_view value.now) ≡ Some (raw_expr None ty))
-        (λ fault. fault ≢ Fault.Memory → type_with row (value_view value.now) ≡ None) }
-    ensures place { IfErr result (λ fault. IsTrueOf fault (value_view value.now)) }
+    ensures { IsReadFrom (value_view value.now) (type_with row (value_view value.now)) (raw_expr
+        None) result }
 {
     let word = text_field(alloc, value, "type")?;
     check_fields(alloc, value, row)?;
@@ -124,18 +111,13 @@ fn read_type_by(
     word: &str,
     cursor: Cursor<'_>,
 ) -> Result<Type<RawName>, Fault>
-    ensures value { MatchResult result
-        (λ ty. type_by_word word.now (element_field (value_view value.now))
+    ensures { MatchResult result (λ ty. type_by_word word.now (element_field (value_view
+        value.now)) (attributes_field (value_view value.now)) (additional_field (value_view
+        value.now)) (text_held (codes "name") (value_view value.now)) ≡ Some (raw_expr None ty)) (λ
+        fault. (fault ≢ Fault.Memory → type_by_word word.now (element_field (value_view value.now))
         (attributes_field (value_view value.now)) (additional_field (value_view value.now))
-        (text_held (codes "name") (value_view value.now))
-        ≡ Some (raw_expr None ty))
-        (λ fault. fault ≢ Fault.Memory
-        → type_by_word word.now (element_field (value_view value.now))
-        (attributes_field (value_view value.now)) (additional_field (value_view value.now))
-        (text_held (codes "name") (value_view value.now)) ≡ None) }
-    ensures place { IfErr result (λ fault.
-        text_held (codes "type") (value_view value.now) ≡ Some word.now
-        → IsTrueOf fault (value_view value.now)) }
+        (text_held (codes "name") (value_view value.now)) ≡ None) × (text_held (codes "type")
+        (value_view value.now) ≡ Some word.now → IsTrueOf fault (value_view value.now))) }
 {
     match word {
         "String" => Ok(plain_type(TypeVariant::String, cursor.loc())),
@@ -159,12 +141,8 @@ fn read_type_by(
 /// The type of the sets of what the field `element` describes.
 #[cycle(type_reading)]
 fn read_set(alloc: Global, value: &Value<'_>, cursor: Cursor<'_>) -> Result<Type<RawName>, Fault>
-    ensures value { MatchResult result
-        (λ ty. option_map set_expr (element_field (value_view value.now))
-        ≡ Some (raw_expr None ty))
-        (λ fault. fault ≢ Fault.Memory
-        → option_map set_expr (element_field (value_view value.now)) ≡ None) }
-    ensures place { IfErr result (λ fault. IsTrueOf fault (value_view value.now)) }
+    ensures { IsReadFrom (value_view value.now) (option_map set_expr (element_field (value_view
+        value.now))) (raw_expr None) result }
 {
     let name = "element";
     let held = field(alloc, value, name)?;
@@ -180,14 +158,8 @@ fn read_set(alloc: Global, value: &Value<'_>, cursor: Cursor<'_>) -> Result<Type
 /// The record type that the fields `attributes` and `additionalAttributes` describe.
 #[cycle(type_reading)]
 fn read_record(alloc: Global, value: &Value<'_>, cursor: Cursor<'_>) -> Result<Type<RawName>, Fault>
-    ensures value { MatchResult result
-        (λ ty. record_of (additional_field (value_view value.now))
-        (attributes_field (value_view value.now))
-        ≡ Some (raw_expr None ty))
-        (λ fault. fault ≢ Fault.Memory
-        → record_of (additional_field (value_view value.now))
-        (attributes_field (value_view value.now)) ≡ None) }
-    ensures place { IfErr result (λ fault. IsTrueOf fault (value_view value.now)) }
+    ensures { IsReadFrom (value_view value.now) (record_of (additional_field (value_view
+        value.now)) (attributes_field (value_view value.now))) (raw_expr None) result }
 {
     let additional_attributes = flag_field(alloc, value, "additionalAttributes", false)?;
     let name = "attributes";
@@ -211,12 +183,8 @@ fn read_attributes(
     members: &Vec<(&str, Value<'_>)>,
     cursor: Cursor<'_>,
 ) -> Result<BTreeMap<String, TypeOfAttribute<RawName>>, Fault>
-    ensures value { MatchResult result
-        (λ all. attributes_of (members_view members.now.items) []
-        ≡ Some (plain_members None all.entries))
-        (λ fault. fault ≢ Fault.Memory → attributes_of (members_view members.now.items) [] ≡ None) }
-    ensures place { IfErr result
-        (λ fault. IsTrueOf fault (object (members_view members.now.items))) }
+    ensures { IsReadFrom (object (members_view members.now.items)) (attributes_of (members_view
+        members.now.items) []) (λ all. plain_members None all.entries) result }
 {
     let mut attributes = BTreeMap::new(alloc);
     let mut at = cursor.first();
@@ -238,10 +206,8 @@ fn read_attribute(
     value: &Value<'_>,
     cursor: Cursor<'_>,
 ) -> Result<TypeOfAttribute<RawName>, Fault>
-    ensures value { MatchResult result
-        (λ it. attribute_of (value_view value.now) ≡ Some (raw_attribute None it))
-        (λ fault. fault ≢ Fault.Memory → attribute_of (value_view value.now) ≡ None) }
-    ensures place { IfErr result (λ fault. IsTrueOf fault (value_view value.now)) }
+    ensures { IsReadFrom (value_view value.now) (attribute_of (value_view value.now))
+        (raw_attribute None) result }
 {
     let required = flag_field(alloc, value, "required", true)?;
     check_annotations(alloc, value)?;

@@ -4,7 +4,7 @@ ghost use Rattle.std.specs.Prelude.{◌≡◌, ◌≢◌, [], Some, None, MatchR
 ghost use Rattle.json.specs.Find.{as_number};
 ghost use Rattle.json.specs.Json.{array, object};
 ghost use Rattle.json.specs.Value.{items_view, members_view, value_view};
-ghost use Rattle.cedar_json.specs.Words.{IsTrueOf, call_in, pairs_of, plain_name, plain_name_in, sole_held, text_held, tree_of, trees_of, uid_in, uid_of, value_of, values_of, whole_number, written_exprs};
+ghost use Rattle.cedar_json.specs.Words.{IsReadFrom, IsTrueOf, call_in, pairs_of, plain_name, plain_name_in, sole_held, text_held, tree_of, trees_of, uid_in, uid_of, value_of, values_of, whole_number, written_exprs};
 
 use crate::fault::{Fault, FaultKind, Row, Wanted};
 use crate::fields::{check_fields, field, text_field};
@@ -43,12 +43,8 @@ fn sole<'v, 'a>(members: &'v Vec<(&'a str, Value<'a>)>, name: &str) -> Option<&'
 
 /// The name that isn't reserved which a field spells.
 fn plain_name_field(alloc: Global, value: &Value<'_>, name: &'static str) -> Result<Name, Fault>
-    ensures value { MatchResult result
-        (λ found. option_and_then plain_name_in (text_held name.now (value_view value.now))
-        ≡ Some (plain_name found))
-        (λ fault. fault ≢ Fault.Memory
-        → option_and_then plain_name_in (text_held name.now (value_view value.now)) ≡ None) }
-    ensures place { IfErr result (λ fault. IsTrueOf fault (value_view value.now)) }
+    ensures { IsReadFrom (value_view value.now) (option_and_then plain_name_in (text_held name.now
+        (value_view value.now))) plain_name result }
 {
     let text = text_field(alloc, value, name)?;
     match read_plain_name(alloc, text) {
@@ -59,10 +55,7 @@ fn plain_name_field(alloc: Global, value: &Value<'_>, name: &'static str) -> Res
 
 /// The uid that a value describes.
 fn read_uid(alloc: Global, value: &Value<'_>) -> Result<EntityUID, Fault>
-    ensures value { MatchResult result
-        (λ uid. uid_in (value_view value.now) ≡ Some (uid_of uid))
-        (λ fault. fault ≢ Fault.Memory → uid_in (value_view value.now) ≡ None) }
-    ensures place { IfErr result (λ fault. IsTrueOf fault (value_view value.now)) }
+    ensures { IsReadFrom (value_view value.now) (uid_in (value_view value.now)) uid_of result }
 {
     check_fields(alloc, value, Row::OfEntityUid)?;
     let name = plain_name_field(alloc, value, "type")?;
@@ -74,10 +67,7 @@ fn read_uid(alloc: Global, value: &Value<'_>) -> Result<EntityUID, Fault>
 /// The value that a JSON value describes.
 #[cycle(value_reading)]
 pub(crate) fn read_expr(alloc: Global, value: &Value<'_>) -> Result<RestrictedExpr, Fault>
-    ensures value { MatchResult result
-        (λ expr. value_of (value_view value.now) ≡ Some (tree_of expr))
-        (λ fault. fault ≢ Fault.Memory → value_of (value_view value.now) ≡ None) }
-    ensures place { IfErr result (λ fault. IsTrueOf fault (value_view value.now)) }
+    ensures { IsReadFrom (value_view value.now) (value_of (value_view value.now)) tree_of result }
 {
     match value {
         Value::Null => Err(Fault::here(alloc, FaultKind::Wants(Wanted::NoNull))),
@@ -95,10 +85,8 @@ pub(crate) fn read_expr(alloc: Global, value: &Value<'_>) -> Result<RestrictedEx
 /// The values that some items describe.
 #[cycle(value_reading)]
 fn read_exprs(alloc: Global, items: &Vec<Value<'_>>) -> Result<Vec<RestrictedExpr>, Fault>
-    ensures value { MatchResult result
-        (λ exprs. values_of (items_view items.now.items) ≡ Some (trees_of exprs.items))
-        (λ fault. fault ≢ Fault.Memory → values_of (items_view items.now.items) ≡ None) }
-    ensures place { IfErr result (λ fault. IsTrueOf fault (array (items_view items.now.items))) }
+    ensures { IsReadFrom (array (items_view items.now.items)) (values_of (items_view
+        items.now.items)) (λ exprs. trees_of exprs.items) result }
 {
     let mut exprs = Vec::new(alloc);
     for (index, item) in items.iter().enumerate() {
@@ -116,12 +104,8 @@ fn read_object<'a>(
     alloc: Global,
     members: &Vec<(&'a str, Value<'a>)>,
 ) -> Result<RestrictedExpr, Fault>
-    ensures value { MatchResult result
-        (λ expr. value_of (object (members_view members.now.items)) ≡ Some (tree_of expr))
-        (λ fault. fault ≢ Fault.Memory → value_of (object (members_view members.now.items))
-        ≡ None) }
-    ensures place { IfErr result
-        (λ fault. IsTrueOf fault (object (members_view members.now.items))) }
+    ensures { IsReadFrom (object (members_view members.now.items)) (value_of (object (members_view
+        members.now.items))) tree_of result }
 {
     let entity = "__entity";
     if let Some(held) = sole(members, entity) {
@@ -143,10 +127,7 @@ fn read_object<'a>(
 /// The call that a value describes.
 #[cycle(value_reading)]
 fn read_call(alloc: Global, value: &Value<'_>) -> Result<RestrictedExpr, Fault>
-    ensures value { MatchResult result
-        (λ expr. call_in (value_view value.now) ≡ Some (tree_of expr))
-        (λ fault. fault ≢ Fault.Memory → call_in (value_view value.now) ≡ None) }
-    ensures place { IfErr result (λ fault. IsTrueOf fault (value_view value.now)) }
+    ensures { IsReadFrom (value_view value.now) (call_in (value_view value.now)) tree_of result }
 {
     check_fields(alloc, value, Row::OfCall)?;
     let function = plain_name_field(alloc, value, "fn")?;
@@ -165,11 +146,8 @@ fn read_pairs<'a>(
     alloc: Global,
     members: &Vec<(&'a str, Value<'a>)>,
 ) -> Result<BTreeMap<String, RestrictedExpr>, Fault>
-    ensures value { MatchResult result
-        (λ all. pairs_of (members_view members.now.items) [] ≡ Some (written_exprs all))
-        (λ fault. fault ≢ Fault.Memory → pairs_of (members_view members.now.items) [] ≡ None) }
-    ensures place { IfErr result
-        (λ fault. IsTrueOf fault (object (members_view members.now.items))) }
+    ensures { IsReadFrom (object (members_view members.now.items)) (pairs_of (members_view
+        members.now.items) []) written_exprs result }
 {
     let mut pairs = BTreeMap::new(alloc);
     for (index, member) in members.iter().enumerate() {

@@ -14,18 +14,29 @@ use Rattle.cedar_json.proofs.taken.take_entries.Goals as goal
 abbrev Held : Type 0
 Held = Bor Text × Value Global
 
--- the refused member is that at the index that the fault names
-pub returns-in_err-take_entry-clause-place : goal.returns-in_err-take_entry-clause-place
-returns-in_err-take_entry-clause-place g c =
+-- where one member describes nothing, all together describe nothing; the refused member is that at
+-- the index that the fault names
+pub returns-in_err-take_entry : goal.returns-in_err-take_entry
+returns-in_err-take_entry g c =
+    let is = g.K.Key in
+    let held = g.T.Taken in
     let x : Held = c.in-Some.member in
     let all = c.args.members.items in
     let i = enumerate_count c.loop-index.index-iterator in
+    let left = into_iter_items (enumerate_source c.loop-index.index-iterator) in
+    let after = into_iter_items (enumerate_source c.next.new.self) in
+    let filled = c.loop-index.all in
     let steps = c.in-Some.ensures.steps in
-    let first = c.loop-index.invariant.1 ∙ steps.0.0 in
-    let here = ap (λ n. nth_member n (members_view all)) steps.1
-    ∙ nth_member-left all i x (into_iter_items (enumerate_source c.next.new.self)) first in
+    let here = left_here all left after i x c.loop-index.invariant.1 steps.0.0 in
+    let found = ap (λ n. nth_member n (members_view all)) steps.1
+    ∙ nth_member-left all i x after (c.loop-index.invariant.1 ∙ steps.0.0) in
     let p = err_from_is_err_and c.from_residual.result c.from_residual.ensures.1 in
-    rw (p.1, p.2) (c.in_err-take_entry.ensures.place (object (members_view all)) here)
+    rw (p.1, p.2) (λ other. elim (c.in_err-take_entry.ensures.0 other) [
+      | inl unnamed ↦ no_key g.K.Ord.cmp is.order is.shown_key held.shown g.met.K.Key.same_order is.key_of held.describes all i x filled here
+          c.loop-index.invariant.0 unnamed
+      | inr nothing ↦ no_entry g.K.Ord.cmp is.order is.shown_key held.shown g.met.K.Key.same_order is.key_of held.describes all i x filled here
+          c.loop-index.invariant.0 nothing
+    ], c.in_err-take_entry.ensures.1 (object (members_view all)) found)
 
 -- one more member is read and put under its key
 pub loop-index-preserved : goal.loop-index-preserved
@@ -39,35 +50,15 @@ loop-index-preserved g c =
     let after = into_iter_items (enumerate_source c.next.new.self) in
     let steps = c.in-Some.ensures.steps in
     let here = left_here all left after i x c.loop-index.invariant.1 steps.0.0 in
-    let put = c.in_ok-take_entry.ensures.value in (
+    let put = c.in_ok-take_entry.ensures in (
       rw steps.2 (entry_more g.K.Ord.cmp is.order is.shown_key held.shown g.met.K.Key.same_order is.key_of held.describes all i x
           c.loop-index.all here c.loop-index.invariant.0 put.0.0 put.0.1 c.take_entry.new.all put.1 put.2 put.3),
       left_after all left after i (enumerate_count c.next.new.self) x c.loop-index.invariant.1 steps.0.0 steps.2,
     )
 
--- where one member describes nothing, all together describe nothing
-pub returns-in_err-take_entry-clause-value : goal.returns-in_err-take_entry-clause-value
-returns-in_err-take_entry-clause-value g c =
-    let is = g.K.Key in
-    let held = g.T.Taken in
-    let x : Held = c.in-Some.member in
-    let all = c.args.members.items in
-    let i = enumerate_count c.loop-index.index-iterator in
-    let left = into_iter_items (enumerate_source c.loop-index.index-iterator) in
-    let after = into_iter_items (enumerate_source c.next.new.self) in
-    let filled = c.loop-index.all in
-    let here = left_here all left after i x c.loop-index.invariant.1 c.in-Some.ensures.steps.0.0 in
-    let p = err_from_is_err_and c.from_residual.result c.from_residual.ensures.1 in
-    rw (p.1, p.2) (λ other. elim (c.in_err-take_entry.ensures.value other) [
-      | inl unnamed ↦ no_key g.K.Ord.cmp is.order is.shown_key held.shown g.met.K.Key.same_order is.key_of held.describes all i x filled here
-          c.loop-index.invariant.0 unnamed
-      | inr nothing ↦ no_entry g.K.Ord.cmp is.order is.shown_key held.shown g.met.K.Key.same_order is.key_of held.describes all i x filled here
-          c.loop-index.invariant.0 nothing
-    ])
-
 -- where no member is left, all were read
-pub returns-clause-value : goal.returns-clause-value
-returns-clause-value g c =
+pub returns : goal.returns
+returns g c =
     let is = g.K.Key in
     let held = g.T.Taken in
     let left = enumerate_source c.loop-index.index-iterator in

@@ -5,89 +5,101 @@ use Rattle.json.specs.Json.{array, object}
 use Rattle.json.specs.Tree.{items_tokens, json_tokens, members_tokens}
 use Rattle.json.specs.Value.{items_view, members_view, value_view}
 use Rattle.cedar_below.proofs.TreeLemmas.{tree_of-set, tree_of-uid}
-use Rattle.cedar_json.specs.Words.{number_value, record_of_pairs, set_value, tree_of, uid_value, value_of}
+use Rattle.cedar_json.specs.Words.{IsTrueOf, number_value, record_of_pairs, set_value, tree_of, uid_value, value_of}
 use Rattle.cedar_json.proofs.FieldLemmas.{get-smaller, nth_member-is}
 use Rattle.cedar_json.proofs.ListLemmas.{get_item-is, items_from_index}
 use Rattle.cedar_json.proofs.TypeLemmas.{members_from_index}
-use Rattle.cedar_json.proofs.ValueLemmas.{all_pairs, all_values, array_row, call_no_argument, call_no_function, call_other, call_read, no_pair, no_value, null_row, number_read, number_row, pair_more, record_read, sole_held-get, sole_held-smaller, text_row, truth_row, value_more, value_of-call, value_of-entity, value_of-record}
+use Rattle.cedar_json.proofs.ValueLemmas.{all_pairs, all_values, array_is, array_row, call_no_argument, call_no_function, call_other, call_read, no_long, no_pair, no_value, null_is, null_row, number_read, number_row, pair_more, record_read, sole_held-get, sole_held-smaller, text_row, truth_row, value_more, value_of-call, value_of-entity, value_of-record}
 use Rattle.cedar_json.proofs.value_reading.+value_reading.Goals as goal
 
 -- a value whose fields aren't those of a call describes no call
-pub read_call-returns-in_err-check_fields-clause-value : goal.read_call-returns-in_err-check_fields-clause-value
-read_call-returns-in_err-check_fields-clause-value t c =
+pub read_call-returns-in_err-check_fields : goal.read_call-returns-in_err-check_fields
+read_call-returns-in_err-check_fields t c =
     let p = err_from_is_err_and c.from_residual.result c.from_residual.ensures.1 in
-    rw (p.1, p.2) (λ other. call_other (value_view c.args.value.now) c.in_err-check_fields.ensures.value)
+    rw (p.1, p.2) (λ other. call_other (value_view c.args.value.now) c.in_err-check_fields.ensures.0, c.in_err-check_fields.ensures.1)
 
 -- a value describes no call where its field `fn` spells no name of a function
-pub read_call-returns-in_err-function-clause-value : goal.read_call-returns-in_err-function-clause-value
-read_call-returns-in_err-function-clause-value t c =
+pub read_call-returns-in_err-function : goal.read_call-returns-in_err-function
+read_call-returns-in_err-function t c =
     let p = err_from_is_err_and c.from_residual-in_err-function.result c.from_residual-in_err-function.ensures.1 in
-    rw (p.1, p.2) (λ other. call_no_function (value_view c.args.value.now) (c.in_err-function.ensures.value other))
+    rw (p.1, p.2) (λ other. call_no_function (value_view c.args.value.now) (c.in_err-function.ensures.0 other), c.in_err-function.ensures.1)
 
 -- a value describes no call where it has no field `arg`
-pub read_call-returns-in_err-field-clause-value : goal.read_call-returns-in_err-field-clause-value
-read_call-returns-in_err-field-clause-value t c =
+pub read_call-returns-in_err-field : goal.read_call-returns-in_err-field
+read_call-returns-in_err-field t c =
     let p = err_from_is_err_and c.from_residual-in_err-field.result c.from_residual-in_err-field.ensures.1 in
-    rw (p.1, p.2) (λ other. call_no_argument (value_view c.args.value.now) (ap (option_and_then value_of) c.in_err-field.ensures.value))
+    rw (p.1, p.2) (λ other. call_no_argument (value_view c.args.value.now) (ap (option_and_then value_of) c.in_err-field.ensures.0), c.in_err-field.ensures.1)
 
 -- the argument has fewer tokens than the whole value, so the reading ends
 pub read_call-read_expr-requires : goal.read_call-read_expr-requires
 read_call-read_expr-requires t c =
     let below : length (json_tokens (value_view c.in_ok-field.field-0.now)) < length (json_tokens (value_view c.args.value.now)) =
-    get-smaller (codes "arg") _ _ c.in_ok-field.ensures.value in
+    get-smaller (codes "arg") _ _ c.in_ok-field.ensures in
     let smaller : 4 * length (json_tokens (value_view c.in_ok-field.field-0.now)) < 4 * length (json_tokens (value_view c.args.value.now)) + 1 =
     omega (arith, below) in
     search rules
 
 -- the call described is the function and the one argument that were read
-pub read_call-returns-in_ok-vec-in-Ok-clause-value : goal.read_call-returns-in_ok-vec-in-Ok-clause-value
-read_call-returns-in_ok-vec-in-Ok-clause-value t c =
+pub read_call-returns-in_ok-vec-in-Ok : goal.read_call-returns-in_ok-vec-in-Ok
+read_call-returns-in_ok-vec-in-Ok t c =
     call_read (value_view c.args.value.now) c.in_ok-function.function c.in_ok-vec-in-Ok.field-0 c.in-Ok.argument
-    c.in_ok-check_fields.ensures.value c.in_ok-function.ensures.value
-    (ap (option_and_then value_of) c.in_ok-field.ensures.value ∙ c.in-Ok.ensures.value) c.in_ok-vec-in-Ok.ensures.items
+    c.in_ok-check_fields.ensures c.in_ok-function.ensures
+    (ap (option_and_then value_of) c.in_ok-field.ensures ∙ c.in-Ok.ensures) c.in_ok-vec-in-Ok.ensures.items
 
--- a value describes no call where its argument describes no value
-pub read_call-returns-in-Err-clause-value : goal.read_call-returns-in-Err-clause-value
-read_call-returns-in-Err-clause-value t c =
-    λ other. call_no_argument (value_view c.args.value.now)
-    (ap (option_and_then value_of) c.in_ok-field.ensures.value ∙ c.in-Err.ensures.value (c.within.ensures.memory other))
+-- a value describes no call where its argument describes no value, and the fault of the argument is
+-- found in the value under `arg`
+pub read_call-returns-in-Err : goal.read_call-returns-in-Err
+read_call-returns-in-Err t c =
+    let j = value_view c.args.value.now in (
+      λ other. call_no_argument j (ap (option_and_then value_of) c.in_ok-field.ensures ∙ c.in-Err.ensures.0 (c.within.ensures.memory other)),
+      c.within.ensures.place j (value_view c.in_ok-field.field-0.now) c.in_ok-field.ensures c.in-Err.ensures.1,
+    )
 
 -- an array describes no set where its items describe no values
-pub read_expr-returns-in_err-read_exprs-in-Array-clause-value : goal.read_expr-returns-in_err-read_exprs-in-Array-clause-value
-read_expr-returns-in_err-read_exprs-in-Array-clause-value t c =
+pub read_expr-returns-in_err-read_exprs-in-Array : goal.read_expr-returns-in_err-read_exprs-in-Array
+read_expr-returns-in_err-read_exprs-in-Array t c =
     let p = err_from_is_err_and c.from_residual-in_err-read_exprs-in-Array.result c.from_residual-in_err-read_exprs-in-Array.ensures.1 in
     rw (p.1, p.2) (λ other. array_row c.args.value.now c.in-Array.items c.in-Array.is
-    ∙ ap (option_map set_value) (c.in_err-read_exprs-in-Array.ensures.value other))
+    ∙ ap (option_map set_value) (c.in_err-read_exprs-in-Array.ensures.0 other),
+    subst (IsTrueOf c.in_err-read_exprs-in-Array.field-0.0) (sym (array_is c.args.value.now c.in-Array.items c.in-Array.is))
+    c.in_err-read_exprs-in-Array.ensures.1)
 
 -- `null` describes no value
-pub read_expr-returns-in-Null-clause-value : goal.read_expr-returns-in-Null-clause-value
-read_expr-returns-in-Null-clause-value t c = λ _. null_row c.args.value.now c.in-Null.is
+pub read_expr-returns-in-Null : goal.read_expr-returns-in-Null
+read_expr-returns-in-Null t c = (
+      λ _. null_row c.args.value.now c.in-Null.is,
+      c.here.ensures.place (value_view c.args.value.now) (null_is c.args.value.now c.in-Null.is),
+    )
 
 -- `true` and `false` describe the booleans
-pub read_expr-returns-in-Bool-clause-value : goal.read_expr-returns-in-Bool-clause-value
-read_expr-returns-in-Bool-clause-value t c = truth_row c.args.value.now c.in-Bool.flag c.in-Bool.is
+pub read_expr-returns-in-Bool : goal.read_expr-returns-in-Bool
+read_expr-returns-in-Bool t c = truth_row c.args.value.now c.in-Bool.flag c.in-Bool.is
 
 -- a whole number of 64 bits describes a long
-pub read_expr-returns-in-Some-clause-value : goal.read_expr-returns-in-Some-clause-value
-read_expr-returns-in-Some-clause-value t c =
+pub read_expr-returns-in-Some : goal.read_expr-returns-in-Some
+read_expr-returns-in-Some t c =
     let fits : FitsSigned w64 c.in-Some.number = search rules in
     number_row c.args.value.now c.in-Number.field-0 c.in-Number.is ∙ ap (option_map number_value) (sym c.in-Some.ensures)
     ∙ ap Some (number_read c.in-Some.number fits)
 
 -- any other number describes no value
-pub read_expr-returns-in-None-clause-value : goal.read_expr-returns-in-None-clause-value
-read_expr-returns-in-None-clause-value t c =
-    λ _. number_row c.args.value.now c.in-Number.field-0 c.in-Number.is ∙ ap (option_map number_value) (sym c.in-None.ensures)
+pub read_expr-returns-in-None : goal.read_expr-returns-in-None
+read_expr-returns-in-None t c =
+    let v = c.args.value.now in
+    let s = c.in-Number.field-0 in (
+      λ _. number_row v s c.in-Number.is ∙ ap (option_map number_value) (sym c.in-None.ensures),
+      c.here-in-None.ensures.place (value_view v) (no_long v s c.in-Number.is c.in-None.ensures),
+    )
 
 -- a JSON string describes the string of its text
-pub read_expr-returns-in_ok-from_str-in-String-clause-value : goal.read_expr-returns-in_ok-from_str-in-String-clause-value
-read_expr-returns-in_ok-from_str-in-String-clause-value t c =
+pub read_expr-returns-in_ok-from_str-in-String : goal.read_expr-returns-in_ok-from_str-in-String
+read_expr-returns-in_ok-from_str-in-String t c =
     text_row c.args.value.now c.in-String.text c.in_ok-from_str-in-String.field-0 c.in-String.is c.in_ok-from_str-in-String.ensures.ok
 
 -- an array describes the set of the values that its items describe
-pub read_expr-returns-in_ok-read_exprs-in-Array-clause-value : goal.read_expr-returns-in_ok-read_exprs-in-Array-clause-value
-read_expr-returns-in_ok-read_exprs-in-Array-clause-value t c =
-    array_row c.args.value.now c.in-Array.items c.in-Array.is ∙ ap (option_map set_value) c.in_ok-read_exprs-in-Array.ensures.value
+pub read_expr-returns-in_ok-read_exprs-in-Array : goal.read_expr-returns-in_ok-read_exprs-in-Array
+read_expr-returns-in_ok-read_exprs-in-Array t c =
+    array_row c.args.value.now c.in-Array.items c.in-Array.is ∙ ap (option_map set_value) c.in_ok-read_exprs-in-Array.ensures
     ∙ ap Some (sym (tree_of-set c.in_ok-read_exprs-in-Array.field-0))
 
 -- one item has fewer tokens than all items, so the reading ends
@@ -101,22 +113,21 @@ read_exprs-read_expr-requires t c =
     let smaller : 4 * length (json_tokens (value_view x)) < 4 * length (items_tokens (items_view c.args.items.now.items)) = omega (arith, below) in
     search rules
 
--- where one item describes no value, all together describe none
-pub read_exprs-returns-in-Err-clause-value : goal.read_exprs-returns-in-Err-clause-value
-read_exprs-returns-in-Err-clause-value t c =
+-- where one item describes no value, all together describe none, and the fault of the item is found
+-- in the array at the index of the item
+pub read_exprs-returns-in-Err : goal.read_exprs-returns-in-Err
+read_exprs-returns-in-Err t c =
     let x = c.item-item.result in
-    let here = items_from_index c.deref-item-items.result.now c.args.items.now.items c.loop-index.index x c.deref-item-items.ensures.value
-    c.loop-index-test.true c.item-item.is in
-    λ other. no_value c.args.items.now.items c.loop-index.index x c.loop-index.exprs.items here c.loop-index.invariant
-    (c.in-Err.ensures.value (c.in_item.ensures.memory other))
-
--- the fault of an item is found in the array at the index of the item
-pub read_exprs-returns-in-Err-clause-place : goal.read_exprs-returns-in-Err-clause-place
-read_exprs-returns-in-Err-clause-place t c =
-    let x = c.item-item.result in
-    let here = get_item-is c.deref-item-items.result.now c.args.items.now.items c.loop-index.index x c.deref-item-items.ensures.value
-    c.loop-index-test.true c.item-item.is in
-    c.in_item.ensures.place (array (items_view c.args.items.now.items)) (value_view x) here c.in-Err.ensures.place
+    let items = c.deref-item-items.result.now in
+    let all = c.args.items.now.items in
+    let i = c.loop-index.index in
+    let same = c.deref-item-items.ensures.value in
+    let here = items_from_index items all i x same c.loop-index-test.true c.item-item.is in
+    let found = get_item-is items all i x same c.loop-index-test.true c.item-item.is in (
+      λ other. no_value all i x c.loop-index.exprs.items here c.loop-index.invariant
+      (c.in-Err.ensures.0 (c.in_item.ensures.memory other)),
+      c.in_item.ensures.place (array (items_view all)) (value_view x) found c.in-Err.ensures.1,
+    )
 
 -- one more value is read and put behind those before it
 pub read_exprs-loop-index-preserved : goal.read_exprs-loop-index-preserved
@@ -125,11 +136,11 @@ read_exprs-loop-index-preserved t c =
     let here = items_from_index c.deref-item-items.result.now c.args.items.now.items c.loop-index.index x c.deref-item-items.ensures.value
     c.loop-index-test.true c.item-item.is in
     value_more c.args.items.now.items c.loop-index.index x c.loop-index.exprs.items here c.loop-index.invariant c.in-Ok.expr c.push.new.self.items
-    c.in-Ok.ensures.value (search rules)
+    c.in-Ok.ensures (search rules)
 
 -- where no item is left, all values were read
-pub read_exprs-returns-clause-value : goal.read_exprs-returns-clause-value
-read_exprs-returns-clause-value t c =
+pub read_exprs-returns : goal.read_exprs-returns
+read_exprs-returns t c =
     all_values c.deref-item-items.result.now c.args.items.now.items c.loop-index.index c.loop-index.exprs.items
     c.deref-item-items.ensures.value c.loop-index-test.false c.loop-index.invariant
 
@@ -144,23 +155,21 @@ read_pairs-read_expr-requires t c =
     let smaller : 4 * length (json_tokens (value_view x.1)) < 4 * length (members_tokens (members_view c.args.members.now.items)) + 1 = omega (arith, below) in
     search rules
 
--- where one member describes no value, all together describe none
-pub read_pairs-returns-in-Err-clause-value : goal.read_pairs-returns-in-Err-clause-value
-read_pairs-returns-in-Err-clause-value t c =
+-- where one member describes no value, all together describe none, and the fault of the member's
+-- value is found in the object at the index of the member
+pub read_pairs-returns-in-Err : goal.read_pairs-returns-in-Err
+read_pairs-returns-in-Err t c =
     let x = c.member-item.result in
+    let items = c.deref-member-items.result.now in
     let all = c.args.members.now.items in
-    let here = members_from_index c.deref-member-items.result.now all c.loop-index.index x c.deref-member-items.ensures.value c.loop-index-test.true
-    c.member-item.is in
-    λ other. no_pair tree_of all c.loop-index.index x c.loop-index.pairs.entries here c.loop-index.invariant
-    (c.in-Err.ensures.value (c.in_member.ensures.memory other))
-
--- the fault of a member's value is found in the object at the index of the member
-pub read_pairs-returns-in-Err-clause-place : goal.read_pairs-returns-in-Err-clause-place
-read_pairs-returns-in-Err-clause-place t c =
-    let x = c.member-item.result in
-    let here = nth_member-is c.deref-member-items.result.now c.args.members.now.items c.loop-index.index x c.deref-member-items.ensures.value
-    c.loop-index-test.true c.member-item.is in
-    c.in_member.ensures.place (object (members_view c.args.members.now.items)) (x.0.now, value_view x.1) here c.in-Err.ensures.place
+    let i = c.loop-index.index in
+    let same = c.deref-member-items.ensures.value in
+    let here = members_from_index items all i x same c.loop-index-test.true c.member-item.is in
+    let found = nth_member-is items all i x same c.loop-index-test.true c.member-item.is in (
+      λ other. no_pair tree_of all i x c.loop-index.pairs.entries here c.loop-index.invariant
+      (c.in-Err.ensures.0 (c.in_member.ensures.memory other)),
+      c.in_member.ensures.place (object (members_view all)) (x.0.now, value_view x.1) found c.in-Err.ensures.1,
+    )
 
 -- one more value is read and put under its key
 pub read_pairs-loop-index-preserved : goal.read_pairs-loop-index-preserved
@@ -170,69 +179,64 @@ read_pairs-loop-index-preserved t c =
     let here = members_from_index c.deref-member-items.result.now all c.loop-index.index x c.deref-member-items.ensures.value c.loop-index-test.true
     c.member-item.is in
     pair_more tree_of all c.loop-index.index x c.loop-index.pairs.entries here c.loop-index.invariant c.in_ok-name.name c.in-Ok.expr
-    c.put.new.map.entries c.in-Ok.ensures.value c.in_ok-name.ensures.ok (search rules)
+    c.put.new.map.entries c.in-Ok.ensures c.in_ok-name.ensures.ok (search rules)
 
 -- where no member is left, all values were read
-pub read_pairs-returns-clause-value : goal.read_pairs-returns-clause-value
-read_pairs-returns-clause-value t c =
+pub read_pairs-returns : goal.read_pairs-returns
+read_pairs-returns t c =
     all_pairs tree_of c.deref-member-items.result.now c.args.members.now.items c.loop-index.index c.loop-index.pairs.entries
     c.deref-member-items.ensures.value c.loop-index-test.false c.loop-index.invariant
 
 -- an object whose one key is `__entity` describes the entity of the uid that it holds
-pub read_object-returns-in-Ok-clause-value : goal.read_object-returns-in-Ok-clause-value
-read_object-returns-in-Ok-clause-value t c =
+pub read_object-returns-in-Ok : goal.read_object-returns-in-Ok
+read_object-returns-in-Ok t c =
     let ms = members_view c.args.members.now.items in
-    value_of-entity ms (value_view c.in-Some.held.now) (sym c.in-Some.ensures) ∙ ap (option_map uid_value) c.in-Ok.ensures.value
+    value_of-entity ms (value_view c.in-Some.held.now) (sym c.in-Some.ensures) ∙ ap (option_map uid_value) c.in-Ok.ensures
     ∙ ap Some (sym (tree_of-uid c.in-Ok.uid))
 
--- it describes no value where what the key `__entity` holds is no uid
-pub read_object-returns-in-Err-clause-value : goal.read_object-returns-in-Err-clause-value
-read_object-returns-in-Err-clause-value t c =
+-- it describes no value where what the key `__entity` holds is no uid, whose fault is found in the
+-- object under `__entity`
+pub read_object-returns-in-Err : goal.read_object-returns-in-Err
+read_object-returns-in-Err t c =
     let ms = members_view c.args.members.now.items in
-    λ other. value_of-entity ms (value_view c.in-Some.held.now) (sym c.in-Some.ensures)
-    ∙ ap (option_map uid_value) (c.in-Err.ensures.value (c.within.ensures.memory other))
+    let k = value_view c.in-Some.held.now in (
+      λ other. value_of-entity ms k (sym c.in-Some.ensures)
+      ∙ ap (option_map uid_value) (c.in-Err.ensures.0 (c.within.ensures.memory other)),
+      c.within.ensures.place (object ms) k (sole_held-get (codes "__entity") ms k (sym c.in-Some.ensures)) c.in-Err.ensures.1,
+    )
 
 -- an object whose one key is `__extn` describes the call that it holds
-pub read_object-returns-in-Ok-read_call-clause-value : goal.read_object-returns-in-Ok-read_call-clause-value
-read_object-returns-in-Ok-read_call-clause-value t c =
+pub read_object-returns-in-Ok-read_call : goal.read_object-returns-in-Ok-read_call
+read_object-returns-in-Ok-read_call t c =
     let ms = members_view c.args.members.now.items in
-    value_of-call ms (value_view c.in-Some-sole.held.now) (sym c.in_default.ensures) (sym c.in-Some-sole.ensures) ∙ c.in-Ok-read_call.ensures.value
+    value_of-call ms (value_view c.in-Some-sole.held.now) (sym c.in_default.ensures) (sym c.in-Some-sole.ensures) ∙ c.in-Ok-read_call.ensures
 
--- it describes no value where what the key `__extn` holds is no call
-pub read_object-returns-in-Err-read_call-clause-value : goal.read_object-returns-in-Err-read_call-clause-value
-read_object-returns-in-Err-read_call-clause-value t c =
+-- it describes no value where what the key `__extn` holds is no call, whose fault is found in the
+-- object under `__extn`
+pub read_object-returns-in-Err-read_call : goal.read_object-returns-in-Err-read_call
+read_object-returns-in-Err-read_call t c =
     let ms = members_view c.args.members.now.items in
-    λ other. value_of-call ms (value_view c.in-Some-sole.held.now) (sym c.in_default.ensures) (sym c.in-Some-sole.ensures)
-    ∙ c.in-Err-read_call.ensures.value (c.within-in-Err-read_call.ensures.memory other)
+    let k = value_view c.in-Some-sole.held.now in (
+      λ other. value_of-call ms k (sym c.in_default.ensures) (sym c.in-Some-sole.ensures)
+      ∙ c.in-Err-read_call.ensures.0 (c.within-in-Err-read_call.ensures.memory other),
+      c.within-in-Err-read_call.ensures.place (object ms) k (sole_held-get (codes "__extn") ms k (sym c.in-Some-sole.ensures))
+      c.in-Err-read_call.ensures.1,
+    )
 
 -- any other object describes no record where its members describe no values
-pub read_object-returns-in_err-read_pairs-clause-value : goal.read_object-returns-in_err-read_pairs-clause-value
-read_object-returns-in_err-read_pairs-clause-value t c =
+pub read_object-returns-in_err-read_pairs : goal.read_object-returns-in_err-read_pairs
+read_object-returns-in_err-read_pairs t c =
     let ms = members_view c.args.members.now.items in
     let p = err_from_is_err_and c.from_residual.result c.from_residual.ensures.1 in
     rw (p.1, p.2) (λ other. value_of-record ms (sym c.in_default.ensures) (sym c.in_default-sole.ensures)
-    ∙ ap (option_map record_of_pairs) (c.in_err-read_pairs.ensures.value other))
+    ∙ ap (option_map record_of_pairs) (c.in_err-read_pairs.ensures.0 other), c.in_err-read_pairs.ensures.1)
 
 -- any other object describes the record of the values that its members describe
-pub read_object-returns-clause-value : goal.read_object-returns-clause-value
-read_object-returns-clause-value t c =
+pub read_object-returns : goal.read_object-returns
+read_object-returns t c =
     let ms = members_view c.args.members.now.items in
     value_of-record ms (sym c.in_default.ensures) (sym c.in_default-sole.ensures)
-    ∙ ap (option_map record_of_pairs) c.in_ok-read_pairs.ensures.value ∙ ap Some (record_read c.in_ok-read_pairs.field-0)
-
--- the fault of the uid is found in the object under `__entity`
-pub read_object-returns-in-Err-clause-place : goal.read_object-returns-in-Err-clause-place
-read_object-returns-in-Err-clause-place t c =
-    let ms = members_view c.args.members.now.items in
-    let k = value_view c.in-Some.held.now in
-    c.within.ensures.place (object ms) k (sole_held-get (codes "__entity") ms k (sym c.in-Some.ensures)) c.in-Err.ensures.place
-
--- the fault of the call is found in the object under `__extn`
-pub read_object-returns-in-Err-read_call-clause-place : goal.read_object-returns-in-Err-read_call-clause-place
-read_object-returns-in-Err-read_call-clause-place t c =
-    let ms = members_view c.args.members.now.items in
-    let k = value_view c.in-Some-sole.held.now in
-    c.within-in-Err-read_call.ensures.place (object ms) k (sole_held-get (codes "__extn") ms k (sym c.in-Some-sole.ensures)) c.in-Err-read_call.ensures.place
+    ∙ ap (option_map record_of_pairs) c.in_ok-read_pairs.ensures ∙ ap Some (record_read c.in_ok-read_pairs.field-0)
 
 -- what the key `__extn` holds has fewer tokens than all members, so the reading ends
 pub read_object-read_call-requires : goal.read_object-read_call-requires
