@@ -7,10 +7,10 @@ use Rattle.std.proofs.lemmas.Slice.Eq.{bytes_eq-Decides}
 use Rattle.std.specs.Bool.{Decides}
 use Rattle.std.specs.Str.{bytes_eq}
 use Rattle.json.specs.Json.{Json, null, boolean, number, string, array, object, Members, no_members, member}
-use Rattle.json.specs.Find.{as_object, get, get_member, later_or}
+use Rattle.json.specs.Find.{as_object, as_str, get, get_member, later_or}
 use Rattle.json.specs.Value.{value_view, members_view}
 use Rattle.json.specs.declared.value.Value.{Value}
-use Rattle.cedar_json.specs.Words.{Attributes, Common, Entity, Expr, Fault, Loc, OfAttribute, OfType, RawName, Text, «Type», TypeOfAttribute, additional_field, annotations_fit, attribute_by, attribute_of, attribute_step, attributes_field, attributes_held, attributes_in, attributes_of, element_field, element_of, flag_or, fold-roll-TypeOfAttribute, has_only, if_so, known_fields, later_field, members_from, plain_members, raw_attribute, raw_expr, raw_record, raw_reference, record_expr, record_of, record_step, reference_in, roll-RecordType, roll-TypeOfAttribute, spelled_name, text_cmp, text_held, type_by, type_by_word, type_of, type_step, type_with, variant_step}
+use Rattle.cedar_json.specs.Words.{Attributes, Common, Entity, Expr, Fault, Loc, OfAttribute, OfType, PlainName, RawName, Reference, Text, «Type», TypeOfAttribute, additional_field, annotations_fit, attribute_by, attribute_of, attribute_step, attributes_field, attributes_held, attributes_in, attributes_of, element_field, element_of, entity_reference, flag_or, fold-roll-TypeOfAttribute, has_only, if_so, known_fields, later_field, members_from, plain_members, raw_attribute, raw_expr, raw_record, raw_reference, record_expr, record_of, record_step, reference_in, roll-RecordType, roll-TypeOfAttribute, spelled_name, text_cmp, text_held, type_by, type_by_word, type_of, type_step, type_with, variant_step}
 use Rattle.cedar_names.specs.Words.{named, reference_to}
 use Rattle.cedar_names.specs.declared.json_schema.reference_type.ReferenceType.{ReferenceType}
 use Rattle.cedar_names.specs.declared.json_schema.reference_type.ReferenceType.TheVariants.{CommonOrEntity}
@@ -193,6 +193,31 @@ attributes_field-held j ms held = attributes_held-found (get (codes "attributes"
 
 pub attributes_field-none : (j : Json) → option_and_then as_object (get (codes "attributes") j) ≡ None → attributes_field j ≡ None
 attributes_field-none j none = attributes_held-found (get (codes "attributes") j) ∙ ap (option_and_then (λ (m : Members). attributes_of m [])) none
+
+-- a reference to an entity type is one of the name that the text spells
+entity_reference-spelled : (o : Option Json)
+    → option_and_then entity_reference o ≡ option_map (reference_to None Entity) (option_and_then spelled_name (option_and_then as_str o))
+entity_reference-spelled None = refl
+entity_reference-spelled (Some j) = refl
+
+referred : (o : Option PlainName) (name : PlainName) → option_map (reference_to None Entity) o ≡ Some (reference_to None Entity name)
+    → o ≡ Some name
+referred None name e = absurd (cc)
+referred (Some other) name e =
+    let same : reference_to None Entity other ≡ reference_to None Entity name = cc in
+    let names : other ∷ [] ≡ name ∷ [] = ap (λ (it : Reference). it.possibilities) same in cc
+
+unreferred : (o : Option PlainName) → option_map (reference_to None Entity) o ≡ None → o ≡ None
+unreferred None e = refl
+unreferred (Some other) e = absurd (cc)
+
+-- so a field that holds such a reference spells its name, and one that holds none spells none
+pub name_held : (o : Option Json) (name : PlainName) → option_and_then entity_reference o ≡ Some (reference_to None Entity name)
+    → option_and_then spelled_name (option_and_then as_str o) ≡ Some name
+name_held o name e = referred _ name (sym (entity_reference-spelled o) ∙ e)
+
+pub no_name_held : (o : Option Json) → option_and_then entity_reference o ≡ None → option_and_then spelled_name (option_and_then as_str o) ≡ None
+no_name_held o e = unreferred _ (sym (entity_reference-spelled o) ∙ e)
 
 -- what a result says of one description, it says of an equal one
 pub described_too : {X A : Type 0} (r : Result X Fault) (shown : X → A) (d e : Option A) (IsSo IsToo : Fault → Type 0) → e ≡ d

@@ -1,10 +1,10 @@
 //! Reading declarations of actions.
 
-ghost use Rattle.std.specs.Prelude.{◌≡◌, ◌≢◌, Some, None, false, MatchResult, IfErr, codes, option_map};
+ghost use Rattle.std.specs.Prelude.{◌≡◌, None, false, codes, option_map};
 ghost use Rattle.std.specs.Str.{bytes_eq};
 ghost use Rattle.json.specs.Find.{get};
 ghost use Rattle.json.specs.Value.{value_view};
-ghost use Rattle.cedar_json.specs.Words.{IsReadFrom, IsTrueOf, Requests, Text, Tree, WrittenAction, WrittenParent, action_of, optional, pairs_in, parent_of, requests_of, tree_of, value_expr, value_of, written_action, written_pairs, written_parent, written_requests};
+ghost use Rattle.cedar_json.specs.Words.{IsReadFrom, Requests, Text, Tree, WrittenAction, WrittenParent, action_of, optional, pairs_in, parent_of, requests_of, tree_of, value_expr, value_of, written_action, written_pairs, written_parent, written_requests};
 
 use crate::annotations::check_annotations;
 use crate::described::{Described, described_field, optional_field};
@@ -93,8 +93,9 @@ fn attributes_field(
     value: &mut Value<'_>,
     cursor: Cursor<'_>,
 ) -> Result<Option<BTreeMap<String, CedarValue>>, Fault>
-    ensures value { IsReadFrom (value_view value.old) (optional pairs_in (get (codes "attributes")
-        (value_view value.old))) (option_map written_pairs) result }
+    ensures value { IsReadFrom (value_view value.old)
+        (optional pairs_in (get (codes "attributes") (value_view value.old)))
+        (option_map written_pairs) result }
     ensures others { (other : Text) → bytes_eq (codes "attributes") other ≡ false
         → get other (value_view value.new) ≡ get other (value_view value.old) }
 {

@@ -1,6 +1,6 @@
 //! Annotations, which are read and dropped.
 
-ghost use Rattle.std.specs.Prelude.{◌≡◌, Some, true, false, MatchResult, IfErr, codes};
+ghost use Rattle.std.specs.Prelude.{◌≡◌, Some, true, false, MatchResult, codes};
 ghost use Rattle.json.specs.Find.{get};
 ghost use Rattle.json.specs.Json.{object};
 ghost use Rattle.json.specs.Value.{value_view, members_view};
@@ -21,9 +21,10 @@ fn is_text_or_null(value: &Value<'_>) -> bool
 
 /// Refuses members that are no annotations.
 fn check_annotation_members(alloc: Global, members: &Vec<(&str, Value<'_>)>) -> Result<(), Fault>
-    ensures { MatchResult result (λ _. are_annotations (members_view members.now.items) ≡ true) (λ
-        fault. (are_annotations (members_view members.now.items) ≡ false) × IsTrueOf fault (object
-        (members_view members.now.items))) }
+    ensures { MatchResult result
+        (λ _. are_annotations (members_view members.now.items) ≡ true)
+        (λ fault. (are_annotations (members_view members.now.items) ≡ false)
+        × IsTrueOf fault (object (members_view members.now.items))) }
 {
     for (index, member) in members.iter().enumerate() {
         if !is_identifier(member.0) {
@@ -39,9 +40,10 @@ fn check_annotation_members(alloc: Global, members: &Vec<(&str, Value<'_>)>) -> 
 /// Refuses an object whose field `annotations` holds no annotations: an object of identifiers with
 /// texts or `null`. The field may be absent.
 pub(crate) fn check_annotations(alloc: Global, value: &Value<'_>) -> Result<(), Fault>
-    ensures { MatchResult result (λ _. annotations_fit (get (codes "annotations") (value_view
-        value.now)) ≡ true) (λ fault. (annotations_fit (get (codes "annotations") (value_view
-        value.now)) ≡ false) × IsTrueOf fault (value_view value.now)) }
+    ensures { MatchResult result
+        (λ _. annotations_fit (get (codes "annotations") (value_view value.now)) ≡ true)
+        (λ fault. (annotations_fit (get (codes "annotations") (value_view value.now)) ≡ false)
+        × IsTrueOf fault (value_view value.now)) }
 {
     let name = "annotations";
     let Some(held) = value.get(name) else {

@@ -1,10 +1,10 @@
 //! What JSON values describe that are read by reference: the parts of a declaration.
 
-ghost use Rattle.std.specs.Prelude.{◌≡◌, ◌≢◌, List, Option, Some, None, MatchResult, IfErr, map, option_and_then, option_map};
+ghost use Rattle.std.specs.Prelude.{◌≡◌, List, Option, Some, None, map, option_and_then, option_map};
 ghost use Rattle.json.specs.Find.{as_array, get};
 ghost use Rattle.json.specs.Json.{Json, array};
 ghost use Rattle.json.specs.Value.{items_view, value_view};
-ghost use Rattle.cedar_json.specs.Words.{IsReadFrom, IsReadWhere, IsTrueOf, all_of, field_or, optional, unless_null};
+ghost use Rattle.cedar_json.specs.Words.{IsReadFrom, IsReadWhere, all_of, field_or, optional, unless_null};
 
 use crate::fault::{Fault, FaultKind, Wanted};
 use crate::fields::lack;
@@ -25,7 +25,8 @@ pub(crate) trait Described: Sized {
 
     /// What the value describes.
     fn read(alloc: Global, value: &Value<'_>, cursor: Cursor<'_>) -> Result<Self, Fault>
-        ensures { IsReadFrom (value_view value.now) (describes (value_view value.now)) shown result };
+        ensures { IsReadFrom (value_view value.now)
+            (describes (value_view value.now)) shown result };
 }
 
 /// What some items describe.
@@ -34,8 +35,8 @@ fn read_items<T: Described + Drop>(
     items: &Vec<Value<'_>>,
     cursor: Cursor<'_>,
 ) -> Result<Vec<T>, Fault>
-    ensures { IsReadFrom (array (items_view items.now.items)) (all_of T.describes (items_view
-        items.now.items)) (λ all. map T.shown all.items) result }
+    ensures { IsReadFrom (array (items_view items.now.items))
+        (all_of T.describes (items_view items.now.items)) (λ all. map T.shown all.items) result }
 {
     let mut all = Vec::with_capacity(alloc, items.len())?;
     let mut at = cursor.first();
@@ -71,8 +72,8 @@ pub(crate) fn described_field<T: Described + Drop>(
     name: &'static str,
     cursor: Cursor<'_>,
 ) -> Result<T, Fault>
-    ensures { IsReadFrom (value_view value.now) (option_and_then T.describes (get name.now
-        (value_view value.now))) T.shown result }
+    ensures { IsReadFrom (value_view value.now)
+        (option_and_then T.describes (get name.now (value_view value.now))) T.shown result }
 {
     match value.get(name) {
         Some(held) => match T::read(alloc, held, cursor.field(value, name)) {
@@ -91,8 +92,9 @@ pub(crate) fn field_or_else<T: Described + Drop>(
     absent: T,
     cursor: Cursor<'_>,
 ) -> Result<T, Fault>
-    ensures { IsReadFrom (value_view value.now) (field_or (T.shown absent) T.describes (get
-        name.now (value_view value.now))) T.shown result }
+    ensures { IsReadFrom (value_view value.now)
+        (field_or (T.shown absent) T.describes (get name.now (value_view value.now)))
+        T.shown result }
 {
     match value.get(name) {
         None => Ok(absent),
@@ -121,8 +123,8 @@ pub(crate) fn optional_field<T: Described + Drop>(
     name: &'static str,
     cursor: Cursor<'_>,
 ) -> Result<Option<T>, Fault>
-    ensures { IsReadWhere (λ j. get name.now j ≡ get name.now (value_view value.now)) (optional
-        T.describes (get name.now (value_view value.now))) (option_map T.shown) result }
+    ensures { IsReadWhere (λ j. get name.now j ≡ get name.now (value_view value.now))
+        (optional T.describes (get name.now (value_view value.now))) (option_map T.shown) result }
 {
     match written(value, name) {
         None => Ok(None),

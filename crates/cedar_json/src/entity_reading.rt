@@ -1,9 +1,9 @@
 //! Reading declarations of entity types.
 
-ghost use Rattle.std.specs.Prelude.{◌≡◌, ◌≢◌, Option, Some, None, MatchResult, IfErr, codes, map, option_map};
+ghost use Rattle.std.specs.Prelude.{◌≡◌, Option, Some, None, codes, map, option_map};
 ghost use Rattle.json.specs.Find.{as_str, get};
 ghost use Rattle.json.specs.Value.{value_view};
-ghost use Rattle.cedar_json.specs.Words.{Entity, IsReadFrom, IsTrueOf, Reference, Text, WrittenEntity, body_by, choices_in, eid_text, empty_record, entity_of, entity_reference, items_of, raw_expr, raw_record, raw_reference, shape_in, standard_of, tags_in, written_entity, written_kind};
+ghost use Rattle.cedar_json.specs.Words.{Entity, IsReadFrom, Reference, Text, WrittenEntity, body_by, choices_in, eid_text, empty_record, entity_of, entity_reference, items_of, raw_expr, raw_record, raw_reference, shape_in, standard_of, tags_in, written_entity, written_kind};
 
 use crate::annotations::check_annotations;
 use crate::described::{Described, field_or_else};
@@ -60,8 +60,8 @@ fn read_choices(
     value: &Value<'_>,
     cursor: Cursor<'_>,
 ) -> Result<NonEmpty<Eid>, Fault>
-    ensures { IsReadFrom (value_view value.now) (choices_in (value_view value.now)) (λ choices. map
-        eid_text (items_of choices)) result }
+    ensures { IsReadFrom (value_view value.now)
+        (choices_in (value_view value.now)) (λ choices. map eid_text (items_of choices)) result }
 {
     let mut ids = Vec::<Eid>::read(alloc, value, cursor)?;
     if ids.is_empty() {
@@ -79,8 +79,8 @@ pub(crate) fn shape_field(
     name: &'static str,
     cursor: Cursor<'_>,
 ) -> Result<AttributesOrContext<RawName>, Fault>
-    ensures { IsReadFrom (value_view value.now) (shape_in (get name.now (value_view value.now))) (λ
-        shape. raw_expr None shape.0) result }
+    ensures { IsReadFrom (value_view value.now)
+        (shape_in (get name.now (value_view value.now))) (λ shape. raw_expr None shape.0) result }
 {
     let absent = plain_type(TypeVariant::Record(empty_record(alloc)), None);
     let ty = field_or_else(alloc, value, name, absent, cursor)?;
@@ -103,8 +103,8 @@ fn tags_field(
     value: &Value<'_>,
     cursor: Cursor<'_>,
 ) -> Result<Option<Type<RawName>>, Fault>
-    ensures { IsReadFrom (value_view value.now) (tags_in (get (codes "tags") (value_view
-        value.now))) (option_map (raw_expr None)) result }
+    ensures { IsReadFrom (value_view value.now)
+        (tags_in (get (codes "tags") (value_view value.now))) (option_map (raw_expr None)) result }
 {
     let name = "tags";
     match value.get(name) {
@@ -122,8 +122,8 @@ fn read_standard(
     value: &Value<'_>,
     cursor: Cursor<'_>,
 ) -> Result<EntityTypeKind<RawName>, Fault>
-    ensures { IsReadFrom (value_view value.now) (standard_of (value_view value.now)) written_kind
-        result }
+    ensures { IsReadFrom (value_view value.now)
+        (standard_of (value_view value.now)) written_kind result }
 {
     let member_of_types = field_or_else(alloc, value, "memberOfTypes", Vec::new(alloc), cursor)?;
     let shape = shape_field(alloc, value, "shape", cursor)?;
@@ -141,8 +141,9 @@ fn read_kind(
     value: &Value<'_>,
     cursor: Cursor<'_>,
 ) -> Result<EntityTypeKind<RawName>, Fault>
-    ensures { IsReadFrom (value_view value.now) (body_by (value_view value.now) (get (codes "enum")
-        (value_view value.now))) written_kind result }
+    ensures { IsReadFrom (value_view value.now)
+        (body_by (value_view value.now) (get (codes "enum") (value_view value.now)))
+        written_kind result }
 {
     let Some(held) = value.get("enum") else {
         check_fields(alloc, value, Row::OfEntityType)?;

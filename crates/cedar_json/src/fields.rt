@@ -1,6 +1,6 @@
 //! The fields of JSON objects.
 
-ghost use Rattle.std.specs.Prelude.{◌≡◌, ◌++◌, true, false, Some, None, MatchOption, MatchResult, IfErr, option_map, option_and_then};
+ghost use Rattle.std.specs.Prelude.{◌≡◌, ◌++◌, true, false, Some, None, MatchOption, MatchResult, option_map, option_and_then};
 ghost use Rattle.json.specs.Find.{get, as_object, as_str};
 ghost use Rattle.json.specs.Value.{members_view, value_view};
 ghost use Rattle.cedar_json.specs.Words.{IsOther, IsTrueOf, flag_or, further_fields, has_only, is_among, keys_among, known_fields, own_fields, texts_of, type_fields, type_word};
@@ -37,9 +37,10 @@ pub(crate) fn field<'v, 'a>(
     value: &'v Value<'a>,
     name: &'static str,
 ) -> Result<&'v Value<'a>, Fault>
-    ensures { MatchResult result (λ held. get name.now (value_view value.now) ≡ Some (value_view
-        held.now)) (λ fault. (get name.now (value_view value.now) ≡ None) × IsTrueOf fault
-        (value_view value.now)) }
+    ensures { MatchResult result
+        (λ held. get name.now (value_view value.now) ≡ Some (value_view held.now))
+        (λ fault. (get name.now (value_view value.now) ≡ None)
+        × IsTrueOf fault (value_view value.now)) }
 {
     match value.get(name) {
         Some(held) => Ok(held),
@@ -53,9 +54,10 @@ pub(crate) fn text_field<'a>(
     value: &Value<'a>,
     name: &'static str,
 ) -> Result<&'a str, Fault>
-    ensures { MatchResult result (λ text. option_and_then as_str (get name.now (value_view
-        value.now)) ≡ Some text.now) (λ fault. (option_and_then as_str (get name.now (value_view
-        value.now)) ≡ None) × IsTrueOf fault (value_view value.now)) }
+    ensures { MatchResult result
+        (λ text. option_and_then as_str (get name.now (value_view value.now)) ≡ Some text.now)
+        (λ fault. (option_and_then as_str (get name.now (value_view value.now)) ≡ None)
+        × IsTrueOf fault (value_view value.now)) }
 {
     match value.get(name) {
         Some(held) => match held.as_str() {
@@ -72,9 +74,11 @@ pub(crate) fn object_field<'v, 'a>(
     value: &'v Value<'a>,
     name: &'static str,
 ) -> Result<&'v Vec<(&'a str, Value<'a>)>, Fault>
-    ensures { MatchResult result (λ members. option_and_then as_object (get name.now (value_view
-        value.now)) ≡ Some (members_view members.now.items)) (λ fault. (option_and_then as_object
-        (get name.now (value_view value.now)) ≡ None) × IsTrueOf fault (value_view value.now)) }
+    ensures { MatchResult result
+        (λ members. option_and_then as_object (get name.now (value_view value.now))
+        ≡ Some (members_view members.now.items))
+        (λ fault. (option_and_then as_object (get name.now (value_view value.now)) ≡ None)
+        × IsTrueOf fault (value_view value.now)) }
 {
     match value.get(name) {
         Some(held) => match members_of(held) {
@@ -92,9 +96,10 @@ pub(crate) fn flag_field(
     name: &'static str,
     absent: bool,
 ) -> Result<bool, Fault>
-    ensures { MatchResult result (λ flag. flag_or absent (get name.now (value_view value.now)) ≡
-        Some flag) (λ fault. (flag_or absent (get name.now (value_view value.now)) ≡ None) ×
-        IsTrueOf fault (value_view value.now)) }
+    ensures { MatchResult result
+        (λ flag. flag_or absent (get name.now (value_view value.now)) ≡ Some flag)
+        (λ fault. (flag_or absent (get name.now (value_view value.now)) ≡ None)
+        × IsTrueOf fault (value_view value.now)) }
 {
     match value.get(name) {
         Some(held) => match held.as_bool() {
@@ -207,9 +212,11 @@ fn other_member(members: &Vec<(&str, Value<'_>)>, own: &[&str], more: &[&str]) -
 
 /// Refuses what is no object, or an object of a kind with other fields than it may have.
 pub(crate) fn check_fields(alloc: Global, value: &Value<'_>, row: Row) -> Result<(), Fault>
-    ensures { MatchResult result (λ _. has_only (known_fields row (value_view value.now))
-        (value_view value.now) ≡ true) (λ fault. (has_only (known_fields row (value_view
-        value.now)) (value_view value.now) ≡ false) × IsTrueOf fault (value_view value.now)) }
+    ensures { MatchResult result
+        (λ _. has_only (known_fields row (value_view value.now)) (value_view value.now) ≡ true)
+        (λ fault. (has_only (known_fields row (value_view value.now)) (value_view value.now)
+        ≡ false)
+        × IsTrueOf fault (value_view value.now)) }
 {
     let Some(members) = members_of(value) else {
         return Err(Fault::here(alloc, FaultKind::Wants(Wanted::Object)));

@@ -1,6 +1,6 @@
 //! Keys that come twice in an object.
 
-ghost use Rattle.std.specs.Prelude.{◌≡◌, Some, IfErr, IfOk, MatchOption, OnOk};
+ghost use Rattle.std.specs.Prelude.{◌≡◌, Some, IfOk, MatchOption, MatchResult};
 ghost use Rattle.json.specs.Json.{Json, array, object};
 ghost use Rattle.json.specs.Strict.{AreDistinct, HasUniqueKeys, ItemsHaveUniqueKeys, MembersHaveUniqueKeys, keys};
 ghost use Rattle.json.specs.Value.{items_view, members_view, value_view};
@@ -67,8 +67,9 @@ fn repeated_key<'a>(alloc: Global, members: &Vec<(&'a str, Value<'a>)>) -> M<Opt
 /// Refuses a value in which an object has a key twice, with the place of the second key.
 #[cycle(repeated_keys)]
 pub(crate) fn check_keys(alloc: Global, value: &Value<'_>) -> Result<(), Repeat>
-    ensures unique { OnOk result (HasUniqueKeys (value_view value.now)) }
-    ensures place { IfErr result (λ repeat. IsRepeatIn repeat (value_view value.now)) }
+    ensures { MatchResult result
+        (λ _. HasUniqueKeys (value_view value.now))
+        (λ repeat. IsRepeatIn repeat (value_view value.now)) }
 {
     match value {
         Value::Array(items) => check_items(alloc, items),
@@ -80,8 +81,8 @@ pub(crate) fn check_keys(alloc: Global, value: &Value<'_>) -> Result<(), Repeat>
 /// The same of the items of an array.
 #[cycle(repeated_keys)]
 fn check_items(alloc: Global, items: &Vec<Value<'_>>) -> Result<(), Repeat>
-    ensures unique { OnOk result (ItemsHaveUniqueKeys (items_view items.now.items)) }
-    ensures place { IfErr result
+    ensures { MatchResult result
+        (λ _. ItemsHaveUniqueKeys (items_view items.now.items))
         (λ repeat. IsRepeatIn repeat (array (items_view items.now.items))) }
 {
     for (index, item) in items.iter().enumerate() {
@@ -96,8 +97,8 @@ fn check_items(alloc: Global, items: &Vec<Value<'_>>) -> Result<(), Repeat>
 /// The same of an object with the members.
 #[cycle(repeated_keys)]
 fn check_object<'a>(alloc: Global, members: &Vec<(&'a str, Value<'a>)>) -> Result<(), Repeat>
-    ensures unique { OnOk result (HasUniqueKeys (object (members_view members.now.items))) }
-    ensures place { IfErr result
+    ensures { MatchResult result
+        (λ _. HasUniqueKeys (object (members_view members.now.items)))
         (λ repeat. IsRepeatIn repeat (object (members_view members.now.items))) }
 {
     match repeated_key(alloc, members)? {
@@ -109,8 +110,8 @@ fn check_object<'a>(alloc: Global, members: &Vec<(&'a str, Value<'a>)>) -> Resul
 /// The same of the values of members.
 #[cycle(repeated_keys)]
 fn check_members(alloc: Global, members: &Vec<(&str, Value<'_>)>) -> Result<(), Repeat>
-    ensures unique { OnOk result (MembersHaveUniqueKeys (members_view members.now.items)) }
-    ensures place { IfErr result
+    ensures { MatchResult result
+        (λ _. MembersHaveUniqueKeys (members_view members.now.items))
         (λ repeat. IsRepeatIn repeat (object (members_view members.now.items))) }
 {
     for (index, member) in members.iter().enumerate() {

@@ -1,6 +1,6 @@
 //! Names and identifiers that texts spell.
 
-ghost use Rattle.std.specs.Prelude.{◌≡◌, ◌≢◌, Some, None, true, false, MatchResult, IfErr};
+ghost use Rattle.std.specs.Prelude.{◌≡◌, ◌≢◌, Some, true, false, MatchResult};
 ghost use Rattle.std.specs.List.{list_all};
 ghost use Rattle.json.specs.Find.{as_str};
 ghost use Rattle.json.specs.Json.{Json};
@@ -61,9 +61,10 @@ pub(crate) fn read_name(alloc: Global, text: &str, loc: Option<Loc>) -> Result<R
 
 /// The identifier other than the reserved word that a text spells.
 pub(crate) fn read_unreserved_id(alloc: Global, text: &str) -> Result<UnreservedId, Fault>
-    ensures { MatchResult result (λ id. (is_unreserved text.now ≡ true) × (unreserved_id_text id ≡
-        text.now)) (λ fault. (fault ≢ Fault.Memory → is_unreserved text.now ≡ false) × ((j : Json)
-        → as_str j ≡ Some text.now → IsTrueOf fault j)) }
+    ensures { MatchResult result
+        (λ id. (is_unreserved text.now ≡ true) × (unreserved_id_text id ≡ text.now))
+        (λ fault. (fault ≢ Fault.Memory → is_unreserved text.now ≡ false)
+        × ((j : Json) → as_str j ≡ Some text.now → IsTrueOf fault j)) }
 {
     match UnreservedId::from_str(alloc, text) {
         Ok(id) => Ok(id),
@@ -79,8 +80,8 @@ pub(crate) fn read_unreserved_id(alloc: Global, text: &str) -> Result<Unreserved
 
 /// The name that isn't reserved which a text spells.
 pub(crate) fn read_plain_name(alloc: Global, text: &str) -> Result<Name, Fault>
-    ensures { IsReadWhere (λ j. as_str j ≡ Some text.now) (plain_name_in text.now) plain_name
-        result }
+    ensures { IsReadWhere (λ j. as_str j ≡ Some text.now)
+        (plain_name_in text.now) plain_name result }
 {
     match Name::from_str(alloc, text) {
         Ok(name) => Ok(name),

@@ -97,9 +97,8 @@ impl Nesting {
 
 /// Where a text that is no JSON, or nests too deep, stops being JSON.
 pub(crate) fn stop_of(alloc: Global, text: &str) -> M<Stop>
-    ensures within { IfOk result (λ stop. stop.up_to ≤ length text.now) }
-    ensures deep { IfOk result
-        (λ stop. stop.too_deep ≡ true → nests_too_deep 0 (tokens text.now) ≡ true) }
+    ensures { IfOk result (λ stop. (stop.up_to ≤ length text.now)
+        × (stop.too_deep ≡ true → nests_too_deep 0 (tokens text.now) ≡ true)) }
 {
     let mut scratch = Scratch::new(alloc);
     let mut reader = Reader::new(text, &mut scratch)?;

@@ -1,7 +1,7 @@
 //! What JSON values describe that go while they are read: where much is declared, the value of a
 //! text and what it describes don't take memory at one time.
 
-ghost use Rattle.std.specs.Prelude.{◌≡◌, ◌≢◌, ◌⊎◌, [], List, Option, Some, None, false, MatchResult, IfErr, map, option_and_then, option_map};
+ghost use Rattle.std.specs.Prelude.{◌≡◌, ◌≢◌, ◌⊎◌, [], List, Option, Some, None, false, MatchResult, map, option_and_then, option_map};
 ghost use Rattle.std.specs.Str.{bytes_eq};
 ghost use Rattle.std.specs.declared.cmp.Ordering.{Ordering};
 ghost use Rattle.json.specs.Find.{get, get_member};
@@ -30,7 +30,8 @@ pub(crate) trait Taken: Sized {
 
     /// What the value describes, of which anything may be left.
     fn take(alloc: Global, value: &mut Value<'_>, cursor: Cursor<'_>) -> Result<Self, Fault>
-        ensures { IsReadFrom (value_view value.old) (describes (value_view value.old)) shown result };
+        ensures { IsReadFrom (value_view value.old)
+            (describes (value_view value.old)) shown result };
 }
 
 /// What a key of an object stands for, under which a map holds what the member describes.
@@ -50,9 +51,10 @@ pub(crate) trait Key: Ord {
     fn read_key(alloc: Global, key: &str, index: usize, cursor: Cursor<'_>) -> Result<Self, Fault>
     where
         Self: Sized,
-        ensures { MatchResult result (λ it. key_of key.now ≡ Some (shown_key it)) (λ fault. (fault
-            ≢ Fault.Memory → key_of key.now ≡ None) × ((j held : Json) → member_at index j ≡ Some
-            (key.now, held) → IsTrueOf fault j)) };
+        ensures { MatchResult result
+            (λ it. key_of key.now ≡ Some (shown_key it))
+            (λ fault. (fault ≢ Fault.Memory → key_of key.now ≡ None)
+            × ((j held : Json) → member_at index j ≡ Some (key.now, held) → IsTrueOf fault j)) };
 
     ghost same_order: { (a b : Self) → Self.cmp a b ≡ order (shown_key a) (shown_key b) };
 }
@@ -65,13 +67,14 @@ fn take_entry<K: Key + Drop, T: Taken + Drop>(
     cursor: Cursor<'_>,
     all: &mut Filling<K, T>,
 ) -> Result<(), Fault>
-    ensures { MatchResult result (λ _. IsEntryPut K.cmp K.shown_key T.shown (K.key_of
-        member.entry.0.now) (T.describes (value_view member.entry.1)) all.old all.new) (λ fault.
-        (fault ≢ Fault.Memory → (K.key_of member.entry.0.now ≡ None) ⊎ (T.describes (value_view
-        member.entry.1) ≡ None)) × ((j : Json) → member_at index j ≡ Some (
-          member.entry.0.now,
-          value_view member.entry.1,
-        ) → IsTrueOf fault j)) }
+    ensures { MatchResult result
+        (λ _. IsEntryPut K.cmp K.shown_key T.shown (K.key_of member.entry.0.now)
+        (T.describes (value_view member.entry.1)) all.old all.new)
+        (λ fault. (fault ≢ Fault.Memory → (K.key_of member.entry.0.now ≡ None)
+        ⊎ (T.describes (value_view member.entry.1) ≡ None))
+        × ((j : Json) → member_at index j
+        ≡ Some (member.entry.0.now, value_view member.entry.1)
+        → IsTrueOf fault j)) }
 {
     let (name, mut value) = member;
     let key = K::read_key(alloc, name, index, cursor)?;
@@ -89,12 +92,9 @@ fn take_entries<K: Key + Drop, T: Taken + Drop>(
     members: Vec<(&str, Value<'_>)>,
     cursor: Cursor<'_>,
 ) -> Result<BTreeMap<K, T>, Fault>
-    ensures { IsReadFrom (object (members_view members.entry.items)) (entries_of K.order K.key_of
-        T.describes (members_view members.entry.items) []) (λ all. map (λ entry. (
-          K.shown_key
-              entry.0,
-          T.shown entry.1,
-        )) all.entries) result }
+    ensures { IsReadFrom (object (members_view members.entry.items))
+        (entries_of K.order K.key_of T.describes (members_view members.entry.items) [])
+        (λ all. map (λ entry. (K.shown_key entry.0, T.shown entry.1)) all.entries) result }
 {
     let mut all = Filling::new(alloc);
     let mut at = cursor.first();
@@ -191,8 +191,9 @@ pub(crate) fn taken_or_else<T: Taken + Drop>(
     absent: T,
     cursor: Cursor<'_>,
 ) -> Result<T, Fault>
-    ensures value { IsReadWhere (λ j. get name.now j ≡ get name.now (value_view value.old)) (field_or
-        (T.shown absent) T.describes (get name.now (value_view value.old))) T.shown result }
+    ensures value { IsReadWhere (λ j. get name.now j ≡ get name.now (value_view value.old))
+        (field_or (T.shown absent) T.describes (get name.now (value_view value.old)))
+        T.shown result }
     ensures others { (other : Text) → bytes_eq name.now other ≡ false
         → get other (value_view value.new) ≡ get other (value_view value.old) }
 {
@@ -209,8 +210,8 @@ pub(crate) fn taken_unless_null<T: Taken + Drop>(
     name: &'static str,
     cursor: Cursor<'_>,
 ) -> Result<Option<T>, Fault>
-    ensures value { IsReadWhere (λ j. get name.now j ≡ get name.now (value_view value.old)) (optional
-        T.describes (get name.now (value_view value.old))) (option_map T.shown) result }
+    ensures value { IsReadWhere (λ j. get name.now j ≡ get name.now (value_view value.old))
+        (optional T.describes (get name.now (value_view value.old))) (option_map T.shown) result }
     ensures others { (other : Text) → bytes_eq name.now other ≡ false
         → get other (value_view value.new) ≡ get other (value_view value.old) }
 {

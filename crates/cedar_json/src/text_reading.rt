@@ -1,6 +1,6 @@
 //! Fragments, read from texts.
 
-ghost use Rattle.std.specs.Prelude.{◌≡◌, ◌≢◌, Some, IfErr, IfOk, IsSomeAnd};
+ghost use Rattle.std.specs.Prelude.{◌≡◌, ◌≢◌, Some, IfErr, IfOk, IsSomeAnd, MatchResult};
 ghost use Rattle.json.specs.Json.{document};
 ghost use Rattle.json.specs.Strict.{HasUniqueKeys};
 ghost use Rattle.json.specs.Value.{value_view};
@@ -137,11 +137,10 @@ fn fragment_in(
     mut value: Value<'_>,
 ) -> Result<Fragment<RawName>, JsonSchemaFault>
     requires { document text.now ≡ Some (value_view value) }
-    ensures fragment { IfOk result
-        (λ it. fragment_of (value_view value.entry) ≡ Some (written_fragment it)) }
-    ensures fault { IfErr result (IsFaultOf text.now) }
-    ensures exact { IfErr result (λ fault. fault ≢ JsonSchemaFault.Memory
-        → fragment_of (value_view value.entry) ≡ None) }
+    ensures { MatchResult result
+        (λ it. fragment_of (value_view value.entry) ≡ Some (written_fragment it))
+        (λ fault. IsFaultOf text.now fault
+        × (fault ≢ JsonSchemaFault.Memory → fragment_of (value_view value.entry) ≡ None)) }
 {
     let Ok(places) = ValuePlaces::of(alloc, text, source) else {
         return Err(JsonSchemaFault::Memory);

@@ -1,12 +1,12 @@
 //! Reading types.
 
-ghost use Rattle.std.specs.Prelude.{◌≡◌, ◌≢◌, [], Some, None, MatchResult, IfErr, codes, option_and_then, option_map};
+ghost use Rattle.std.specs.Prelude.{◌≡◌, ◌≢◌, [], Some, None, MatchResult, codes, option_and_then, option_map};
 ghost use Rattle.json.specs.Json.{object};
 ghost use Rattle.json.specs.Value.{value_view, members_view};
-ghost use Rattle.cedar_json.specs.Words.{Common, Expr, IsReadFrom, IsTrueOf, additional_field, attribute_of, attributes_field, attributes_of, element_field, extension_in, plain_members, raw_attribute, raw_expr, raw_name, raw_variant, record_of, reference_in, set_expr, spelled_name, text_held, type_by_word, type_of, type_with};
+ghost use Rattle.cedar_json.specs.Words.{Common, Expr, IsReadFrom, IsTrueOf, additional_field, attribute_of, attributes_field, attributes_of, element_field, extension_in, plain_members, raw_attribute, raw_expr, raw_variant, record_of, reference_in, set_expr, text_held, type_by_word, type_of, type_with};
 
 use crate::annotations::check_annotations;
-use crate::described::Described;
+use crate::described::{Described, described_field};
 use crate::fault::{Fault, Row};
 use crate::fields::{check_fields, field, flag_field, object_field, text_field};
 use crate::place_table::Cursor;
@@ -16,19 +16,6 @@ use cedar_names::json_schema::{RawName, RecordType, Type, TypeOfAttribute, TypeV
 use json::Value;
 use std::alloc::Global;
 use std::collections::BTreeMap;
-
-/// The name that the field `name` holds.
-fn name_field(alloc: Global, value: &Value<'_>, cursor: Cursor<'_>) -> Result<RawName, Fault>
-    ensures { IsReadFrom (value_view value.now) (option_and_then spelled_name (text_held (codes
-        "name") (value_view value.now))) raw_name result }
-{
-    let field = "name";
-    let text = text_field(alloc, value, field)?;
-    match read_name(alloc, text, cursor.field(value, field).loc()) {
-        Ok(name) => Ok(name),
-        Err(fault) => Err(fault.within(field)),
-    }
-}
 
 /// The type of a variant, with the location.
 pub(crate) fn plain_type(ty: TypeVariant<RawName>, loc: Option<Loc>) -> Type<RawName>
@@ -43,8 +30,9 @@ fn extension_type(
     value: &Value<'_>,
     cursor: Cursor<'_>,
 ) -> Result<Type<RawName>, Fault>
-    ensures { IsReadFrom (value_view value.now) (option_and_then extension_in (text_held (codes
-        "name") (value_view value.now))) (raw_expr None) result }
+    ensures { IsReadFrom (value_view value.now)
+        (option_and_then extension_in (text_held (codes "name") (value_view value.now)))
+        (raw_expr None) result }
 {
     let field = "name";
     let text = text_field(alloc, value, field)?;
@@ -61,9 +49,11 @@ fn common_type(
     word: &str,
     cursor: Cursor<'_>,
 ) -> Result<Type<RawName>, Fault>
-    ensures { MatchResult result (λ ty. reference_in Common word.now ≡ Some (raw_expr None ty)) (λ
-        fault. (fault ≢ Fault.Memory → reference_in Common word.now ≡ None) × (text_held (codes
-        "type") (value_view value.now) ≡ Some word.now → IsTrueOf fault (value_view value.now))) }
+    ensures { MatchResult result
+        (λ ty. reference_in Common word.now ≡ Some (raw_expr None ty))
+        (λ fault. (fault ≢ Fault.Memory → reference_in Common word.now ≡ None)
+        × (text_held (codes "type") (value_view value.now) ≡ Some word.now
+        → IsTrueOf fault (value_view value.now))) }
 {
     match read_name(alloc, word, cursor.field(value, "type").loc()) {
         Ok(type_name) => Ok(Type::CommonTypeRef {
@@ -95,8 +85,8 @@ pub(crate) fn read_type_of(
     row: Row,
     cursor: Cursor<'_>,
 ) -> Result<Type<RawName>, Fault>
-    ensures { IsReadFrom (value_view value.now) (type_with row (value_view value.now)) (raw_expr
-        None) result }
+    ensures { IsReadFrom (value_view value.now)
+        (type_with row (value_view value.now)) (raw_expr None) result }
 {
     let word = text_field(alloc, value, "type")?;
     check_fields(alloc, value, row)?;
@@ -111,13 +101,13 @@ fn read_type_by(
     word: &str,
     cursor: Cursor<'_>,
 ) -> Result<Type<RawName>, Fault>
-    ensures { MatchResult result (λ ty. type_by_word word.now (element_field (value_view
-        value.now)) (attributes_field (value_view value.now)) (additional_field (value_view
-        value.now)) (text_held (codes "name") (value_view value.now)) ≡ Some (raw_expr None ty)) (λ
-        fault. (fault ≢ Fault.Memory → type_by_word word.now (element_field (value_view value.now))
-        (attributes_field (value_view value.now)) (additional_field (value_view value.now))
-        (text_held (codes "name") (value_view value.now)) ≡ None) × (text_held (codes "type")
-        (value_view value.now) ≡ Some word.now → IsTrueOf fault (value_view value.now))) }
+    ensures { let j = value_view value.now in
+        let described = type_by_word word.now (element_field j) (attributes_field j)
+        (additional_field j) (text_held (codes "name") j) in
+        MatchResult result
+        (λ ty. described ≡ Some (raw_expr None ty))
+        (λ fault. (fault ≢ Fault.Memory → described ≡ None)
+        × (text_held (codes "type") j ≡ Some word.now → IsTrueOf fault j)) }
 {
     match word {
         "String" => Ok(plain_type(TypeVariant::String, cursor.loc())),
@@ -126,11 +116,11 @@ fn read_type_by(
         "Set" => read_set(alloc, value, cursor),
         "Record" => read_record(alloc, value, cursor),
         "Entity" => {
-            let name = name_field(alloc, value, cursor)?;
+            let name = described_field(alloc, value, "name", cursor)?;
             Ok(plain_type(TypeVariant::Entity { name }, cursor.loc()))
         }
         "EntityOrCommon" => {
-            let type_name = name_field(alloc, value, cursor)?;
+            let type_name = described_field(alloc, value, "name", cursor)?;
             Ok(plain_type(TypeVariant::EntityOrCommon { type_name }, cursor.loc()))
         }
         "Extension" => extension_type(alloc, value, cursor),
@@ -141,8 +131,8 @@ fn read_type_by(
 /// The type of the sets of what the field `element` describes.
 #[cycle(type_reading)]
 fn read_set(alloc: Global, value: &Value<'_>, cursor: Cursor<'_>) -> Result<Type<RawName>, Fault>
-    ensures { IsReadFrom (value_view value.now) (option_map set_expr (element_field (value_view
-        value.now))) (raw_expr None) result }
+    ensures { IsReadFrom (value_view value.now)
+        (option_map set_expr (element_field (value_view value.now))) (raw_expr None) result }
 {
     let name = "element";
     let held = field(alloc, value, name)?;
@@ -158,8 +148,10 @@ fn read_set(alloc: Global, value: &Value<'_>, cursor: Cursor<'_>) -> Result<Type
 /// The record type that the fields `attributes` and `additionalAttributes` describe.
 #[cycle(type_reading)]
 fn read_record(alloc: Global, value: &Value<'_>, cursor: Cursor<'_>) -> Result<Type<RawName>, Fault>
-    ensures { IsReadFrom (value_view value.now) (record_of (additional_field (value_view
-        value.now)) (attributes_field (value_view value.now))) (raw_expr None) result }
+    ensures { IsReadFrom (value_view value.now)
+        (record_of (additional_field (value_view value.now))
+        (attributes_field (value_view value.now)))
+        (raw_expr None) result }
 {
     let additional_attributes = flag_field(alloc, value, "additionalAttributes", false)?;
     let name = "attributes";
@@ -183,8 +175,9 @@ fn read_attributes(
     members: &Vec<(&str, Value<'_>)>,
     cursor: Cursor<'_>,
 ) -> Result<BTreeMap<String, TypeOfAttribute<RawName>>, Fault>
-    ensures { IsReadFrom (object (members_view members.now.items)) (attributes_of (members_view
-        members.now.items) []) (λ all. plain_members None all.entries) result }
+    ensures { IsReadFrom (object (members_view members.now.items))
+        (attributes_of (members_view members.now.items) [])
+        (λ all. plain_members None all.entries) result }
 {
     let mut attributes = BTreeMap::new(alloc);
     let mut at = cursor.first();
@@ -206,8 +199,8 @@ fn read_attribute(
     value: &Value<'_>,
     cursor: Cursor<'_>,
 ) -> Result<TypeOfAttribute<RawName>, Fault>
-    ensures { IsReadFrom (value_view value.now) (attribute_of (value_view value.now))
-        (raw_attribute None) result }
+    ensures { IsReadFrom (value_view value.now)
+        (attribute_of (value_view value.now)) (raw_attribute None) result }
 {
     let required = flag_field(alloc, value, "required", true)?;
     check_annotations(alloc, value)?;

@@ -1,10 +1,10 @@
 //! Reading values of Cedar.
 
-ghost use Rattle.std.specs.Prelude.{◌≡◌, ◌≢◌, [], Some, None, MatchResult, IfErr, option_map, option_and_then};
+ghost use Rattle.std.specs.Prelude.{◌≡◌, [], Some, None, option_map, option_and_then};
 ghost use Rattle.json.specs.Find.{as_number};
 ghost use Rattle.json.specs.Json.{array, object};
 ghost use Rattle.json.specs.Value.{items_view, members_view, value_view};
-ghost use Rattle.cedar_json.specs.Words.{IsReadFrom, IsTrueOf, call_in, pairs_of, plain_name, plain_name_in, sole_held, text_held, tree_of, trees_of, uid_in, uid_of, value_of, values_of, whole_number, written_exprs};
+ghost use Rattle.cedar_json.specs.Words.{IsReadFrom, call_in, pairs_of, plain_name, plain_name_in, sole_held, text_held, tree_of, trees_of, uid_in, uid_of, value_of, values_of, whole_number, written_exprs};
 
 use crate::fault::{Fault, FaultKind, Row, Wanted};
 use crate::fields::{check_fields, field, text_field};
@@ -43,8 +43,9 @@ fn sole<'v, 'a>(members: &'v Vec<(&'a str, Value<'a>)>, name: &str) -> Option<&'
 
 /// The name that isn't reserved which a field spells.
 fn plain_name_field(alloc: Global, value: &Value<'_>, name: &'static str) -> Result<Name, Fault>
-    ensures { IsReadFrom (value_view value.now) (option_and_then plain_name_in (text_held name.now
-        (value_view value.now))) plain_name result }
+    ensures { IsReadFrom (value_view value.now)
+        (option_and_then plain_name_in (text_held name.now (value_view value.now)))
+        plain_name result }
 {
     let text = text_field(alloc, value, name)?;
     match read_plain_name(alloc, text) {
@@ -85,8 +86,8 @@ pub(crate) fn read_expr(alloc: Global, value: &Value<'_>) -> Result<RestrictedEx
 /// The values that some items describe.
 #[cycle(value_reading)]
 fn read_exprs(alloc: Global, items: &Vec<Value<'_>>) -> Result<Vec<RestrictedExpr>, Fault>
-    ensures { IsReadFrom (array (items_view items.now.items)) (values_of (items_view
-        items.now.items)) (λ exprs. trees_of exprs.items) result }
+    ensures { IsReadFrom (array (items_view items.now.items))
+        (values_of (items_view items.now.items)) (λ exprs. trees_of exprs.items) result }
 {
     let mut exprs = Vec::new(alloc);
     for (index, item) in items.iter().enumerate() {
@@ -104,8 +105,8 @@ fn read_object<'a>(
     alloc: Global,
     members: &Vec<(&'a str, Value<'a>)>,
 ) -> Result<RestrictedExpr, Fault>
-    ensures { IsReadFrom (object (members_view members.now.items)) (value_of (object (members_view
-        members.now.items))) tree_of result }
+    ensures { IsReadFrom (object (members_view members.now.items))
+        (value_of (object (members_view members.now.items))) tree_of result }
 {
     let entity = "__entity";
     if let Some(held) = sole(members, entity) {
@@ -146,8 +147,8 @@ fn read_pairs<'a>(
     alloc: Global,
     members: &Vec<(&'a str, Value<'a>)>,
 ) -> Result<BTreeMap<String, RestrictedExpr>, Fault>
-    ensures { IsReadFrom (object (members_view members.now.items)) (pairs_of (members_view
-        members.now.items) []) written_exprs result }
+    ensures { IsReadFrom (object (members_view members.now.items))
+        (pairs_of (members_view members.now.items) []) written_exprs result }
 {
     let mut pairs = BTreeMap::new(alloc);
     for (index, member) in members.iter().enumerate() {

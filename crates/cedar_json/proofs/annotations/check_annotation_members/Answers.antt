@@ -21,9 +21,9 @@ returns-then-not-is_identifier c =
     let rest = are_annotations (members_view (drop (i + 1) all)) in
     let none : is_identifier_text x.0.now ≡ false = (let test = c.if-not-is_identifier.true in let says = c.is_identifier.ensures in cc) in (
       c.loop-index.invariant ∙ ap (λ ys. are_annotations (members_view ys)) here
-      ∙ ap (λ b. (b && is_text_or_null (value_view x.1)) && rest) none,
+          ∙ ap (λ b. (b && is_text_or_null (value_view x.1)) && rest) none,
       c.here.ensures.place (object (members_view all))
-      (subst (λ m. IsSomeAnd m (λ n. ¬ IsIdentifier n.0)) (sym found) (λ is. false≢true (sym none ∙ is))),
+          (subst (λ m. IsSomeAnd m (λ n. ¬ IsIdentifier n.0)) (sym found) (λ is. false≢true (sym none ∙ is))),
     )
 
 -- nor is one that holds neither a text nor `null`
@@ -41,5 +41,5 @@ returns-then-not-is_text_or_null c =
     let none : is_text_or_null (value_view x.1) ≡ false = (let test = c.if-not-is_text_or_null.true in let says = c.is_text_or_null.ensures in cc) in (
       c.loop-index.invariant ∙ ap (λ ys. are_annotations (members_view ys)) here ∙ ap₂ (λ a b. (a && b) && rest) some none,
       c.in_member.ensures.place (object (members_view all)) (x.0.now, value_view x.1) found
-      (c.here-then-not-is_text_or_null.ensures.place (value_view x.1) none),
+          (c.here-then-not-is_text_or_null.ensures.place (value_view x.1) none),
     )

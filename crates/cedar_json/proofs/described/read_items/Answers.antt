@@ -14,7 +14,7 @@ returns-in-Err g c =
     let here = items_from_index items all i x same c.loop-index-test.true c.item-item.is in
     let found = get_item-is items all i x same c.loop-index-test.true c.item-item.is in (
       λ other. no_item g.T.Described.describes g.T.Described.shown all i x c.loop-index.all.items here c.loop-index.invariant
-      (c.in-Err.ensures.0 (c.in_item.ensures.memory other)),
+          (c.in-Err.ensures.0 (c.in_item.ensures.memory other)),
       c.in_item.ensures.place (array (items_view all)) (value_view x) found c.in-Err.ensures.1,
     )
 

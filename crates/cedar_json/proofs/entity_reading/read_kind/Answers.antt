@@ -13,8 +13,8 @@ returns-in-Ok c =
 -- where it lists none, nothing is said
 pub returns-in-Err : goal.returns-in-Err
 returns-in-Err c = (
-      λ other.
+  λ other.
       ap (body_by (value_view c.args.value.now)) (sym c.in-Some.ensures)
       ∙ (λ i. if_so (c.in_ok-check_fields-2.ensures i) (option_map enumerated (c.in-Err.ensures.0 (c.within.ensures.memory other) i))),
-      c.within.ensures.place (value_view c.args.value.now) (value_view c.in-Some.held.now) (sym c.in-Some.ensures) c.in-Err.ensures.1,
-    )
+  c.within.ensures.place (value_view c.args.value.now) (value_view c.in-Some.held.now) (sym c.in-Some.ensures) c.in-Err.ensures.1,
+)

@@ -5,16 +5,16 @@ use Rattle.cedar_json.proofs.FieldLemmas.{nth_member-is}
 use Rattle.cedar_json.proofs.ListLemmas.{get_item-is}
 use Rattle.cedar_json.proofs.repeated_keys.+repeated_keys.Goals as goal
 
-pub check_items-returns-in-Err-clause-place : goal.check_items-returns-in-Err-clause-place
-check_items-returns-in-Err-clause-place t c =
+pub check_items-returns-in-Err : goal.check_items-returns-in-Err
+check_items-returns-in-Err t c =
     let x = c.item-item.result in
     let here = get_item-is c.deref-item-items.result.now c.args.items.now.items c.loop-index.index x c.deref-item-items.ensures.value
     c.loop-index-test.true c.item-item.is in
-    c.behind.ensures (array (items_view c.args.items.now.items)) (value_view x) here c.in-Err.ensures.place
+    c.behind.ensures (array (items_view c.args.items.now.items)) (value_view x) here c.in-Err.ensures
 
-pub check_members-returns-in-Err-clause-place : goal.check_members-returns-in-Err-clause-place
-check_members-returns-in-Err-clause-place t c =
+pub check_members-returns-in-Err : goal.check_members-returns-in-Err
+check_members-returns-in-Err t c =
     let x = c.member-item.result in
     let here = nth_member-is c.deref-member-items.result.now c.args.members.now.items c.loop-index.index x c.deref-member-items.ensures.value
     c.loop-index-test.true c.member-item.is in
-    c.behind.ensures (object (members_view c.args.members.now.items)) (value_view x.1) (ap (option_and_then (λ m. Some m.1)) here) c.in-Err.ensures.place
+    c.behind.ensures (object (members_view c.args.members.now.items)) (value_view x.1) (ap (option_and_then (λ m. Some m.1)) here) c.in-Err.ensures

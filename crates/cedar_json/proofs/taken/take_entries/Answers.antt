@@ -31,12 +31,15 @@ returns-in_err-take_entry g c =
     let found = ap (λ n. nth_member n (members_view all)) steps.1
     ∙ nth_member-left all i x after (c.loop-index.invariant.1 ∙ steps.0.0) in
     let p = err_from_is_err_and c.from_residual.result c.from_residual.ensures.1 in
-    rw (p.1, p.2) (λ other. elim (c.in_err-take_entry.ensures.0 other) [
-      | inl unnamed ↦ no_key g.K.Ord.cmp is.order is.shown_key held.shown g.met.K.Key.same_order is.key_of held.describes all i x filled here
-          c.loop-index.invariant.0 unnamed
-      | inr nothing ↦ no_entry g.K.Ord.cmp is.order is.shown_key held.shown g.met.K.Key.same_order is.key_of held.describes all i x filled here
-          c.loop-index.invariant.0 nothing
-    ], c.in_err-take_entry.ensures.1 (object (members_view all)) found)
+    rw (p.1, p.2) (
+      λ other. elim (c.in_err-take_entry.ensures.0 other) [
+        | inl unnamed ↦ no_key g.K.Ord.cmp is.order is.shown_key held.shown g.met.K.Key.same_order is.key_of held.describes all i x filled here
+            c.loop-index.invariant.0 unnamed
+        | inr nothing ↦ no_entry g.K.Ord.cmp is.order is.shown_key held.shown g.met.K.Key.same_order is.key_of held.describes all i x filled here
+            c.loop-index.invariant.0 nothing
+      ],
+      c.in_err-take_entry.ensures.1 (object (members_view all)) found,
+    )
 
 -- one more member is read and put under its key
 pub loop-index-preserved : goal.loop-index-preserved

@@ -12,9 +12,9 @@ returns-in_err-key g c =
 -- the fault of the member's value is found in the object at the index
 pub returns-in-Err : goal.returns-in-Err
 returns-in-Err g c = (
-      λ other. inr (c.in-Err.ensures.0 (c.in_member.ensures.memory other)),
-      λ j is. c.in_member.ensures.place j (c.args.member.0.now, value_view c.args.member.1) is c.in-Err.ensures.1,
-    )
+  λ other. inr (c.in-Err.ensures.0 (c.in_member.ensures.memory other)),
+  λ j is. c.in_member.ensures.place j (c.args.member.0.now, value_view c.args.member.1) is c.in-Err.ensures.1,
+)
 
 -- the entry that was put is the key and the value that were read
 pub returns-in_ok-put-in-Ok : goal.returns-in_ok-put-in-Ok

@@ -8,9 +8,9 @@ use Rattle.json.specs.Value.{value_view, members_view}
 use Rattle.cedar_names.proofs.VariantLemmas.{variant-Boolean, variant-Entity, variant-EntityOrCommon, variant-Long, variant-Record, variant-Set, variant-String}
 use Rattle.cedar_names.specs.Words.{named, reference_to}
 use Rattle.cedar_names.specs.declared.json_schema.reference_type.ReferenceType.TheVariants.{CommonOrEntity}
-use Rattle.cedar_json.specs.Words.{Entity, RawName, additional_field, attributes_field, element_field, members_from, plain_members, raw_expr, raw_reference, record_expr, record_of, roll-RecordType, set_expr, text_held, type_by_word, type_of}
+use Rattle.cedar_json.specs.Words.{Entity, RawName, additional_field, attributes_field, element_field, members_from, plain_members, raw_expr, raw_name, raw_reference, record_expr, record_of, roll-RecordType, set_expr, text_held, type_by_word, type_of}
 use Rattle.cedar_json.proofs.FieldLemmas.{get-smaller, nth_member-is, object_field-smaller, object_held}
-use Rattle.cedar_json.proofs.TypeLemmas.{all_read, attribute_read, attributes_field-held, attributes_field-none, described_too, element_field-held, members_from_index, no_annotations, no_attribute, no_required, no_type, one_more, raw_attribute-made, raw_record-made, record_of-no_flag, type_by_word-either, type_by_word-entity, type_by_word-other, type_with-known, type_with-no_word, type_with-unknown}
+use Rattle.cedar_json.proofs.TypeLemmas.{all_read, attribute_read, attributes_field-held, attributes_field-none, described_too, element_field-held, members_from_index, name_held, no_annotations, no_attribute, no_name_held, no_required, no_type, one_more, raw_attribute-made, raw_record-made, record_of-no_flag, type_by_word-either, type_by_word-entity, type_by_word-other, type_with-known, type_with-no_word, type_with-unknown}
 use Rattle.cedar_json.proofs.type_reading.+type_reading.Goals as goal
 
 -- a value describes no attribute where its field `required` is no flag
@@ -61,7 +61,7 @@ read_attributes-returns-in-Err t c =
     let here = members_from_index items all i x same c.loop-index-test.true c.member-item.is in
     let found = nth_member-is items all i x same c.loop-index-test.true c.member-item.is in (
       λ other. no_attribute all i x c.loop-index.attributes.entries here c.loop-index.invariant
-      (c.in-Err.ensures.0 (c.in_member.ensures.memory other)),
+          (c.in-Err.ensures.0 (c.in_member.ensures.memory other)),
       c.in_member.ensures.place (object (members_view all)) (x.0.now, value_view x.1) found c.in-Err.ensures.1,
     )
 
@@ -105,7 +105,7 @@ read_set-returns-in-Err t c =
     let j = value_view c.args.value.now in
     let held = value_view c.in_ok-held.held.now in (
       λ other. ap (option_map set_expr) (element_field-held j held c.in_ok-held.ensures
-      ∙ c.in-Err.ensures.0 (c.within.ensures.memory other)),
+          ∙ c.in-Err.ensures.0 (c.within.ensures.memory other)),
       c.within.ensures.place j held c.in_ok-held.ensures c.in-Err.ensures.1,
     )
 
@@ -125,8 +125,11 @@ read_type_of-returns-in_err-word t c =
 pub read_type_of-returns-in_err-check_fields : goal.read_type_of-returns-in_err-check_fields
 read_type_of-returns-in_err-check_fields t c =
     let p = err_from_is_err_and c.from_residual-in_err-check_fields.result c.from_residual-in_err-check_fields.ensures.1 in
-    rw (p.1, p.2) (λ other. type_with-unknown c.args.row (value_view c.args.value.now) c.in_ok-word.word.now c.in_ok-word.ensures
-    c.in_err-check_fields.ensures.0, c.in_err-check_fields.ensures.1)
+    rw (p.1, p.2) (
+      λ other. type_with-unknown c.args.row (value_view c.args.value.now) c.in_ok-word.word.now c.in_ok-word.ensures
+          c.in_err-check_fields.ensures.0,
+      c.in_err-check_fields.ensures.1,
+    )
 
 -- where all fields are known, the type is that of the word in the field `type`; the word is what that
 -- field holds, so a fault of the word is true of the value
@@ -176,7 +179,7 @@ pub read_type_by-returns-in_ok-name-in-Entity : goal.read_type_by-returns-in_ok-
 read_type_by-returns-in_ok-name-in-Entity t c =
     let j = value_view c.args.value.now in
     type_by_word-entity c.args.word.now (element_field j) (attributes_field j) (additional_field j) (text_held (codes "name") j) c.in-Entity.is
-    ∙ ap (option_map (λ it. named (reference_to None Entity it))) c.in_ok-name-in-Entity.ensures
+    ∙ ap (option_map (λ it. named (reference_to None Entity it))) (name_held (get (codes "name") j) (raw_name c.in_ok-name-in-Entity.name) c.in_ok-name-in-Entity.ensures)
     ∙ ap Some (sym (c.plain_type-in-Entity.ensures ∙ variant-Entity RawName (raw_reference None) c.in_ok-name-in-Entity.name))
 
 -- it stands for no type where the field `name` spells no name
@@ -184,15 +187,18 @@ pub read_type_by-returns-in_err-name-in-Entity : goal.read_type_by-returns-in_er
 read_type_by-returns-in_err-name-in-Entity t c =
     let j = value_view c.args.value.now in
     let p = err_from_is_err_and c.from_residual.result c.from_residual.ensures.1 in
-    rw (p.1, p.2) (λ other. type_by_word-entity c.args.word.now (element_field j) (attributes_field j) (additional_field j) (text_held (codes "name") j) c.in-Entity.is
-    ∙ ap (option_map (λ it. named (reference_to None Entity it))) (c.in_err-name-in-Entity.ensures.0 other), λ _. c.in_err-name-in-Entity.ensures.1)
+    rw (p.1, p.2) (
+      λ other. type_by_word-entity c.args.word.now (element_field j) (attributes_field j) (additional_field j) (text_held (codes "name") j) c.in-Entity.is
+          ∙ ap (option_map (λ it. named (reference_to None Entity it))) (no_name_held (get (codes "name") j) (c.in_err-name-in-Entity.ensures.0 other)),
+      λ _. c.in_err-name-in-Entity.ensures.1,
+    )
 
 -- the word `EntityOrCommon` stands for the type that the field `name` refers to
 pub read_type_by-returns-in_ok-type_name-in-EntityOrCommon : goal.read_type_by-returns-in_ok-type_name-in-EntityOrCommon
 read_type_by-returns-in_ok-type_name-in-EntityOrCommon t c =
     let j = value_view c.args.value.now in
     type_by_word-either c.args.word.now (element_field j) (attributes_field j) (additional_field j) (text_held (codes "name") j) c.in-EntityOrCommon.is
-    ∙ ap (option_map (λ it. named (reference_to None CommonOrEntity it))) c.in_ok-type_name-in-EntityOrCommon.ensures
+    ∙ ap (option_map (λ it. named (reference_to None CommonOrEntity it))) (name_held (get (codes "name") j) (raw_name c.in_ok-type_name-in-EntityOrCommon.type_name) c.in_ok-type_name-in-EntityOrCommon.ensures)
     ∙ ap Some (sym (c.plain_type-in-EntityOrCommon.ensures ∙ variant-EntityOrCommon RawName (raw_reference None) c.in_ok-type_name-in-EntityOrCommon.type_name))
 
 -- it stands for no type where the field `name` spells no name
@@ -200,8 +206,11 @@ pub read_type_by-returns-in_err-type_name-in-EntityOrCommon : goal.read_type_by-
 read_type_by-returns-in_err-type_name-in-EntityOrCommon t c =
     let j = value_view c.args.value.now in
     let p = err_from_is_err_and c.from_residual-in_err-type_name-in-EntityOrCommon.result c.from_residual-in_err-type_name-in-EntityOrCommon.ensures.1 in
-    rw (p.1, p.2) (λ other. type_by_word-either c.args.word.now (element_field j) (attributes_field j) (additional_field j) (text_held (codes "name") j) c.in-EntityOrCommon.is
-    ∙ ap (option_map (λ it. named (reference_to None CommonOrEntity it))) (c.in_err-type_name-in-EntityOrCommon.ensures.0 other), λ _. c.in_err-type_name-in-EntityOrCommon.ensures.1)
+    rw (p.1, p.2) (
+      λ other. type_by_word-either c.args.word.now (element_field j) (attributes_field j) (additional_field j) (text_held (codes "name") j) c.in-EntityOrCommon.is
+          ∙ ap (option_map (λ it. named (reference_to None CommonOrEntity it))) (no_name_held (get (codes "name") j) (c.in_err-type_name-in-EntityOrCommon.ensures.0 other)),
+      λ _. c.in_err-type_name-in-EntityOrCommon.ensures.1,
+    )
 
 -- the word `Extension` stands for the extension type that the field `name` tells
 pub read_type_by-returns-in-Extension : goal.read_type_by-returns-in-Extension
@@ -231,8 +240,11 @@ pub read_record-returns-in_err-additional_attributes : goal.read_record-returns-
 read_record-returns-in_err-additional_attributes t c =
     let j = value_view c.args.value.now in
     let p = err_from_is_err_and c.from_residual.result c.from_residual.ensures.1 in
-    rw (p.1, p.2) (λ other. ap (λ flag. record_of flag (attributes_field j)) c.in_err-additional_attributes.ensures.0
-    ∙ record_of-no_flag (attributes_field j), c.in_err-additional_attributes.ensures.1)
+    rw (p.1, p.2) (
+      λ other. ap (λ flag. record_of flag (attributes_field j)) c.in_err-additional_attributes.ensures.0
+          ∙ record_of-no_flag (attributes_field j),
+      c.in_err-additional_attributes.ensures.1,
+    )
 
 -- a value describes no record type where its field `attributes` holds no object
 pub read_record-returns-in_err-members : goal.read_record-returns-in_err-members
@@ -269,6 +281,6 @@ read_record-returns-in-Err t c =
     let j = value_view c.args.value.now in
     let ms = members_view c.in_ok-members.members.now.items in (
       λ other. ap (record_of (additional_field j)) (attributes_field-held j _ c.in_ok-members.ensures
-      ∙ c.in-Err.ensures.0 (c.within.ensures.memory other)),
+          ∙ c.in-Err.ensures.0 (c.within.ensures.memory other)),
       c.within.ensures.place j (object ms) (object_held (get (codes "attributes") j) ms c.in_ok-members.ensures) c.in-Err.ensures.1,
     )

@@ -59,17 +59,19 @@ read_call-returns-in-Err t c =
 pub read_expr-returns-in_err-read_exprs-in-Array : goal.read_expr-returns-in_err-read_exprs-in-Array
 read_expr-returns-in_err-read_exprs-in-Array t c =
     let p = err_from_is_err_and c.from_residual-in_err-read_exprs-in-Array.result c.from_residual-in_err-read_exprs-in-Array.ensures.1 in
-    rw (p.1, p.2) (λ other. array_row c.args.value.now c.in-Array.items c.in-Array.is
-    ∙ ap (option_map set_value) (c.in_err-read_exprs-in-Array.ensures.0 other),
-    subst (IsTrueOf c.in_err-read_exprs-in-Array.field-0.0) (sym (array_is c.args.value.now c.in-Array.items c.in-Array.is))
-    c.in_err-read_exprs-in-Array.ensures.1)
+    rw (p.1, p.2) (
+      λ other. array_row c.args.value.now c.in-Array.items c.in-Array.is
+          ∙ ap (option_map set_value) (c.in_err-read_exprs-in-Array.ensures.0 other),
+      subst (IsTrueOf c.in_err-read_exprs-in-Array.field-0.0) (sym (array_is c.args.value.now c.in-Array.items c.in-Array.is))
+          c.in_err-read_exprs-in-Array.ensures.1,
+    )
 
 -- `null` describes no value
 pub read_expr-returns-in-Null : goal.read_expr-returns-in-Null
 read_expr-returns-in-Null t c = (
-      λ _. null_row c.args.value.now c.in-Null.is,
-      c.here.ensures.place (value_view c.args.value.now) (null_is c.args.value.now c.in-Null.is),
-    )
+  λ _. null_row c.args.value.now c.in-Null.is,
+  c.here.ensures.place (value_view c.args.value.now) (null_is c.args.value.now c.in-Null.is),
+)
 
 -- `true` and `false` describe the booleans
 pub read_expr-returns-in-Bool : goal.read_expr-returns-in-Bool
@@ -125,7 +127,7 @@ read_exprs-returns-in-Err t c =
     let here = items_from_index items all i x same c.loop-index-test.true c.item-item.is in
     let found = get_item-is items all i x same c.loop-index-test.true c.item-item.is in (
       λ other. no_value all i x c.loop-index.exprs.items here c.loop-index.invariant
-      (c.in-Err.ensures.0 (c.in_item.ensures.memory other)),
+          (c.in-Err.ensures.0 (c.in_item.ensures.memory other)),
       c.in_item.ensures.place (array (items_view all)) (value_view x) found c.in-Err.ensures.1,
     )
 
@@ -167,7 +169,7 @@ read_pairs-returns-in-Err t c =
     let here = members_from_index items all i x same c.loop-index-test.true c.member-item.is in
     let found = nth_member-is items all i x same c.loop-index-test.true c.member-item.is in (
       λ other. no_pair tree_of all i x c.loop-index.pairs.entries here c.loop-index.invariant
-      (c.in-Err.ensures.0 (c.in_member.ensures.memory other)),
+          (c.in-Err.ensures.0 (c.in_member.ensures.memory other)),
       c.in_member.ensures.place (object (members_view all)) (x.0.now, value_view x.1) found c.in-Err.ensures.1,
     )
 
@@ -201,7 +203,7 @@ read_object-returns-in-Err t c =
     let ms = members_view c.args.members.now.items in
     let k = value_view c.in-Some.held.now in (
       λ other. value_of-entity ms k (sym c.in-Some.ensures)
-      ∙ ap (option_map uid_value) (c.in-Err.ensures.0 (c.within.ensures.memory other)),
+          ∙ ap (option_map uid_value) (c.in-Err.ensures.0 (c.within.ensures.memory other)),
       c.within.ensures.place (object ms) k (sole_held-get (codes "__entity") ms k (sym c.in-Some.ensures)) c.in-Err.ensures.1,
     )
 
@@ -218,9 +220,9 @@ read_object-returns-in-Err-read_call t c =
     let ms = members_view c.args.members.now.items in
     let k = value_view c.in-Some-sole.held.now in (
       λ other. value_of-call ms k (sym c.in_default.ensures) (sym c.in-Some-sole.ensures)
-      ∙ c.in-Err-read_call.ensures.0 (c.within-in-Err-read_call.ensures.memory other),
+          ∙ c.in-Err-read_call.ensures.0 (c.within-in-Err-read_call.ensures.memory other),
       c.within-in-Err-read_call.ensures.place (object ms) k (sole_held-get (codes "__extn") ms k (sym c.in-Some-sole.ensures))
-      c.in-Err-read_call.ensures.1,
+          c.in-Err-read_call.ensures.1,
     )
 
 -- any other object describes no record where its members describe no values
@@ -228,8 +230,11 @@ pub read_object-returns-in_err-read_pairs : goal.read_object-returns-in_err-read
 read_object-returns-in_err-read_pairs t c =
     let ms = members_view c.args.members.now.items in
     let p = err_from_is_err_and c.from_residual.result c.from_residual.ensures.1 in
-    rw (p.1, p.2) (λ other. value_of-record ms (sym c.in_default.ensures) (sym c.in_default-sole.ensures)
-    ∙ ap (option_map record_of_pairs) (c.in_err-read_pairs.ensures.0 other), c.in_err-read_pairs.ensures.1)
+    rw (p.1, p.2) (
+      λ other. value_of-record ms (sym c.in_default.ensures) (sym c.in_default-sole.ensures)
+          ∙ ap (option_map record_of_pairs) (c.in_err-read_pairs.ensures.0 other),
+      c.in_err-read_pairs.ensures.1,
+    )
 
 -- any other object describes the record of the values that its members describe
 pub read_object-returns : goal.read_object-returns
