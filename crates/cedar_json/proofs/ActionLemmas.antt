@@ -1,9 +1,9 @@
 -- Fields of actions that may be null, and the values of attributes.
-use Rattle.std.proofs.Common.{◌≡◌, [], Option, Some, None, option_and_then, option_map, ap, refl, sym, ◌∙◌}
+use Rattle.std.proofs.Common.{◌≡◌, List, [], Bool, Option, Some, None, option_and_then, option_map, ap, refl, sym, ◌∙◌}
 use Rattle.std.specs.BTreeMap.{insert_entry}
 use Rattle.json.specs.Find.{as_object}
 use Rattle.json.specs.Json.{Json, boolean, number, string, array, object, Members, no_members, member}
-use Rattle.cedar_json.specs.Words.{Pairs, Tree, entries_in, entries_of, field_or, optional, pairs_in, pairs_of, text_cmp, unless_null, value_of}
+use Rattle.cedar_json.specs.Words.{Pairs, Requests, Tree, WrittenParent, action_by, entries_in, entries_of, field_or, optional, pairs_in, pairs_of, text_cmp, unless_null, value_of}
 use Rattle.cedar_json.proofs.ValueLemmas.{pairs_of-member, pairs_of-none}
 
 -- what a field holds that isn't null
@@ -44,3 +44,22 @@ optional-pairs held = by (unless_null held)
         ≡ field_or None (λ j. option_map Some (pairs_in j)) o
     by None = refl
     by (Some j) = ap (option_map Some) (entries_in-pairs (as_object j))
+
+-- there is no declaration where one of its parts is missing
+pub action_by-no_external : (attributes : Option (Option Pairs)) (requests : Option (Option Requests)) (parents : Option (Option (List WrittenParent)))
+    → action_by attributes requests parents None ≡ None
+action_by-no_external None requests parents = refl
+action_by-no_external (Some a) None parents = refl
+action_by-no_external (Some a) (Some r) None = refl
+action_by-no_external (Some a) (Some r) (Some p) = refl
+
+pub action_by-no_parents : (attributes : Option (Option Pairs)) (requests : Option (Option Requests)) (external : Option Bool)
+    → action_by attributes requests None external ≡ None
+action_by-no_parents None requests external = refl
+action_by-no_parents (Some a) None external = refl
+action_by-no_parents (Some a) (Some r) external = refl
+
+pub action_by-no_requests : (attributes : Option (Option Pairs)) (parents : Option (Option (List WrittenParent))) (external : Option Bool)
+    → action_by attributes None parents external ≡ None
+action_by-no_requests None parents external = refl
+action_by-no_requests (Some a) parents external = refl

@@ -1,5 +1,5 @@
 -- Members that are read one after another into a map.
-use Rattle.std.proofs.Common.{◌≡◌, ℕ, ◌+◌, ◌++◌, List, [], ◌∷◌, Bool, true, false, cond, drop, map, Option, Some, None, option_and_then, Bor, Global, refl, ap, sym, ◌∙◌}
+use Rattle.std.proofs.Common.{◌≡◌, ℕ, ◌+◌, ◌++◌, BTreeMap, List, [], ◌∷◌, Bool, true, false, cond, drop, map, Option, Some, None, option_and_then, Bor, Global, refl, ap, sym, ◌∙◌}
 use Rattle.std.proofs.lemmas.List.{drop-drop}
 use Rattle.std.specs.BTreeMap.{insert_entry}
 use Rattle.std.specs.Str.{bytes_eq}
@@ -8,7 +8,8 @@ use Rattle.json.specs.Find.{get_member, later_or}
 use Rattle.json.specs.Json.{Json}
 use Rattle.json.specs.Value.{members_view, value_view}
 use Rattle.json.specs.declared.value.Value.{Value}
-use Rattle.cedar_json.specs.Words.{Text, entries_of}
+use Rattle.cedar_json.specs.Words.{CommonTypeId, Expr, RawName, Text, WrittenAction, WrittenEntity, common_type_text, common_types_in, definition_by, entries_of, field_or, raw_expr, written_common_types}
+use Rattle.cedar_names.specs.declared.json_schema.fragment.CommonType.{CommonType}
 use Rattle.cedar_json.proofs.MapLemmas.{seen-insert}
 
 abbrev Held : Type 0
@@ -83,3 +84,22 @@ module _ {K X L Y : Type 0} (R : K → K → Ordering) (S : L → L → Ordering
         ∙ ap (entries_of S key describes (members_view (drop (index + 1) all)))
         (sym (seen-insert R S shown_key shown same_order entries k it))
         ∙ ap (λ es. entries_of S key describes (members_view (drop (index + 1) all)) (plain es)) (sym grown)
+
+-- there is no definition where one of its parts is missing
+pub definition_by-no_actions : (common_types : Option (List (Text × Expr))) (entity_types : Option (List (Text × WrittenEntity)))
+    → definition_by common_types entity_types None ≡ None
+definition_by-no_actions None entity_types = refl
+definition_by-no_actions (Some c) None = refl
+definition_by-no_actions (Some c) (Some e) = refl
+
+pub definition_by-no_entity_types : (common_types : Option (List (Text × Expr))) (actions : Option (List (Text × WrittenAction)))
+    → definition_by common_types None actions ≡ None
+definition_by-no_entity_types None actions = refl
+definition_by-no_entity_types (Some c) actions = refl
+
+-- where common types are absent there are none
+pub no_common_types : (absent : BTreeMap CommonTypeId (CommonType RawName)) (held : Option Json) → absent.entries ≡ []
+    → field_or [] common_types_in held ≡ field_or (written_common_types absent) common_types_in held
+no_common_types absent held empty =
+    ap (λ (entries : List (CommonTypeId × CommonType RawName)).
+    field_or (map (λ entry. (common_type_text entry.0, raw_expr None entry.1.ty)) entries) common_types_in held) (sym empty)

@@ -1,0 +1,101 @@
+use Rattle.std.proofs.Common.{false, codes, ap, refl, sym, ◌∙◌}
+use Rattle.std.proofs.lemmas.Result.{err_from_is_err_and}
+use Rattle.json.specs.Find.{get}
+use Rattle.json.specs.Value.{value_view}
+use Rattle.cedar_json.specs.Words.{action_by, annotations_fit, flag_or, if_so, optional, pairs_in, parents_of, requests_of}
+use Rattle.cedar_json.proofs.ActionLemmas.{action_by-no_external, action_by-no_parents, action_by-no_requests}
+use Rattle.cedar_json.proofs.action_reading.ActionTypeRawNameTaken.take.Goals as goal
+
+-- a value with other fields than a declaration may have describes none
+pub returns-in_err-check_fields : goal.returns-in_err-check_fields
+returns-in_err-check_fields c =
+    let j = value_view c.args.value.now in
+    let p = err_from_is_err_and c.from_residual.result c.from_residual.ensures.1 in
+    rw (p.1, p.2) (
+      λ other. (λ i. if_so (c.in_err-check_fields.ensures.0 i) (if_so (annotations_fit (get (codes "annotations") j))
+          (action_by (optional pairs_in (get (codes "attributes") j))
+          (optional requests_of (get (codes "appliesTo") j)) (optional parents_of (get (codes "memberOf") j)) (flag_or false (get (codes "external") j))))),
+      c.in_err-check_fields.ensures.1,
+    )
+
+-- nor does one whose annotations are none
+pub returns-in_err-check_annotations : goal.returns-in_err-check_annotations
+returns-in_err-check_annotations c =
+    let j = value_view c.args.value.now in
+    let p = err_from_is_err_and c.from_residual-in_err-check_annotations.result c.from_residual-in_err-check_annotations.ensures.1 in
+    rw (p.1, p.2) (
+      λ other. (λ i. if_so (c.in_ok-check_fields.ensures i) (if_so (c.in_err-check_annotations.ensures.0 i)
+          (action_by (optional pairs_in (get (codes "attributes") j))
+          (optional requests_of (get (codes "appliesTo") j)) (optional parents_of (get (codes "memberOf") j)) (flag_or false (get (codes "external") j))))),
+      c.in_err-check_annotations.ensures.1,
+    )
+
+-- nor one whose field `external` is no flag
+pub returns-in_err-external : goal.returns-in_err-external
+returns-in_err-external c =
+    let j = value_view c.args.value.now in
+    let attributes = optional pairs_in (get (codes "attributes") j) in
+    let requests = optional requests_of (get (codes "appliesTo") j) in
+    let parents = optional parents_of (get (codes "memberOf") j) in
+    let p = err_from_is_err_and c.from_residual-in_err-external.result c.from_residual-in_err-external.ensures.1 in
+    rw (p.1, p.2) (
+      λ other. (λ i. if_so (c.in_ok-check_fields.ensures i) (if_so (c.in_ok-check_annotations.ensures i) (action_by attributes requests parents (c.in_err-external.ensures.0 i))))
+          ∙ action_by-no_external attributes requests parents,
+      c.in_err-external.ensures.1,
+    )
+
+-- nor one whose attributes describe no values
+pub returns-in_err-attributes : goal.returns-in_err-attributes
+returns-in_err-attributes c =
+    let j = value_view c.args.value.now in
+    let p = err_from_is_err_and c.from_residual-in_err-attributes.result c.from_residual-in_err-attributes.ensures.1 in
+    rw (p.1, p.2) (
+      λ other. (λ i. if_so (c.in_ok-check_fields.ensures i) (if_so (c.in_ok-check_annotations.ensures i)
+          (action_by (c.in_err-attributes.ensures.value.0 other i)
+          (optional requests_of (get (codes "appliesTo") j)) (optional parents_of (get (codes "memberOf") j)) (flag_or false (get (codes "external") j))))),
+      c.in_err-attributes.ensures.value.1,
+    )
+
+-- nor one that lists no parents in its field for them
+pub returns-in_err-member_of : goal.returns-in_err-member_of
+returns-in_err-member_of c =
+    let j = value_view c.args.value.now in
+    let stays = c.in_ok-attributes.ensures.others (codes "memberOf") refl in
+    let attributes = optional pairs_in (get (codes "attributes") j) in
+    let requests = optional requests_of (get (codes "appliesTo") j) in
+    let external = flag_or false (get (codes "external") j) in
+    let p = err_from_is_err_and c.from_residual-in_err-member_of.result c.from_residual-in_err-member_of.ensures.1 in
+    rw (p.1, p.2) (
+      λ other.
+          let none = ap (optional parents_of) (sym stays) ∙ c.in_err-member_of.ensures.0 other in
+          (λ i. if_so (c.in_ok-check_fields.ensures i) (if_so (c.in_ok-check_annotations.ensures i)
+          (action_by attributes requests (none i) external)))
+          ∙ action_by-no_parents attributes requests external,
+      c.in_err-member_of.ensures.1 j (sym stays),
+    )
+
+-- nor one whose requests are none
+pub returns-in_err-applies_to : goal.returns-in_err-applies_to
+returns-in_err-applies_to c =
+    let j = value_view c.args.value.now in
+    let stays = c.in_ok-attributes.ensures.others (codes "appliesTo") refl in
+    let attributes = optional pairs_in (get (codes "attributes") j) in
+    let parents = optional parents_of (get (codes "memberOf") j) in
+    let external = flag_or false (get (codes "external") j) in
+    let p = err_from_is_err_and c.from_residual-in_err-applies_to.result c.from_residual-in_err-applies_to.ensures.1 in
+    rw (p.1, p.2) (
+      λ other.
+          let none = ap (optional requests_of) (sym stays) ∙ c.in_err-applies_to.ensures.0 other in
+          (λ i. if_so (c.in_ok-check_fields.ensures i) (if_so (c.in_ok-check_annotations.ensures i)
+          (action_by attributes (none i) parents external)))
+          ∙ action_by-no_requests attributes parents external,
+      c.in_err-applies_to.ensures.1 j (sym stays),
+    )
+
+-- what is declared are the parts that were read
+pub returns : goal.returns
+returns c =
+    let parents = ap (optional parents_of) (sym (c.in_ok-attributes.ensures.others (codes "memberOf") refl)) ∙ c.in_ok-member_of.ensures in
+    let requests = ap (optional requests_of) (sym (c.in_ok-attributes.ensures.others (codes "appliesTo") refl)) ∙ c.in_ok-applies_to.ensures in
+    λ i. if_so (c.in_ok-check_fields.ensures i) (if_so (c.in_ok-check_annotations.ensures i)
+    (action_by (c.in_ok-attributes.ensures.value i) (requests i) (parents i) (c.in_ok-external.ensures i)))
