@@ -1,5 +1,5 @@
 -- Members that are read one after another into a map.
-use Rattle.std.proofs.Common.{◌≡◌, ℕ, ◌+◌, ◌++◌, BTreeMap, List, [], ◌∷◌, Bool, true, false, cond, drop, map, Option, Some, None, option_and_then, Bor, Global, refl, ap, sym, ◌∙◌}
+use Rattle.std.proofs.Common.{◌≡◌, ℕ, ◌+◌, ◌++◌, BTreeMap, List, [], ◌∷◌, Bool, true, false, cond, drop, map, Option, Some, None, Result, Ok, Err, MatchResult, option_and_then, Bor, Global, refl, ap, subst, sym, ◌∙◌}
 use Rattle.std.proofs.lemmas.List.{drop-drop}
 use Rattle.std.specs.BTreeMap.{insert_entry}
 use Rattle.std.specs.Str.{bytes_eq}
@@ -8,8 +8,9 @@ use Rattle.json.specs.Find.{get_member, later_or}
 use Rattle.json.specs.Json.{Json}
 use Rattle.json.specs.Value.{members_view, value_view}
 use Rattle.json.specs.declared.value.Value.{Value}
-use Rattle.cedar_json.specs.Words.{CommonTypeId, Expr, RawName, Text, WrittenAction, WrittenEntity, common_type_text, common_types_in, definition_by, entries_of, field_or, raw_expr, written_common_types}
+use Rattle.cedar_json.specs.Words.{CommonTypeId, Expr, Fault, IsReadFrom, IsTrueOf, RawName, Text, WrittenAction, WrittenEntity, common_type_text, common_types_in, definition_by, entries_of, field_or, raw_expr, written_common_types}
 use Rattle.cedar_names.specs.declared.json_schema.fragment.CommonType.{CommonType}
+use Rattle.cedar_json.specs.declared.fault.Fault.TheVariants as fault
 use Rattle.cedar_json.proofs.MapLemmas.{seen-insert}
 
 abbrev Held : Type 0
@@ -43,6 +44,14 @@ get_member-push name (m ∷ members) x =
         ≡ cond b (Some (value_view x.1)) (later_or (get_member name (members_view members)) earlier)
     by true = refl
     by false = refl
+
+-- what is filled is read, or memory runs out
+pub all_taken : {T L A : Type 0} (j : Json) (described : Option A) (entries : T → L) (plain : L → A) (filled : L) (r : Result T Fault)
+    → described ≡ Some (plain filled) → MatchResult r (λ it. entries it ≡ filled) (λ refusal. refusal ≡ fault.Memory)
+    → IsReadFrom j described (λ it. plain (entries it)) r
+all_taken j described entries plain filled (Ok it) is said = is ∙ ap (λ l. Some (plain l)) (sym said)
+all_taken j described entries plain filled (Err refusal) is said =
+    (λ other. absurd (other said), subst (λ it. IsTrueOf it j) (sym said) tt)
 
 module _ {K X L Y : Type 0} (R : K → K → Ordering) (S : L → L → Ordering) (shown_key : K → L) (shown : X → Y)
     (same_order : (a b : K) → R a b ≡ S (shown_key a) (shown_key b)) (key : Text → Option L) (describes : Json → Option Y) where

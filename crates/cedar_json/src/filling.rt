@@ -1,11 +1,12 @@
 //! Maps that ascending keys fill.
 
-ghost use Rattle.std.specs.Prelude.{◌≡◌, ◌≤◌, [], List, length, true, IfOk, OnOk};
+ghost use Rattle.std.specs.Prelude.{◌≡◌, ◌≤◌, [], List, length, true, MatchResult, OnOk};
 ghost use Rattle.std.specs.BTreeMap.{insert_entry};
 ghost use Rattle.std.specs.List.{All};
 ghost use Rattle.std.specs.declared.cmp.Ordering.TheVariants.{Less};
 ghost use Rattle.cedar_json.specs.Words.{IsAscending, all_put};
 
+use crate::fault::Fault;
 use cedar_below::{M, put};
 use std::alloc::Global;
 use std::cmp::Ordering;
@@ -123,8 +124,9 @@ impl<K: Ord + Drop, V: Drop> Filling<K, V> {
     }
 
     /// The map of all pairs.
-    pub(crate) fn finish(self) -> M<BTreeMap<K, V>>
-        ensures { IfOk result (λ map. map.entries ≡ self) }
+    pub(crate) fn finish(self) -> Result<BTreeMap<K, V>, Fault>
+        ensures { MatchResult result
+            (λ map. map.entries ≡ self) (λ fault. fault ≡ Fault.Memory) }
     {
         let Filling {
             mut map,

@@ -102,7 +102,7 @@ fn take_entries<K: Key + Drop, T: Taken + Drop>(
         take_entry::<K, T>(alloc, index, member, at, &mut all)?;
         at = at.next();
     }
-    Ok(all.finish()?)
+    all.finish()
 }
 
 impl<K: Key + Drop, T: Taken + Drop> Taken for BTreeMap<K, T> {

@@ -1,4 +1,4 @@
-use Rattle.std.proofs.Common.{inl, inr, ◌≡◌, ap, sym, ◌∙◌, rules, Bor, Global}
+use Rattle.std.proofs.Common.{inl, inr, ◌≡◌, ap, map, sym, ◌∙◌, rules, Bor, Global}
 use Rattle.std.proofs.lemmas.List.{nil_from_length}
 use Rattle.std.proofs.lemmas.Result.{err_from_is_err_and}
 use Rattle.std.specs.Iterator.Adapters.{enumerate_count, enumerate_source}
@@ -6,7 +6,7 @@ use Rattle.std.specs.Vec.Iter.{into_iter_items}
 use Rattle.json.specs.Json.{object}
 use Rattle.json.specs.Value.{members_view}
 use Rattle.json.specs.declared.value.Value.{Value}
-use Rattle.cedar_json.proofs.DefinitionLemmas.{entry_more, left_after, left_here, no_entry, no_key, none_left}
+use Rattle.cedar_json.proofs.DefinitionLemmas.{all_taken, entry_more, left_after, left_here, no_entry, no_key, none_left}
 use Rattle.cedar_json.proofs.FieldLemmas.{nth_member-left}
 use Rattle.cedar_json.specs.Words.{Text, nth_member}
 use Rattle.cedar_json.proofs.taken.take_entries.Goals as goal
@@ -64,9 +64,11 @@ pub returns : goal.returns
 returns g c =
     let is = g.K.Key in
     let held = g.T.Taken in
+    let all = c.args.members.items in
     let left = enumerate_source c.loop-index.index-iterator in
     let filled = c.loop-index.all in
     let end = c.loop-index.invariant.1 ∙ nil_from_length (into_iter_items left) (sym left.rest.ok.0 ∙ c.in-None.ensures.steps.0.0) in
-    let made : c.in_ok-finish.field-0.entries ≡ filled = c.in_ok-finish.ensures in
-    rw made (none_left g.K.Ord.cmp is.order is.shown_key held.shown g.met.K.Key.same_order is.key_of held.describes c.args.members.items
+    all_taken (object (members_view all)) _ (λ it. it.entries) (map (λ entry. (is.shown_key entry.0, held.shown entry.1))) filled c.finish.result
+    (none_left g.K.Ord.cmp is.order is.shown_key held.shown g.met.K.Key.same_order is.key_of held.describes all
     (enumerate_count c.loop-index.index-iterator) filled end c.loop-index.invariant.0)
+    c.finish.ensures

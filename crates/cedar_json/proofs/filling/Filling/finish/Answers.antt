@@ -1,11 +1,13 @@
 use Rattle.std.proofs.Common.{sym, ◌∙◌}
-use Rattle.std.proofs.lemmas.Result.{IfOk-from_err}
+use Rattle.std.proofs.lemmas.Result.{err_from_is_err_and}
 use Rattle.cedar_json.proofs.FillingLemmas.{all_put_none}
 use Rattle.cedar_json.proofs.filling.Filling.finish.Goals as goal
 
 -- out of memory gives no map
 pub returns-in_err-put_all_but : goal.returns-in_err-put_all_but
-returns-in_err-put_all_but g c = IfOk-from_err c.from_residual.result _ c.from_residual.ensures.0
+returns-in_err-put_all_but g c =
+    let p = err_from_is_err_and c.from_residual.result c.from_residual.ensures.1 in
+    rw p.1 p.2
 
 -- where no pair waits any more, the map has all pairs
 pub returns : goal.returns
