@@ -4,7 +4,7 @@ ghost use Rattle.std.specs.Prelude.{◌≡◌, [], Some, None, option_map, optio
 ghost use Rattle.json.specs.Find.{as_number};
 ghost use Rattle.json.specs.Json.{array, object};
 ghost use Rattle.json.specs.Value.{items_view, members_view, value_view};
-ghost use Rattle.cedar_json.specs.Words.{IsReadFrom, call_in, pairs_of, plain_name, plain_name_in, sole_held, text_held, tree_of, trees_of, uid_in, uid_of, value_of, values_of, whole_number, written_exprs};
+ghost use Rattle.cedar_json.specs.Words.{IsReadFrom, call_in, pairs_of, plain_name, plain_name_in, record_of_pairs, set_value, sole_held, text_held, tree_of, uid_in, uid_of, value_of, values_of, whole_number};
 
 use crate::fault::{Fault, FaultKind, Row, Wanted};
 use crate::fields::{check_fields, field, text_field};
@@ -78,16 +78,16 @@ pub(crate) fn read_expr(alloc: Global, value: &Value<'_>) -> Result<RestrictedEx
             None => Err(Fault::here(alloc, FaultKind::NoLong)),
         },
         Value::String(text) => Ok(RestrictedExpr::String(String::from_str(alloc, *text)?)),
-        Value::Array(items) => Ok(RestrictedExpr::Set(read_exprs(alloc, items)?)),
+        Value::Array(items) => read_set(alloc, items),
         Value::Object(members) => read_object(alloc, members),
     }
 }
 
-/// The values that some items describe.
+/// The set of the values that some items describe.
 #[cycle(value_reading)]
-fn read_exprs(alloc: Global, items: &Vec<Value<'_>>) -> Result<Vec<RestrictedExpr>, Fault>
+fn read_set(alloc: Global, items: &Vec<Value<'_>>) -> Result<RestrictedExpr, Fault>
     ensures { IsReadFrom (array (items_view items.now.items))
-        (values_of (items_view items.now.items)) (λ exprs. trees_of exprs.items) result }
+        (option_map set_value (values_of (items_view items.now.items))) tree_of result }
 {
     let mut exprs = Vec::new(alloc);
     for (index, item) in items.iter().enumerate() {
@@ -96,7 +96,7 @@ fn read_exprs(alloc: Global, items: &Vec<Value<'_>>) -> Result<Vec<RestrictedExp
             Err(fault) => return Err(fault.in_item(index)),
         }
     }
-    Ok(exprs)
+    Ok(RestrictedExpr::Set(exprs))
 }
 
 /// The value that an object describes.
@@ -122,7 +122,7 @@ fn read_object<'a>(
             Err(fault) => Err(fault.within(extension)),
         };
     }
-    Ok(RestrictedExpr::Record(read_pairs(alloc, members)?))
+    read_record(alloc, members)
 }
 
 /// The call that a value describes.
@@ -141,14 +141,15 @@ fn read_call(alloc: Global, value: &Value<'_>) -> Result<RestrictedExpr, Fault>
     }
 }
 
-/// The values that some members describe.
+/// The record of the values that some members describe.
 #[cycle(value_reading)]
-fn read_pairs<'a>(
+fn read_record<'a>(
     alloc: Global,
     members: &Vec<(&'a str, Value<'a>)>,
-) -> Result<BTreeMap<String, RestrictedExpr>, Fault>
+) -> Result<RestrictedExpr, Fault>
     ensures { IsReadFrom (object (members_view members.now.items))
-        (pairs_of (members_view members.now.items) []) written_exprs result }
+        (option_map record_of_pairs (pairs_of (members_view members.now.items) []))
+        tree_of result }
 {
     let mut pairs = BTreeMap::new(alloc);
     for (index, member) in members.iter().enumerate() {
@@ -158,5 +159,5 @@ fn read_pairs<'a>(
             Err(fault) => return Err(fault.in_member(index)),
         }
     }
-    Ok(pairs)
+    Ok(RestrictedExpr::Record(pairs))
 }

@@ -8,7 +8,7 @@ use Rattle.cedar_below.proofs.TreeLemmas.{tree_of-set, tree_of-uid}
 use Rattle.cedar_json.specs.Words.{IsTrueOf, number_value, record_of_pairs, set_value, tree_of, uid_value, value_of}
 use Rattle.cedar_json.proofs.FieldLemmas.{get-smaller, nth_member-is}
 use Rattle.cedar_json.proofs.ListLemmas.{get_item-is, items_from_index}
-use Rattle.cedar_json.proofs.TypeLemmas.{members_from_index}
+use Rattle.cedar_json.proofs.TypeLemmas.{described_too, members_from_index}
 use Rattle.cedar_json.proofs.ValueLemmas.{all_pairs, all_values, array_is, array_row, call_no_argument, call_no_function, call_other, call_read, no_long, no_pair, no_value, null_is, null_row, number_read, number_row, pair_more, record_read, sole_held-get, sole_held-smaller, text_row, truth_row, value_more, value_of-call, value_of-entity, value_of-record}
 use Rattle.cedar_json.proofs.value_reading.+value_reading.Goals as goal
 
@@ -55,17 +55,6 @@ read_call-returns-in-Err t c =
       c.within.ensures.place j (value_view c.in_ok-field.field-0.now) c.in_ok-field.ensures c.in-Err.ensures.1,
     )
 
--- an array describes no set where its items describe no values
-pub read_expr-returns-in_err-read_exprs-in-Array : goal.read_expr-returns-in_err-read_exprs-in-Array
-read_expr-returns-in_err-read_exprs-in-Array t c =
-    let p = err_from_is_err_and c.from_residual-in_err-read_exprs-in-Array.result c.from_residual-in_err-read_exprs-in-Array.ensures.1 in
-    rw (p.1, p.2) (
-      λ other. array_row c.args.value.now c.in-Array.items c.in-Array.is
-          ∙ ap (option_map set_value) (c.in_err-read_exprs-in-Array.ensures.0 other),
-      subst (IsTrueOf c.in_err-read_exprs-in-Array.field-0.0) (sym (array_is c.args.value.now c.in-Array.items c.in-Array.is))
-          c.in_err-read_exprs-in-Array.ensures.1,
-    )
-
 -- `null` describes no value
 pub read_expr-returns-in-Null : goal.read_expr-returns-in-Null
 read_expr-returns-in-Null t c = (
@@ -99,14 +88,15 @@ read_expr-returns-in_ok-from_str-in-String t c =
     text_row c.args.value.now c.in-String.text c.in_ok-from_str-in-String.field-0 c.in-String.is c.in_ok-from_str-in-String.ensures.ok
 
 -- an array describes the set of the values that its items describe
-pub read_expr-returns-in_ok-read_exprs-in-Array : goal.read_expr-returns-in_ok-read_exprs-in-Array
-read_expr-returns-in_ok-read_exprs-in-Array t c =
-    array_row c.args.value.now c.in-Array.items c.in-Array.is ∙ ap (option_map set_value) c.in_ok-read_exprs-in-Array.ensures
-    ∙ ap Some (sym (tree_of-set c.in_ok-read_exprs-in-Array.field-0))
+pub read_expr-returns-in-Array : goal.read_expr-returns-in-Array
+read_expr-returns-in-Array t c =
+    let v = c.args.value.now in
+    described_too c.read_set.result tree_of _ _ _ _ (array_row v c.in-Array.items c.in-Array.is)
+    (λ refusal true_of. subst (IsTrueOf refusal) (sym (array_is v c.in-Array.items c.in-Array.is)) true_of) c.read_set.ensures
 
 -- one item has fewer tokens than all items, so the reading ends
-pub read_exprs-read_expr-requires : goal.read_exprs-read_expr-requires
-read_exprs-read_expr-requires t c =
+pub read_set-read_expr-requires : goal.read_set-read_expr-requires
+read_set-read_expr-requires t c =
     let xs = c.deref-item-items.result.now in
     let x = c.item-item.result in
     let below : length (json_tokens (value_view x)) < length (items_tokens (items_view c.args.items.now.items)) =
@@ -117,8 +107,8 @@ read_exprs-read_expr-requires t c =
 
 -- where one item describes no value, all together describe none, and the fault of the item is found
 -- in the array at the index of the item
-pub read_exprs-returns-in-Err : goal.read_exprs-returns-in-Err
-read_exprs-returns-in-Err t c =
+pub read_set-returns-in-Err : goal.read_set-returns-in-Err
+read_set-returns-in-Err t c =
     let x = c.item-item.result in
     let items = c.deref-item-items.result.now in
     let all = c.args.items.now.items in
@@ -126,14 +116,14 @@ read_exprs-returns-in-Err t c =
     let same = c.deref-item-items.ensures.value in
     let here = items_from_index items all i x same c.loop-index-test.true c.item-item.is in
     let found = get_item-is items all i x same c.loop-index-test.true c.item-item.is in (
-      λ other. no_value all i x c.loop-index.exprs.items here c.loop-index.invariant
-          (c.in-Err.ensures.0 (c.in_item.ensures.memory other)),
+      λ other. ap (option_map set_value) (no_value all i x c.loop-index.exprs.items here c.loop-index.invariant
+          (c.in-Err.ensures.0 (c.in_item.ensures.memory other))),
       c.in_item.ensures.place (array (items_view all)) (value_view x) found c.in-Err.ensures.1,
     )
 
 -- one more value is read and put behind those before it
-pub read_exprs-loop-index-preserved : goal.read_exprs-loop-index-preserved
-read_exprs-loop-index-preserved t c =
+pub read_set-loop-index-preserved : goal.read_set-loop-index-preserved
+read_set-loop-index-preserved t c =
     let x = c.item-item.result in
     let here = items_from_index c.deref-item-items.result.now c.args.items.now.items c.loop-index.index x c.deref-item-items.ensures.value
     c.loop-index-test.true c.item-item.is in
@@ -141,14 +131,16 @@ read_exprs-loop-index-preserved t c =
     c.in-Ok.ensures (search rules)
 
 -- where no item is left, all values were read
-pub read_exprs-returns : goal.read_exprs-returns
-read_exprs-returns t c =
-    all_values c.deref-item-items.result.now c.args.items.now.items c.loop-index.index c.loop-index.exprs.items
-    c.deref-item-items.ensures.value c.loop-index-test.false c.loop-index.invariant
+pub read_set-returns : goal.read_set-returns
+read_set-returns t c =
+    ap (option_map set_value)
+    (all_values c.deref-item-items.result.now c.args.items.now.items c.loop-index.index c.loop-index.exprs.items
+    c.deref-item-items.ensures.value c.loop-index-test.false c.loop-index.invariant)
+    ∙ ap Some (sym (tree_of-set c.loop-index.exprs))
 
 -- the value of one member has fewer tokens than all members, so the reading ends
-pub read_pairs-read_expr-requires : goal.read_pairs-read_expr-requires
-read_pairs-read_expr-requires t c =
+pub read_record-read_expr-requires : goal.read_record-read_expr-requires
+read_record-read_expr-requires t c =
     let xs = c.deref-member-items.result.now in
     let x = c.member-item.result in
     let below : length (json_tokens (value_view x.1)) < length (members_tokens (members_view c.args.members.now.items)) =
@@ -159,8 +151,8 @@ read_pairs-read_expr-requires t c =
 
 -- where one member describes no value, all together describe none, and the fault of the member's
 -- value is found in the object at the index of the member
-pub read_pairs-returns-in-Err : goal.read_pairs-returns-in-Err
-read_pairs-returns-in-Err t c =
+pub read_record-returns-in-Err : goal.read_record-returns-in-Err
+read_record-returns-in-Err t c =
     let x = c.member-item.result in
     let items = c.deref-member-items.result.now in
     let all = c.args.members.now.items in
@@ -168,14 +160,14 @@ read_pairs-returns-in-Err t c =
     let same = c.deref-member-items.ensures.value in
     let here = members_from_index items all i x same c.loop-index-test.true c.member-item.is in
     let found = nth_member-is items all i x same c.loop-index-test.true c.member-item.is in (
-      λ other. no_pair tree_of all i x c.loop-index.pairs.entries here c.loop-index.invariant
-          (c.in-Err.ensures.0 (c.in_member.ensures.memory other)),
+      λ other. ap (option_map record_of_pairs) (no_pair tree_of all i x c.loop-index.pairs.entries here c.loop-index.invariant
+          (c.in-Err.ensures.0 (c.in_member.ensures.memory other))),
       c.in_member.ensures.place (object (members_view all)) (x.0.now, value_view x.1) found c.in-Err.ensures.1,
     )
 
 -- one more value is read and put under its key
-pub read_pairs-loop-index-preserved : goal.read_pairs-loop-index-preserved
-read_pairs-loop-index-preserved t c =
+pub read_record-loop-index-preserved : goal.read_record-loop-index-preserved
+read_record-loop-index-preserved t c =
     let x = c.member-item.result in
     let all = c.args.members.now.items in
     let here = members_from_index c.deref-member-items.result.now all c.loop-index.index x c.deref-member-items.ensures.value c.loop-index-test.true
@@ -184,10 +176,12 @@ read_pairs-loop-index-preserved t c =
     c.put.new.map.entries c.in-Ok.ensures c.in_ok-name.ensures.ok (search rules)
 
 -- where no member is left, all values were read
-pub read_pairs-returns : goal.read_pairs-returns
-read_pairs-returns t c =
-    all_pairs tree_of c.deref-member-items.result.now c.args.members.now.items c.loop-index.index c.loop-index.pairs.entries
-    c.deref-member-items.ensures.value c.loop-index-test.false c.loop-index.invariant
+pub read_record-returns : goal.read_record-returns
+read_record-returns t c =
+    ap (option_map record_of_pairs)
+    (all_pairs tree_of c.deref-member-items.result.now c.args.members.now.items c.loop-index.index c.loop-index.pairs.entries
+    c.deref-member-items.ensures.value c.loop-index-test.false c.loop-index.invariant)
+    ∙ ap Some (record_read c.loop-index.pairs)
 
 -- an object whose one key is `__entity` describes the entity of the uid that it holds
 pub read_object-returns-in-Ok : goal.read_object-returns-in-Ok
@@ -225,23 +219,12 @@ read_object-returns-in-Err-read_call t c =
           c.in-Err-read_call.ensures.1,
     )
 
--- any other object describes no record where its members describe no values
-pub read_object-returns-in_err-read_pairs : goal.read_object-returns-in_err-read_pairs
-read_object-returns-in_err-read_pairs t c =
-    let ms = members_view c.args.members.now.items in
-    let p = err_from_is_err_and c.from_residual.result c.from_residual.ensures.1 in
-    rw (p.1, p.2) (
-      λ other. value_of-record ms (sym c.in_default.ensures) (sym c.in_default-sole.ensures)
-          ∙ ap (option_map record_of_pairs) (c.in_err-read_pairs.ensures.0 other),
-      c.in_err-read_pairs.ensures.1,
-    )
-
 -- any other object describes the record of the values that its members describe
 pub read_object-returns : goal.read_object-returns
 read_object-returns t c =
-    let ms = members_view c.args.members.now.items in
-    value_of-record ms (sym c.in_default.ensures) (sym c.in_default-sole.ensures)
-    ∙ ap (option_map record_of_pairs) c.in_ok-read_pairs.ensures ∙ ap Some (record_read c.in_ok-read_pairs.field-0)
+    described_too c.read_record.result tree_of _ _ _ _
+    (value_of-record (members_view c.args.members.now.items) (sym c.in_default.ensures) (sym c.in_default-sole.ensures))
+    (λ refusal true_of. true_of) c.read_record.ensures
 
 -- what the key `__extn` holds has fewer tokens than all members, so the reading ends
 pub read_object-read_call-requires : goal.read_object-read_call-requires

@@ -8,8 +8,8 @@ use Rattle.cedar_json.proofs.value_reading.+value_reading.Given as goal
 abbrev pub decreases-read_expr : goal.decreases-read_expr
 decreases-read_expr l = 4 * length (json_tokens (value_view l.value.now))
 
-abbrev pub decreases-read_exprs : goal.decreases-read_exprs
-decreases-read_exprs l = 4 * length (items_tokens (items_view l.items.now.items))
+abbrev pub decreases-read_set : goal.decreases-read_set
+decreases-read_set l = 4 * length (items_tokens (items_view l.items.now.items))
 
 abbrev pub decreases-read_object : goal.decreases-read_object
 decreases-read_object l = 4 * length (members_tokens (members_view l.members.now.items)) + 2
@@ -17,13 +17,13 @@ decreases-read_object l = 4 * length (members_tokens (members_view l.members.now
 abbrev pub decreases-read_call : goal.decreases-read_call
 decreases-read_call l = 4 * length (json_tokens (value_view l.value.now)) + 1
 
-abbrev pub decreases-read_pairs : goal.decreases-read_pairs
-decreases-read_pairs l = 4 * length (members_tokens (members_view l.members.now.items)) + 1
+abbrev pub decreases-read_record : goal.decreases-read_record
+decreases-read_record l = 4 * length (members_tokens (members_view l.members.now.items)) + 1
 
-abbrev pub invariant-read_exprs-loop-index : goal.invariant-read_exprs-loop-index
-invariant-read_exprs-loop-index l =
+abbrev pub invariant-read_set-loop-index : goal.invariant-read_set-loop-index
+invariant-read_set-loop-index l =
     values_of (items_view l.items.items) ≡ option_map (before l.exprs.items) (values_of (items_view (drop l.index l.items.items)))
 
-abbrev pub invariant-read_pairs-loop-index : goal.invariant-read_pairs-loop-index
-invariant-read_pairs-loop-index l =
+abbrev pub invariant-read_record-loop-index : goal.invariant-read_record-loop-index
+invariant-read_record-loop-index l =
     pairs_of (members_view l.members.items) [] ≡ pairs_of (members_view (drop l.index l.members.items)) (shown tree_of l.pairs.entries)
