@@ -65,6 +65,19 @@ impl<T: Described + Drop> Described for Vec<T> {
     }
 }
 
+impl<T: Described + Drop> Described for Option<T> {
+    ghost Plain = { Option T.Plain };
+
+    ghost describes = { λ j. option_map Some (T.describes j) };
+
+    ghost shown = { option_map T.shown };
+
+    /// What the value describes, where absence describes nothing.
+    fn read(alloc: Global, value: &Value<'_>, cursor: Cursor<'_>) -> Result<Option<T>, Fault> {
+        Ok(Some(T::read(alloc, value, cursor)?))
+    }
+}
+
 /// What a field describes.
 pub(crate) fn described_field<T: Described + Drop>(
     alloc: Global,

@@ -3,7 +3,7 @@
 ghost use Rattle.std.specs.Prelude.{◌≡◌, Option, Some, None, codes, map, option_map};
 ghost use Rattle.json.specs.Find.{as_str, get};
 ghost use Rattle.json.specs.Value.{value_view};
-ghost use Rattle.cedar_json.specs.Words.{Entity, IsReadFrom, Reference, Text, WrittenEntity, body_by, choices_in, eid_text, empty_record, entity_of, entity_reference, items_of, raw_expr, raw_record, raw_reference, shape_in, standard_of, tags_in, written_entity, written_kind};
+ghost use Rattle.cedar_json.specs.Words.{Entity, IsReadFrom, Reference, Text, WrittenEntity, body_by, choices_in, eid_text, empty_record, entity_of, entity_reference, items_of, raw_expr, raw_record, raw_reference, shape_in, standard_of, written_entity, written_kind};
 
 use crate::annotations::check_annotations;
 use crate::described::{Described, field_or_else};
@@ -15,7 +15,7 @@ use crate::taken::Taken;
 use crate::type_reading::plain_type;
 use cedar_below::{Eid, NonEmpty};
 use cedar_names::json_schema::{
-    AttributesOrContext, EntityType, EntityTypeKind, RawName, RecordType, StandardEntityType, Type,
+    AttributesOrContext, EntityType, EntityTypeKind, RawName, RecordType, StandardEntityType,
     TypeVariant,
 };
 use json::Value;
@@ -97,25 +97,6 @@ fn empty_record(alloc: Global) -> RecordType<RawName>
     }
 }
 
-/// The type of the tags that the field `tags` describes, or None where it is absent.
-fn tags_field(
-    alloc: Global,
-    value: &Value<'_>,
-    cursor: Cursor<'_>,
-) -> Result<Option<Type<RawName>>, Fault>
-    ensures { IsReadFrom (value_view value.now)
-        (tags_in (get (codes "tags") (value_view value.now))) (option_map (raw_expr None)) result }
-{
-    let name = "tags";
-    match value.get(name) {
-        None => Ok(None),
-        Some(held) => match Type::read(alloc, held, cursor.field(value, name)) {
-            Ok(ty) => Ok(Some(ty)),
-            Err(fault) => Err(fault.within(name)),
-        },
-    }
-}
-
 /// What a declaration says that lists no ids.
 fn read_standard(
     alloc: Global,
@@ -127,7 +108,7 @@ fn read_standard(
 {
     let member_of_types = field_or_else(alloc, value, "memberOfTypes", Vec::new(alloc), cursor)?;
     let shape = shape_field(alloc, value, "shape", cursor)?;
-    let tags = tags_field(alloc, value, cursor)?;
+    let tags = field_or_else(alloc, value, "tags", None, cursor)?;
     Ok(EntityTypeKind::Standard(StandardEntityType {
         member_of_types,
         shape,
