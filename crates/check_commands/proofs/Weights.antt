@@ -1,9 +1,9 @@
 -- What the tokens of documents weigh, in whatever order their members stand.
-use Rattle.std.proofs.Common.{◌≡◌, ◌+◌, ◌<◌, ◌≤◌, ℕ, zero, suc, refl, sym, ap, ◌∙◌, List, [], ◌∷◌, ◌++◌, drop, length, map, get_or, arith}
+use Rattle.std.proofs.Common.{◌≡◌, ◌+◌, ◌<◌, ◌≤◌, ℕ, zero, suc, refl, sym, ap, ◌∙◌, List, [], ◌∷◌, ◌++◌, drop, length, map, get_or, add-one, arith, drop-cons}
 use Rattle.std.specs.Borrow.{Bor}
 use Rattle.std.specs.List.{All, sum_by}
 use Rattle.std.specs.List.Sorted.{IsPermutation}
-use Rattle.std.proofs.lemmas.List.{drop_all}
+use Rattle.std.proofs.lemmas.List.{drop_all, get_or_default}
 use Rattle.std.proofs.lemmas.List.Sums.{sum_by-append, sum_by-cons}
 use Rattle.std.proofs.lemmas.List.Sorted.{sum_by-IsPermutation}
 use Rattle.json.specs.Token.{Token, begin_array, begin_object, end_array, end_object, key}
@@ -86,20 +86,38 @@ module _ {A : Type 0} where
   member_has (m ∷ ms) have zero d within = have.0
   member_has (m ∷ ms) have (suc i) d within = member_has ms have.1 i d (omega arith)
 
-  -- what the member at an index weighs
-  abbrev pub index_weight : (Token → ℕ) → List (Bor (List ℕ) × Value A) → ℕ → ℕ
-  index_weight weight [] i = 0
-  index_weight weight (m ∷ ms) i = member_weight weight (get_or (m ∷ ms) i m)
+  -- what the member at a place weighs
+  abbrev pub place_weight : {K : Type 0} → (Token → ℕ) → List (Bor (List ℕ) × Value A) → K × ℕ → ℕ
+  place_weight weight [] place = 0
+  place_weight weight (m ∷ ms) place = member_weight weight (get_or (m ∷ ms) place.1 m)
 
-  -- in whatever order the indices of members stand, all weigh what the members do
-  pub indices_weigh : (weight : Token → ℕ) (ms : List (Bor (List ℕ) × Value A)) (order : List ℕ)
-      → ((d : Bor (List ℕ) × Value A) → IsPermutation ms (map (λ i. get_or ms i d) order)) → All (λ i. i < length ms) order
-      → sum_by (index_weight weight ms) order ≡ sum_by (member_weight weight) ms
-  indices_weigh weight [] [] moved within = refl
-  indices_weigh weight [] (i ∷ order) moved within = absurd (omega (arith, within 0 i (omega arith)))
-  indices_weigh weight (m ∷ ms) order moved within =
-      sym (sum_by-map (λ i. get_or (m ∷ ms) i m) (member_weight weight) order)
-      ∙ sum_by-IsPermutation (member_weight weight) (m ∷ ms) (map (λ i. get_or (m ∷ ms) i m) order) (moved m)
+  -- in whatever order the places of members stand, all weigh what the members do
+  pub places_weigh : {K : Type 0} (weight : Token → ℕ) (ms : List (Bor (List ℕ) × Value A)) (places : List (K × ℕ))
+      → ((d : Bor (List ℕ) × Value A) → IsPermutation ms (map (λ place. get_or ms place.1 d) places)) → All (λ place. place.1 < length ms) places
+      → sum_by (place_weight weight ms) places ≡ sum_by (member_weight weight) ms
+  places_weigh weight [] [] moved within = refl
+  places_weigh weight [] (place ∷ places) moved within = absurd (omega (arith, within 0 place (omega arith)))
+  places_weigh weight (m ∷ ms) places moved within =
+      sym (sum_by-map (λ place. get_or (m ∷ ms) place.1 m) (member_weight weight) places)
+      ∙ sum_by-IsPermutation (member_weight weight) (m ∷ ms) (map (λ place. get_or (m ∷ ms) place.1 m) places) (moved m)
+
+  -- a member that was written, key and value, weighs what its place does
+  pub member_more : {K : Type 0} (weight : Token → ℕ) (ms : List (Bor (List ℕ) × Value A)) (places : List (K × ℕ)) (k : ℕ) (none : K × ℕ)
+      (m : Bor (List ℕ) × Value A) (before keyed after : List Token) (whole : ℕ)
+      → k < length places → (get_or places k none).1 < length ms → m ≡ get_or ms (get_or places k none).1 m
+      → keyed ≡ before ++ key m.0.now ∷ [] → SameTokens after (keyed ++ json_tokens (value_view m.1))
+      → sum_by weight before + sum_by (place_weight weight ms) (drop k places) ≡ whole
+      → sum_by weight after + sum_by (place_weight weight ms) (drop (k + 1) places) ≡ whole
+  member_more weight [] places k none m before keyed after whole here within is keys writes known = absurd (omega arith)
+  member_more weight (first ∷ ms) places k none m before keyed after whole here within is keys writes known =
+      let place = get_or places k none in
+      let left = ap (sum_by (place_weight weight (first ∷ ms))) (drop-cons places k none here) in
+      let one = sum_by-cons (place_weight weight (first ∷ ms)) place (drop (suc k) places) in
+      let own : place_weight weight (first ∷ ms) place ≡ member_weight weight m =
+      ap (member_weight weight) (get_or_default (first ∷ ms) place.1 first m within ∙ sym is) in
+      let split = writes weight ∙ sum_by-append weight keyed (json_tokens (value_view m.1)) in
+      let keyed_weight = ap (sum_by weight) keys ∙ sum_by-push weight before (key m.0.now) in
+      rw (add-one k) (omega (arith, left, one, own, split, keyed_weight, known))
 
   -- what is written of items: the opening bracket, what they weigh, and the closing bracket
   pub items_written : (old opened passed new : List Token) (items : List (Value A)) → opened ≡ old ++ begin_array ∷ [] → new ≡ passed ++ end_array ∷ []
@@ -115,16 +133,16 @@ module _ {A : Type 0} where
       omega (arith, whole, first, inner, before, after, middle)
 
   -- what is written of members: the opening bracket, what they weigh in any order, and the closing bracket
-  pub members_written : (old opened passed new : List Token) (ms : List (Bor (List ℕ) × Value A)) (order : List ℕ)
-      → ((d : Bor (List ℕ) × Value A) → IsPermutation ms (map (λ i. get_or ms i d) order)) → All (λ i. i < length ms) order
+  pub members_written : {K : Type 0} (old opened passed new : List Token) (ms : List (Bor (List ℕ) × Value A)) (places : List (K × ℕ))
+      → ((d : Bor (List ℕ) × Value A) → IsPermutation ms (map (λ place. get_or ms place.1 d) places)) → All (λ place. place.1 < length ms) places
       → opened ≡ old ++ begin_object ∷ [] → new ≡ passed ++ end_object ∷ []
-      → ((weight : Token → ℕ) → sum_by weight passed ≡ sum_by weight opened + sum_by (index_weight weight ms) order)
+      → ((weight : Token → ℕ) → sum_by weight passed ≡ sum_by weight opened + sum_by (place_weight weight ms) places)
       → SameTokens new (old ++ begin_object ∷ members_tokens (members_view ms))
-  members_written old opened passed new ms order moved within opens closes all weight =
+  members_written old opened passed new ms places moved within opens closes all weight =
       let whole = sum_by-append weight old (begin_object ∷ members_tokens (members_view ms)) in
       let first = sum_by-cons weight begin_object (members_tokens (members_view ms)) in
       let inner = members_weigh weight ms in
-      let ordered = indices_weigh weight ms order moved within in
+      let ordered = places_weigh weight ms places moved within in
       let before = ap (sum_by weight) opens ∙ sum_by-push weight old begin_object in
       let after = ap (sum_by weight) closes ∙ sum_by-push weight passed end_object in
       let middle = all weight in

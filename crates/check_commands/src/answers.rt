@@ -1,51 +1,81 @@
 //! What a schema answers: its counts, what it lacks, and its environments.
 
 use crate::finding::{Finding, file_of};
+use crate::text::Text;
 use cedar_below::{EntityType, EntityUID, M, Memory, NameFault};
 use cedar_schema::{CompleteError, IncompleteSchemaError, RequestEnv, ValidatorSchema};
 use std::alloc::{AllocError, Global};
 
-/// The counts of a schema, a line each.
-pub(crate) fn counts(alloc: Global, schema: &ValidatorSchema) -> M<String> {
-    let mut types: usize = 0;
-    let mut external_types: usize = 0;
-    for ty in schema.entity_types() {
-        types = types.saturating_add(1);
-        if ty.is_external() {
-            external_types = external_types.saturating_add(1);
-        }
-    }
-    let actions = action_counts(alloc, schema)?;
-    let environments = schema.unlinked_envs_owned().len();
-    Ok(format!(in alloc;
-        "ok\nentity types: {types}, {external_types} of them external\n{actions}\
-         environments: {environments}\n"
-    )?)
+/// How many things of a kind there are, and how many of them are external.
+#[derive(Clone, Copy, Drop)]
+struct Count {
+    /// All of them.
+    all: usize,
+    /// Those that are external.
+    external: usize,
 }
 
-/// The line on actions.
-fn action_counts(alloc: Global, schema: &ValidatorSchema) -> M<String> {
-    let mut actions: usize = 0;
-    let mut external: usize = 0;
-    for action in schema.action_ids() {
-        actions = actions.saturating_add(1);
-        if action.is_external() {
-            external = external.saturating_add(1);
+impl Count {
+    /// Goes on by one.
+    fn add(&mut self, is_external: bool) {
+        self.all = self.all.saturating_add(1);
+        if is_external {
+            self.external = self.external.saturating_add(1);
         }
     }
-    Ok(format!(in alloc; "actions: {actions}, {external} of them external\n")?)
+}
+
+/// How many entity types there are.
+fn type_count(schema: &ValidatorSchema) -> Count {
+    let mut count = Count {
+        all: 0,
+        external: 0,
+    };
+    for ty in schema.entity_types() {
+        count.add(ty.is_external());
+    }
+    count
+}
+
+/// How many actions there are.
+fn action_count(schema: &ValidatorSchema) -> Count {
+    let mut count = Count {
+        all: 0,
+        external: 0,
+    };
+    for action in schema.action_ids() {
+        count.add(action.is_external());
+    }
+    count
+}
+
+/// Adds a line with a count.
+fn push_count(text: &mut Text, what: &str, count: Count) {
+    let Count { all, external } = count;
+    write!(text, "{what}: {all}, {external} of them external\n");
+}
+
+/// The counts of a schema, a line each.
+pub(crate) fn counts(alloc: Global, schema: &ValidatorSchema) -> M<String> {
+    let mut text = Text::new(alloc);
+    text.push_str("ok\n");
+    push_count(&mut text, "entity types", type_count(schema));
+    push_count(&mut text, "actions", action_count(schema));
+    let environments = schema.unlinked_envs_owned().len();
+    write!(text, "environments: {environments}\n");
+    text.whole()
 }
 
 /// What is external, at the first place where something is declared so.
-fn lacking(alloc: Global, error: &IncompleteSchemaError) -> M<Finding> {
+fn lacking(alloc: Global, error: &IncompleteSchemaError) -> M<Option<Finding>> {
     let message = format!(in alloc; "{error}")?;
-    Ok(Finding {
+    Ok(Some(Finding {
         file: file_of(error.loc),
         loc: error.loc,
         kind: "Incomplete",
         message,
         other: None,
-    })
+    }))
 }
 
 /// What of a schema is external, if anything is.
@@ -53,7 +83,7 @@ pub(crate) fn incomplete(alloc: Global, schema: &ValidatorSchema) -> M<Option<Fi
     match schema.check_complete(alloc) {
         Ok(()) => Ok(None),
         Err(CompleteError::Memory(refused)) => Err(refused),
-        Err(CompleteError::Incomplete(error)) => Ok(Some(lacking(alloc, &error)?)),
+        Err(CompleteError::Incomplete(error)) => lacking(alloc, &error),
     }
 }
 
@@ -138,13 +168,19 @@ impl Wanted {
     }
 }
 
+/// The line of an environment.
+fn line_of(alloc: Global, env: &RequestEnv<'_>) -> M<String> {
+    let line = format!(in alloc; "{} {} {}\n", env.principal, env.action, env.resource);
+    line.or(Err(Memory))
+}
+
 /// The environments that are asked for, a line each.
 fn lines_of(alloc: Global, schema: &ValidatorSchema, wanted: &Wanted) -> M<Vec<String>> {
     let mut lines = Vec::new(alloc);
     for env in schema.unlinked_envs_owned() {
         let env = env.as_request_env();
         if wanted.is_met(&env) {
-            lines.push(format!(in alloc; "{} {} {}\n", env.principal, env.action, env.resource)?)?;
+            lines.push(line_of(alloc, &env)?)?;
         }
     }
     Ok(lines)
@@ -158,5 +194,5 @@ pub(crate) fn environment_lines(
 ) -> M<String> {
     let mut lines = lines_of(alloc, schema, wanted)?;
     lines.sort()?;
-    Ok(lines.concat(alloc)?)
+    lines.concat(alloc).or(Err(Memory))
 }

@@ -13,13 +13,14 @@ use crate::finding::{Finding, Source};
 use crate::graph::graph;
 use crate::laying_out::format;
 use crate::linking::{is_read, link, would_overwrite};
-use crate::outcome::{Manner, Outcome, Stop, refused};
+use crate::outcome::{Given, Manner, Outcome, Stop, refused};
 use crate::reading::well_formed;
 use crate::status::Status;
+use crate::text::Text;
 use cedar_below::{EntityType, EntityUID, M, Memory};
 use cedar_schema::ValidatorSchema;
 use clap::ArgMatches;
-use schema_lines::{escaped, escaped_lines_of};
+use schema_lines::escaped_lines_of;
 use std::alloc::Global;
 
 /// The words behind an option or an argument.
@@ -44,33 +45,34 @@ fn manner(matches: &ArgMatches<'_>) -> Manner {
 
 /// A line for each file, that it is well formed.
 fn well_formed_lines(alloc: Global, sources: &[Source]) -> M<String> {
-    let mut text = String::new(alloc);
+    let mut text = Text::new(alloc);
     for source in sources {
-        let name = escaped(alloc, source.name.as_str())?;
-        text.push_str(name.as_str())?;
-        text.push_str(": ok\n")?;
+        text.push_escaped(source.name.as_str());
+        text.push_str(": ok\n");
     }
-    Ok(text)
+    text.whole()
 }
 
 /// Reads each file, and says that each is well formed.
-fn check<F: FileAccess>(
-    alloc: Global,
-    files: &mut F,
-    names: &[&str],
-    manner: Manner,
-) -> Result<Outcome, Stop> {
-    let read = well_formed(alloc, files, names, manner)?;
-    Ok(Outcome::done(alloc, well_formed_lines(alloc, &read.sources)?))
+fn check<F: FileAccess>(alloc: Global, files: &mut F, names: &[&str], manner: Manner) -> Given {
+    match well_formed(alloc, files, names, manner) {
+        Ok(read) => {
+            let lines = well_formed_lines(alloc, &read.sources)?;
+            Ok(Outcome::done(alloc, lines))
+        }
+        Err(stop) => Err(stop),
+    }
 }
 
 /// What is told of words that don't go together or aren't what they have to be.
 fn usage(alloc: Global, why: &str) -> M<Outcome>
     ensures { IfOk result (λ outcome. outcome.status ≡ Status.Usage) }
 {
-    let why = escaped(alloc, why)?;
-    let notes = format!(in alloc; "error: {why}\n")?;
-    Ok(Outcome::noted(alloc, notes, Status::Usage))
+    let mut notes = Text::new(alloc);
+    notes.push_str("error: ");
+    notes.push_escaped(why);
+    notes.push('\n');
+    Ok(Outcome::noted(alloc, notes.whole()?, Status::Usage))
 }
 
 /// The outcome of a question.
@@ -85,14 +87,21 @@ fn answered(alloc: Global, manner: Manner, sources: &[Source], answer: Answer) -
     }
 }
 
+/// The counts of a schema.
+fn counted(alloc: Global, schema: &ValidatorSchema) -> M<Outcome> {
+    Ok(Outcome::done(alloc, counts(alloc, schema)?))
+}
+
 /// The counts of a schema, or what is external where that is refused.
 fn build(alloc: Global, manner: Manner, matches: &ArgMatches<'_>, it: &BuiltFiles) -> M<Outcome> {
-    if matches.get_flag("complete") {
-        if let Some(finding) = incomplete(alloc, &it.schema)? {
-            return refused(alloc, manner, &it.sources, finding);
-        }
+    if !matches.get_flag("complete") {
+        return counted(alloc, &it.schema);
     }
-    Ok(Outcome::done(alloc, counts(alloc, &it.schema)?))
+    match incomplete(alloc, &it.schema) {
+        Ok(Some(finding)) => refused(alloc, manner, &it.sources, finding),
+        Ok(None) => counted(alloc, &it.schema),
+        Err(Memory) => Err(Memory),
+    }
 }
 
 /// The type that is asked for.
@@ -125,16 +134,23 @@ fn action_given(alloc: Global, matches: &ArgMatches<'_>) -> Result<Option<Entity
     }
 }
 
-/// The environments that are asked for.
-fn environments(alloc: Global, matches: &ArgMatches<'_>, schema: &ValidatorSchema) -> Answer {
+/// What environments are asked for.
+fn wanted(alloc: Global, matches: &ArgMatches<'_>) -> Result<Wanted, NoAnswer> {
     let principal = type_given(alloc, matches, "principal")?;
     let resource = type_given(alloc, matches, "resource")?;
-    let wanted = Wanted {
+    Ok(Wanted {
         principal,
         action: action_given(alloc, matches)?,
         resource,
-    };
-    Ok(environment_lines(alloc, schema, &wanted)?)
+    })
+}
+
+/// The environments that are asked for.
+fn environments(alloc: Global, matches: &ArgMatches<'_>, schema: &ValidatorSchema) -> Answer {
+    match wanted(alloc, matches) {
+        Ok(wanted) => environment_lines(alloc, schema, &wanted).or(Err(NoAnswer::Memory)),
+        Err(why) => Err(why),
+    }
 }
 
 /// The answer to the question that a command asks of a schema.
@@ -147,9 +163,24 @@ fn answer_of(
     match command {
         "type" => type_answer(alloc, matches, schema),
         "envs" => environments(alloc, matches, schema),
-        "graph" => Ok(graph(alloc, schema)?),
-        _ => Ok(escaped_lines_of(alloc, schema)?),
+        "graph" => graph(alloc, schema).or(Err(NoAnswer::Memory)),
+        _ => escaped_lines_of(alloc, schema).or(Err(NoAnswer::Memory)),
     }
+}
+
+/// What a command gives over a schema.
+fn over_built(
+    alloc: Global,
+    command: &str,
+    matches: &ArgMatches<'_>,
+    it: &BuiltFiles,
+) -> M<Outcome> {
+    let manner = manner(matches);
+    if command == "build" {
+        return build(alloc, manner, matches, it);
+    }
+    let answer = answer_of(alloc, command, matches, &it.schema);
+    answered(alloc, manner, &it.sources, answer)
 }
 
 /// What a command gives over the schema that files declare.
@@ -159,14 +190,18 @@ fn over_schema<F: FileAccess>(
     command: &str,
     matches: &ArgMatches<'_>,
     names: &[&str],
-) -> Result<Outcome, Stop> {
-    let manner = manner(matches);
-    let it = built(alloc, files, names, manner)?;
-    if command == "build" {
-        return Ok(build(alloc, manner, matches, &it)?);
+) -> Given {
+    match built(alloc, files, names, manner(matches)) {
+        Ok(it) => over_built(alloc, command, matches, &it).or(Err(Stop::Memory)),
+        Err(stop) => Err(stop),
     }
-    let answer = answer_of(alloc, command, matches, &it.schema);
-    Ok(answered(alloc, manner, &it.sources, answer)?)
+}
+
+/// What is told of a file that would be read and written.
+fn overwrites(alloc: Global, output: &str) -> M<Outcome>
+    ensures { IfOk result (λ outcome. outcome.status ≡ Status.Usage) }
+{
+    usage(alloc, would_overwrite(alloc, output)?.as_str())
 }
 
 /// What the command that links gives.
@@ -175,12 +210,12 @@ fn linked<F: FileAccess>(
     files: &mut F,
     matches: &ArgMatches<'_>,
     names: &[&str],
-) -> Result<Outcome, Stop> {
+) -> Given {
     let manner = manner(matches);
     match matches.get_str("output") {
         Some(output) if output != "-" => {
             if is_read(files, output, names) {
-                return Ok(usage(alloc, would_overwrite(alloc, output)?.as_str())?);
+                return overwrites(alloc, output).or(Err(Stop::Memory));
             }
             link(alloc, files, names, manner, Some(output))
         }
@@ -207,15 +242,11 @@ fn reads_input_twice(alloc: Global) -> M<Outcome>
 }
 
 /// What the command that compares gives.
-fn compared<F: FileAccess>(
-    alloc: Global,
-    files: &mut F,
-    matches: &ArgMatches<'_>,
-) -> Result<Outcome, Stop> {
+fn compared<F: FileAccess>(alloc: Global, files: &mut F, matches: &ArgMatches<'_>) -> Given {
     let old = words_of(alloc, matches, "old")?;
     let new = words_of(alloc, matches, "new")?;
     if input_count(&old).saturating_add(input_count(&new)) > 1 {
-        return Ok(reads_input_twice(alloc)?);
+        return reads_input_twice(alloc).or(Err(Stop::Memory));
     }
     let telling = Telling {
         manner: manner(matches),
@@ -225,11 +256,7 @@ fn compared<F: FileAccess>(
 }
 
 /// What the command that lays out gives.
-fn laid_out<F: FileAccess>(
-    alloc: Global,
-    files: &mut F,
-    matches: &ArgMatches<'_>,
-) -> Result<Outcome, Stop> {
+fn laid_out<F: FileAccess>(alloc: Global, files: &mut F, matches: &ArgMatches<'_>) -> Given {
     let name = matches.get_str("FILE").unwrap_or("-");
     let is_test = matches.get_flag("check");
     format(alloc, files, name, manner(matches), is_test)
@@ -241,10 +268,10 @@ fn over_files<F: FileAccess>(
     files: &mut F,
     command: &str,
     matches: &ArgMatches<'_>,
-) -> Result<Outcome, Stop> {
+) -> Given {
     let names = words_of(alloc, matches, "FILE")?;
     if input_count(&names) > 1 {
-        return Ok(reads_input_twice(alloc)?);
+        return reads_input_twice(alloc).or(Err(Stop::Memory));
     }
     match command {
         "check" => check(alloc, files, &names, manner(matches)),
@@ -259,7 +286,7 @@ pub(crate) fn outcome_of<F: FileAccess>(
     files: &mut F,
     command: &str,
     matches: &ArgMatches<'_>,
-) -> Result<Outcome, Stop> {
+) -> Given {
     match command {
         "format" => laid_out(alloc, files, matches),
         "compare" => compared(alloc, files, matches),

@@ -1,41 +1,45 @@
 //! The types of attributes, of tags and of contexts.
 
 use crate::answers::{Answer, NoAnswer, type_named, uid_named};
-use cedar_below::M;
+use crate::text::Text;
+use cedar_below::{EntityType, EntityUID, Memory};
 use cedar_schema::lookup::SchemaLookup;
 use cedar_schema::{Type, ValidatorEntityType, ValidatorSchema};
-use schema_lines::escaped;
-use std::alloc::Global;
+use std::alloc::{AllocError, Global};
 
 /// One line with the text of a type.
-fn type_line(alloc: Global, ty: &Type) -> M<String> {
-    let text = format!(in alloc; "{ty}")?;
-    let mut line = escaped(alloc, text.as_str())?;
-    line.push('\n')?;
-    Ok(line)
+fn type_line(alloc: Global, ty: &Type) -> Answer {
+    let mut line = Text::new(alloc);
+    line.write_escaped(ty);
+    line.push('\n');
+    line.whole().or(Err(NoAnswer::Memory))
 }
 
-/// That a schema has nothing of a kind.
-fn nothing(why: String) -> Answer {
-    Err(NoAnswer::Nothing(why))
+/// That a schema has nothing of a kind, where memory sufficed to say so.
+fn nothing(why: Result<String, AllocError>) -> Answer {
+    match why {
+        Ok(why) => Err(NoAnswer::Nothing(why)),
+        Err(_) => Err(NoAnswer::Memory),
+    }
 }
 
 /// A type, or the type at the end of a chain of attributes that begins with one of it.
 fn type_below(alloc: Global, schema: &ValidatorSchema, ty: &Type, names: &[&str]) -> Answer {
     let Some((name, others)) = names.split_first() else {
-        return Ok(type_line(alloc, ty)?);
+        return type_line(alloc, ty);
     };
-    match Type::lookup_attribute_type(alloc, schema, ty, name)? {
-        Some(attribute) => type_below(alloc, schema, &attribute.attr_type, others),
-        None => nothing(format!(in alloc; "{ty} has no attribute \"{name}\"")?),
+    match Type::lookup_attribute_type(alloc, schema, ty, name) {
+        Ok(Some(attribute)) => type_below(alloc, schema, &attribute.attr_type, others),
+        Ok(None) => nothing(format!(in alloc; "{ty} has no attribute \"{name}\"")),
+        Err(Memory) => Err(NoAnswer::Memory),
     }
 }
 
 /// The type of the tags of an entity type.
 fn tags_answer(alloc: Global, declared: &ValidatorEntityType) -> Answer {
     match declared.tag_type() {
-        Some(tags) => Ok(type_line(alloc, tags)?),
-        None => nothing(format!(in alloc; "{} has no tags", declared.name())?),
+        Some(tags) => type_line(alloc, tags),
+        None => nothing(format!(in alloc; "{} has no tags", declared.name())),
     }
 }
 
@@ -55,6 +59,21 @@ fn attributes_answer(
 
 /// The type of the attributes of an entity type, or that at the end of a chain of them; or else the
 /// type of its tags.
+fn type_answer(
+    alloc: Global,
+    schema: &ValidatorSchema,
+    ty: &EntityType,
+    names: &[&str],
+    is_of_tags: bool,
+) -> Answer {
+    match schema.get_entity_type(ty) {
+        Some(declared) if is_of_tags => tags_answer(alloc, declared),
+        Some(declared) => attributes_answer(alloc, schema, declared, names),
+        None => nothing(format!(in alloc; "the schema has no entity type {ty}")),
+    }
+}
+
+/// The same of the entity type that a word names.
 pub(crate) fn entity_answer(
     alloc: Global,
     schema: &ValidatorSchema,
@@ -62,24 +81,34 @@ pub(crate) fn entity_answer(
     names: &[&str],
     is_of_tags: bool,
 ) -> Answer {
-    let ty = type_named(alloc, name)?;
-    match schema.get_entity_type(&ty) {
-        Some(declared) if is_of_tags => tags_answer(alloc, declared),
-        Some(declared) => attributes_answer(alloc, schema, declared, names),
-        None => nothing(format!(in alloc; "the schema has no entity type {ty}")?),
+    match type_named(alloc, name) {
+        Ok(ty) => type_answer(alloc, schema, &ty, names, is_of_tags),
+        Err(why) => Err(why),
     }
 }
 
 /// The type of an action's context, or that at the end of a chain of attributes of it.
+fn context_answer(
+    alloc: Global,
+    schema: &ValidatorSchema,
+    action: &EntityUID,
+    names: &[&str],
+) -> Answer {
+    match schema.context_type(action) {
+        Some(context) => type_below(alloc, schema, context, names),
+        None => nothing(format!(in alloc; "the schema defines no action {action}")),
+    }
+}
+
+/// The same of the action that a word spells.
 pub(crate) fn action_answer(
     alloc: Global,
     schema: &ValidatorSchema,
     uid: &str,
     names: &[&str],
 ) -> Answer {
-    let action = uid_named(alloc, uid)?;
-    match schema.context_type(&action) {
-        Some(context) => type_below(alloc, schema, context, names),
-        None => nothing(format!(in alloc; "the schema defines no action {action}")?),
+    match uid_named(alloc, uid) {
+        Ok(action) => context_answer(alloc, schema, &action, names),
+        Err(why) => Err(why),
     }
 }

@@ -2,7 +2,7 @@
 
 use crate::files::FileAccess;
 use crate::finding::{Finding, Source, file_of};
-use crate::outcome::{Manner, Stop, refused};
+use crate::outcome::{Manner, Outcome, Stop, refused};
 use crate::reading::{ReadFiles, source_number, well_formed};
 use cedar_below::{Loc, M, Memory};
 use cedar_json::{
@@ -83,11 +83,21 @@ fn schema_finding(alloc: Global, sources: &[Source], error: &SchemaError) -> M<F
 }
 
 /// What is told where no schema is built.
-fn finding_of(alloc: Global, sources: &[Source], error: SchemaError) -> M<Finding> {
-    if let SchemaError::Memory(refused) = error {
-        return Err(refused);
+fn not_built(alloc: Global, manner: Manner, sources: &[Source], error: &SchemaError) -> M<Outcome> {
+    if let SchemaError::Memory(_) = error {
+        return Err(Memory);
     }
-    schema_finding(alloc, sources, &error)
+    refused(
+        alloc,
+        manner,
+        sources,
+        schema_finding(alloc, sources, error)?,
+    )
+}
+
+/// The same of a refusal that is done with then.
+fn refusal(alloc: Global, manner: Manner, sources: &[Source], error: SchemaError) -> Stop {
+    Stop::of(not_built(alloc, manner, sources, &error))
 }
 
 /// The schema that fragments declare, over the extensions of Cedar.
@@ -113,9 +123,6 @@ pub(crate) fn built<F: FileAccess>(
     } = well_formed(alloc, files, names, manner)?;
     match schema_of(alloc, fragments) {
         Ok(schema) => Ok(BuiltFiles { sources, schema }),
-        Err(error) => {
-            let finding = finding_of(alloc, &sources, error)?;
-            Err(Stop::Told(refused(alloc, manner, &sources, finding)?))
-        }
+        Err(error) => Err(refusal(alloc, manner, &sources, error)),
     }
 }

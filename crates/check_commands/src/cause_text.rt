@@ -1,12 +1,12 @@
 //! Why one version of a schema lacks what another admits, in words.
 
 use crate::sides::Sides;
-use crate::steps::{Part, attribute_path, parting_text, path_from};
-use cedar_below::{EntityType, EntityUID, M};
+use crate::steps::{Part, push_attribute_path, push_parting, push_steps};
+use crate::text::Text;
+use cedar_below::{EntityType, EntityUID};
 use cedar_compare::{Cause, Difference};
 use cedar_counterexample::Step;
 use cedar_schema::{TCNode, ValidatorSchema};
-use std::alloc::Global;
 
 /// The cause of a difference.
 fn cause_of(difference: &Difference) -> &Cause {
@@ -35,14 +35,13 @@ fn type_words(sides: &Sides<'_>, name: &EntityType) -> &'static str {
     }
 }
 
-/// That the other version has nothing of the sort.
-fn gone_text(alloc: Global, sides: &Sides<'_>, difference: &Difference) -> M<String> {
-    let words = match difference {
+/// What is said of the other version, which has nothing of the sort.
+fn gone_words(sides: &Sides<'_>, difference: &Difference) -> &'static str {
+    match difference {
         Difference::EntityType { witness, .. } => type_words(sides, witness.uid().entity_type()),
         Difference::Action { .. } => "has no such action",
         Difference::Environment { .. } => "has no such environment",
-    };
-    sides.said(alloc, words)
+    }
 }
 
 /// Whether a schema lists an action below another.
@@ -53,12 +52,13 @@ fn lists(schema: &ValidatorSchema, lower: &EntityUID, upper: &EntityUID) -> bool
     }
 }
 
-/// That an action stands above another in one of the two versions alone.
-fn upper_text(alloc: Global, sides: &Sides<'_>, lower: &EntityUID, upper: &EntityUID) -> M<String> {
+/// Adds that an action stands above another in one of the two versions alone.
+fn push_upper(text: &mut Text, sides: &Sides<'_>, lower: &EntityUID, upper: &EntityUID) {
     if lists(sides.own, lower, upper) {
-        return Ok(format!(in alloc; "{upper} isn't above it in {}", sides.other_name)?);
+        write!(text, "{upper} isn't above it in {}", sides.other_name);
+    } else {
+        write!(text, "{upper} is above it in {} alone", sides.other_name);
     }
-    Ok(format!(in alloc; "{upper} is above it in {} alone", sides.other_name)?)
 }
 
 /// The attributes of an entity type, if there is one.
@@ -78,81 +78,62 @@ fn context_of<'a>(schema: &'a ValidatorSchema, uid: &EntityUID) -> Option<Part<'
     Some(Part::Type(schema.context_type(uid)?))
 }
 
-/// What is said of two parts that a schema may lack, and of the other version where it lacks one.
-fn parts_words(
-    alloc: Global,
+/// Adds what is said of two parts that a schema may lack, and of the other version where it lacks
+/// one.
+fn push_parts(
+    text: &mut Text,
     sides: &Sides<'_>,
     parts: (Option<Part<'_>>, Option<Part<'_>>),
     steps: &[Step],
     lacking: &str,
-) -> M<String> {
+) {
+    text.push_str(": ");
     match parts {
-        (Some(own), Some(other)) => parting_text(alloc, sides, own, other, steps),
-        _ => sides.said(alloc, lacking),
+        (Some(own), Some(other)) => push_parting(text, sides, own, other, steps),
+        _ => sides.push_said(text, lacking),
     }
 }
 
-/// What is said of the attributes of an entity type, with the path.
-fn attributes_text(
-    alloc: Global,
-    sides: &Sides<'_>,
-    name: &EntityType,
-    steps: &[Step],
-) -> M<String> {
+/// Adds what is said of the attributes of an entity type, with the path.
+fn push_attributes(text: &mut Text, sides: &Sides<'_>, name: &EntityType, steps: &[Step]) {
     let parts = (
         attributes_of(sides.own, name),
         attributes_of(sides.other, name),
     );
-    let words = parts_words(alloc, sides, parts, steps, "has no such entity type")?;
-    let path = attribute_path(alloc, steps)?;
-    Ok(format!(in alloc; "{path}: {words}")?)
+    push_attribute_path(text, steps);
+    push_parts(text, sides, parts, steps, "has no such entity type");
 }
 
-/// What is said of two types that a schema may lack, with the path from what a word names.
-fn types_text(
-    alloc: Global,
-    sides: &Sides<'_>,
-    parts: (Option<Part<'_>>, Option<Part<'_>>),
-    steps: &[Step],
-    (word, lacking): (&str, &str),
-) -> M<String> {
-    let words = parts_words(alloc, sides, parts, steps, lacking)?;
-    let path = path_from(alloc, word, steps)?;
-    Ok(format!(in alloc; "{path}: {words}")?)
-}
-
-/// What is said of the tags of an entity type, with the path.
-fn tags_text(alloc: Global, sides: &Sides<'_>, name: &EntityType, steps: &[Step]) -> M<String> {
+/// Adds what is said of the tags of an entity type, with the path.
+fn push_tags(text: &mut Text, sides: &Sides<'_>, name: &EntityType, steps: &[Step]) {
     let parts = (tags_of(sides.own, name), tags_of(sides.other, name));
-    types_text(alloc, sides, parts, steps, ("tags", "has no tags"))
+    text.push_str("tags");
+    push_steps(text, steps);
+    push_parts(text, sides, parts, steps, "has no tags");
 }
 
-/// What is said of the context of an action, with the path.
-fn context_text(alloc: Global, sides: &Sides<'_>, uid: &EntityUID, steps: &[Step]) -> M<String> {
+/// Adds what is said of the context of an action, with the path.
+fn push_context(text: &mut Text, sides: &Sides<'_>, uid: &EntityUID, steps: &[Step]) {
     let parts = (context_of(sides.own, uid), context_of(sides.other, uid));
-    types_text(
-        alloc,
-        sides,
-        parts,
-        steps,
-        ("context", "has no such action"),
-    )
+    text.push_str("context");
+    push_steps(text, steps);
+    push_parts(text, sides, parts, steps, "has no such action");
 }
 
-/// Why the other version lacks what a difference names.
-pub(crate) fn cause_text(alloc: Global, sides: &Sides<'_>, difference: &Difference) -> M<String> {
+/// Adds why the other version lacks what a difference names.
+pub(crate) fn push_cause(text: &mut Text, sides: &Sides<'_>, difference: &Difference) {
     let uid = uid_of(difference);
     match cause_of(difference) {
-        Cause::Gone => gone_text(alloc, sides, difference),
+        Cause::Gone => sides.push_said(text, gone_words(sides, difference)),
         Cause::Choice(choice) => {
-            Ok(format!(in alloc; "{choice} is no choice in {}", sides.other_name)?)
+            write!(text, "{choice} is no choice in {}", sides.other_name);
         }
         Cause::AncestorType(upper) => {
-            Ok(format!(in alloc; "{upper} isn't above it in {}", sides.other_name)?)
+            write!(text, "{upper} isn't above it in {}", sides.other_name);
         }
-        Cause::AncestorAction(upper) => upper_text(alloc, sides, uid, upper),
-        Cause::Attributes(steps) => attributes_text(alloc, sides, uid.entity_type(), steps),
-        Cause::Tags(steps) => tags_text(alloc, sides, uid.entity_type(), steps),
-        Cause::Context(steps) => context_text(alloc, sides, uid, steps),
+        Cause::AncestorAction(upper) => push_upper(text, sides, uid, upper),
+        Cause::Attributes(steps) => push_attributes(text, sides, uid.entity_type(), steps),
+        Cause::Tags(steps) => push_tags(text, sides, uid.entity_type(), steps),
+        Cause::Context(steps) => push_context(text, sides, uid, steps),
     }
 }

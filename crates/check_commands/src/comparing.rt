@@ -9,9 +9,10 @@ use crate::difference_json::push_objects;
 use crate::difference_lines::push_lines;
 use crate::files::FileAccess;
 use crate::finding::Finding;
-use crate::outcome::{Manner, Outcome, Stop, refused};
+use crate::outcome::{Given, Manner, Outcome, Stop, refused};
 use crate::sides::Sides;
 use crate::status::Status;
+use crate::text::Text;
 use cedar_below::{Extensions, M, Memory, Name, NameFault, RestrictedExpr, Value};
 use cedar_compare::{CompareFault, Comparison, Difference, compare};
 use cedar_json::cedar_extensions;
@@ -26,16 +27,26 @@ const CALLS: &[(&str, &str)] = &[
     ("duration", "1h"),
 ];
 
+/// The arguments of a function that is given a text.
+fn args_of(alloc: Global, text: &str) -> M<Vec<RestrictedExpr>> {
+    let text = String::from_str(alloc, text)?;
+    vec![in alloc; RestrictedExpr::String(text)].or(Err(Memory))
+}
+
+/// Adds the value that a function gives.
+fn push_call(samples: &mut Vec<Value>, function: Name, args: Vec<RestrictedExpr>) -> M<()> {
+    let call = RestrictedExpr::ExtensionCall { function, args };
+    samples.push(Value::new(call)).or(Err(Memory))
+}
+
 /// Adds the value that a function gives of a text, if the word is the name of one.
 fn push_sample(alloc: Global, samples: &mut Vec<Value>, name: &str, text: &str) -> M<()> {
-    let function = match Name::from_str(alloc, name) {
-        Ok(function) => function,
-        Err(NameFault::Memory(refused)) => return Err(refused),
-        Err(_) => return Ok(()),
-    };
-    let args = vec![in alloc; RestrictedExpr::String(String::from_str(alloc, text)?)]?;
-    samples.push(Value::new(RestrictedExpr::ExtensionCall { function, args }))?;
-    Ok(())
+    let args = args_of(alloc, text)?;
+    match Name::from_str(alloc, name) {
+        Ok(function) => push_call(samples, function, args),
+        Err(NameFault::Memory(refused)) => Err(refused),
+        Err(_) => Ok(()),
+    }
 }
 
 /// A value of each of Cedar's extension types.
@@ -58,16 +69,10 @@ pub(crate) struct Telling {
 
 impl Telling {
     /// Adds some differences.
-    fn push(
-        self,
-        alloc: Global,
-        text: &mut String,
-        sides: &Sides<'_>,
-        differences: &[Difference],
-    ) -> M<()> {
+    fn push(self, text: &mut Text, sides: &Sides<'_>, differences: &[Difference]) {
         match self.manner {
-            Manner::Lines => push_lines(alloc, text, sides, differences, self.is_all),
-            Manner::Json => push_objects(alloc, text, sides, differences),
+            Manner::Lines => push_lines(text, sides, differences, self.is_all),
+            Manner::Json => push_objects(text, sides, differences),
         }
     }
 }
@@ -85,26 +90,16 @@ fn compared(
     ensures told { IfOk result (λ outcome.
         (outcome.status ≡ Status.Done) ⊎ (outcome.status ≡ Status.Lost)) }
 {
-    let mut text = String::new(alloc);
-    telling.push(
-        alloc,
-        &mut text,
-        &Sides::of_lost(old, new),
-        &comparison.lost,
-    )?;
-    telling.push(
-        alloc,
-        &mut text,
-        &Sides::of_gained(old, new),
-        &comparison.gained,
-    )?;
+    let mut text = Text::new(alloc);
+    telling.push(&mut text, &Sides::of_lost(old, new), &comparison.lost);
+    telling.push(&mut text, &Sides::of_gained(old, new), &comparison.gained);
     let status = if comparison.lost.is_empty() {
         Status::Done
     } else {
         Status::Lost
     };
     Ok(Outcome {
-        text,
+        text: text.whole()?,
         notes: String::new(alloc),
         status,
     })
@@ -165,11 +160,25 @@ fn with_new_faults<F: FileAccess>(
     told: Outcome,
     new: &[&str],
     manner: Manner,
-) -> Result<Outcome, Stop> {
+) -> Given {
     match built(alloc, files, new, manner) {
         Ok(_) => Ok(told),
-        Err(Stop::Told(other)) => Ok(told.with(&other)?),
+        Err(Stop::Told(other)) => told.with(&other).or(Err(Stop::Memory)),
         Err(Stop::Memory) => Err(Stop::Memory),
+    }
+}
+
+/// Compares the schema of old files with the one that new files declare.
+fn compare_built<F: FileAccess>(
+    alloc: Global,
+    files: &mut F,
+    old: &ValidatorSchema,
+    new: &[&str],
+    telling: Telling,
+) -> Given {
+    match built(alloc, files, new, telling.manner) {
+        Ok(new) => compare_schemas(alloc, telling, old, &new.schema).or(Err(Stop::Memory)),
+        Err(stop) => Err(stop),
     }
 }
 
@@ -181,12 +190,9 @@ pub(crate) fn compare_files<F: FileAccess>(
     old: &[&str],
     new: &[&str],
     telling: Telling,
-) -> Result<Outcome, Stop> {
+) -> Given {
     match built(alloc, files, old, telling.manner) {
-        Ok(old) => {
-            let new = built(alloc, files, new, telling.manner)?;
-            Ok(compare_schemas(alloc, telling, &old.schema, &new.schema)?)
-        }
+        Ok(old) => compare_built(alloc, files, &old.schema, new, telling),
         Err(Stop::Told(told)) => with_new_faults(alloc, files, told, new, telling.manner),
         Err(Stop::Memory) => Err(Stop::Memory),
     }

@@ -1,21 +1,45 @@
 //! Differences between two versions of a schema, as objects of JSON.
 
-use crate::cause_text::cause_text;
-use crate::json_lines::{Members, push_object, write_text};
+use crate::cause_text::push_cause;
+use crate::json_lines::{Members, Object, push_object};
 use crate::sides::Sides;
-use crate::witness::{subject_text, witness_text};
+use crate::text::Text;
+use crate::witness::{push_subject, witness_text};
 use cedar_below::{M, Memory};
 use cedar_compare::Difference;
-use json::{Error, Scratch, Value, Writer};
+use json::{Error, Scratch, Value};
 use std::alloc::Global;
 
+/// What a difference is of.
+fn subject_text(alloc: Global, difference: &Difference) -> M<String> {
+    let mut text = Text::new(alloc);
+    push_subject(&mut text, difference);
+    text.whole()
+}
+
+/// Why the other version lacks what a difference names.
+fn cause_text(alloc: Global, sides: &Sides<'_>, difference: &Difference) -> M<String> {
+    let mut text = Text::new(alloc);
+    push_cause(&mut text, sides, difference);
+    text.whole()
+}
+
 /// Writes the value that a text of JSON is.
-fn write_parsed(alloc: Global, writer: &mut Writer, text: &str) -> M<()> {
+fn write_parsed(alloc: Global, object: &mut Object, text: &str) {
     let mut scratch = Scratch::new(alloc);
     match Value::parse(alloc, text, &mut scratch) {
-        Ok(value) => Ok(writer.value(&value)?),
-        Err(Error::OutOfMemory) => Err(Memory),
-        Err(_) => Ok(writer.null()?),
+        Ok(value) => object.value(&value),
+        Err(Error::OutOfMemory) => object.refuse(),
+        Err(_) => object.null(),
+    }
+}
+
+/// Writes the witness of a difference, or `null` where Cedar's JSON can't say it.
+fn write_witness(alloc: Global, object: &mut Object, difference: &Difference) {
+    match witness_text(alloc, difference) {
+        Ok(Some(text)) => write_parsed(alloc, object, text.as_str()),
+        Ok(None) => object.null(),
+        Err(Memory) => object.refuse(),
     }
 }
 
@@ -31,39 +55,24 @@ struct DifferenceOf<'s, 'd> {
 }
 
 impl Members for DifferenceOf<'_, '_> {
-    fn write(&self, writer: &mut Writer) -> M<()> {
+    fn write(&self, object: &mut Object) {
         let (alloc, difference) = (self.alloc, self.difference);
-        write_text(writer, "change", self.sides.change)?;
-        write_text(writer, "of", subject_text(alloc, difference)?.as_str())?;
-        let cause = cause_text(alloc, &self.sides, difference)?;
-        write_text(writer, "cause", cause.as_str())?;
-        writer.key("witness")?;
-        write_witness(alloc, writer, difference)
-    }
-}
-
-/// Writes the witness of a difference, or `null` where Cedar's JSON can't say it.
-fn write_witness(alloc: Global, writer: &mut Writer, difference: &Difference) -> M<()> {
-    match witness_text(alloc, difference)? {
-        Some(text) => write_parsed(alloc, writer, text.as_str()),
-        None => Ok(writer.null()?),
+        object.text("change", self.sides.change);
+        object.made("of", subject_text(alloc, difference));
+        object.made("cause", cause_text(alloc, &self.sides, difference));
+        object.key("witness");
+        write_witness(alloc, object, difference);
     }
 }
 
 /// Adds an object and a line end for each of some differences.
-pub(crate) fn push_objects(
-    alloc: Global,
-    text: &mut String,
-    sides: &Sides<'_>,
-    differences: &[Difference],
-) -> M<()> {
+pub(crate) fn push_objects(text: &mut Text, sides: &Sides<'_>, differences: &[Difference]) {
     for difference in differences {
         let told = DifferenceOf {
-            alloc,
+            alloc: text.alloc(),
             sides: *sides,
             difference,
         };
-        push_object(alloc, text, &told)?;
+        push_object(text, &told);
     }
-    Ok(())
 }

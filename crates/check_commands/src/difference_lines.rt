@@ -1,12 +1,12 @@
 //! Differences between two versions of a schema, as lines for people.
 
-use crate::cause_text::cause_text;
+use crate::cause_text::push_cause;
 use crate::json_lines::push_line;
 use crate::sides::Sides;
-use crate::witness::{subject_text, witness_text};
-use cedar_below::{EntityUID, M};
+use crate::text::Text;
+use crate::witness::{push_subject, witness_text};
+use cedar_below::{EntityUID, Memory};
 use cedar_compare::Difference;
-use std::alloc::Global;
 
 /// How many requests of an action are shown where not all of them are asked for.
 const SHOWN: usize = 20;
@@ -41,31 +41,27 @@ fn action_of(difference: &Difference) -> Option<&EntityUID> {
 
 impl<'a> Run<'a> {
     /// Adds a line on those that aren't shown, if there are some.
-    fn push_rest(&self, alloc: Global, text: &mut String) -> M<()> {
+    fn push_rest(&self, text: &mut Text) {
         let rest = self.count.saturating_sub(self.shown);
-        let Some(action) = self.action else {
-            return Ok(());
-        };
-        if rest > 0 {
+        if let Some(action) = self.action
+            && rest > 0
+        {
             let word = if rest == 1 { "request" } else { "requests" };
-            let line = format!(in alloc; "  .. and {rest} more {word} of {action}\n")?;
-            text.push_str(line.as_str())?;
+            write!(text, "  .. and {rest} more {word} of {action}\n");
         }
-        Ok(())
     }
 
     /// Goes on by a difference.
-    fn go_on(&mut self, alloc: Global, text: &mut String, difference: &'a Difference) -> M<()> {
+    fn go_on(&mut self, text: &mut Text, difference: &'a Difference) {
         let action = action_of(difference);
         if !is_same(self.action, action) {
-            self.push_rest(alloc, text)?;
+            self.push_rest(text);
             self.action = action;
             self.count = 0;
         }
         if action.is_some() {
             self.count = self.count.saturating_add(1);
         }
-        Ok(())
     }
 
     /// Whether the last one is shown.
@@ -75,50 +71,45 @@ impl<'a> Run<'a> {
 }
 
 /// Adds the lines of a witness.
-fn push_witness(alloc: Global, text: &mut String, witness: &str) -> M<()> {
+fn push_witness(text: &mut Text, witness: &str) {
     for line in witness.split('\n') {
-        text.push_str("  ")?;
-        push_line(alloc, text, line)?;
+        text.push_str("  ");
+        push_line(text, line);
     }
-    Ok(())
 }
 
 /// Adds the lines of a difference: what it is of, why, and a witness.
-fn push_difference(
-    alloc: Global,
-    text: &mut String,
-    sides: &Sides<'_>,
-    difference: &Difference,
-) -> M<()> {
-    let subject = subject_text(alloc, difference)?;
-    let cause = cause_text(alloc, sides, difference)?;
-    let head = format!(in alloc; "{} {subject}\n  {cause}\n", sides.change)?;
-    text.push_str(head.as_str())?;
-    match witness_text(alloc, difference)? {
-        Some(witness) => push_witness(alloc, text, witness.as_str()),
-        None => Ok(text.push_str("  Cedar's JSON can't say a witness of it\n")?),
+fn push_difference(text: &mut Text, sides: &Sides<'_>, difference: &Difference) {
+    write!(text, "{} ", sides.change);
+    push_subject(text, difference);
+    text.push_str("\n  ");
+    push_cause(text, sides, difference);
+    text.push('\n');
+    match witness_text(text.alloc(), difference) {
+        Ok(Some(witness)) => push_witness(text, witness.as_str()),
+        Ok(None) => text.push_str("  Cedar's JSON can't say a witness of it\n"),
+        Err(Memory) => text.refuse(),
     }
 }
 
 /// Adds the lines of differences; of the requests of each action no more than some, unless all are
 /// asked for.
 pub(crate) fn push_lines(
-    alloc: Global,
-    text: &mut String,
+    text: &mut Text,
     sides: &Sides<'_>,
     differences: &[Difference],
     is_all: bool,
-) -> M<()> {
+) {
     let mut run = Run {
         shown: if is_all { usize::MAX } else { SHOWN },
         action: None,
         count: 0,
     };
     for difference in differences {
-        run.go_on(alloc, text, difference)?;
+        run.go_on(text, difference);
         if run.is_shown() {
-            push_difference(alloc, text, sides, difference)?;
+            push_difference(text, sides, difference);
         }
     }
-    run.push_rest(alloc, text)
+    run.push_rest(text);
 }

@@ -1,5 +1,6 @@
 //! Why a text isn't read as a fragment, in words.
 
+use crate::text::Text;
 use cedar_below::{Loc, M};
 use cedar_json::{FaultKind, JsonSchemaFault, Place, Wanted};
 use std::alloc::Global;
@@ -49,44 +50,54 @@ fn shape_words(kind: FaultKind) -> &'static str {
 }
 
 /// The bytes of a place, as they stand in the text.
-fn written_at(alloc: Global, text: &str, loc: Option<Loc>) -> M<String> {
-    let Some(loc) = loc else {
-        return Ok(String::new(alloc));
-    };
-    match text.get(loc.start as usize..loc.stop as usize) {
-        Some(written) => Ok(String::from_str(alloc, written)?),
-        None => Ok(String::new(alloc)),
+fn written_at(text: &str, loc: Option<Loc>) -> &str {
+    match loc {
+        Some(loc) => text
+            .get(loc.start as usize..loc.stop as usize)
+            .unwrap_or(""),
+        None => "",
     }
 }
 
-/// Where a value stands, as the end of a sentence.
-fn at_pointer(alloc: Global, place: &Place) -> M<String> {
+/// Adds where a value stands, as the end of a sentence.
+fn push_pointer(words: &mut Text, place: &Place) {
     if place.pointer.is_empty() {
-        return Ok(String::from_str(alloc, "at the top")?);
+        words.push_str("at the top");
+    } else {
+        words.push_str("at ");
+        words.push_str(place.pointer.as_str());
     }
-    Ok(format!(in alloc; "at {}", place.pointer)?)
 }
 
-/// The words for a value that isn't as the format wants it.
-fn shape_text(alloc: Global, text: &str, place: &Place, kind: FaultKind) -> M<String> {
-    let at = at_pointer(alloc, place)?;
+/// Adds the words for a value that isn't as the format wants it.
+fn push_shape(words: &mut Text, text: &str, place: &Place, kind: FaultKind) {
     match kind {
-        FaultKind::Missing(name) => Ok(format!(in alloc; "the field \"{name}\" is missing {at}")?),
-        FaultKind::Wants(wanted) => {
-            let wanted = wanted_words(wanted);
-            Ok(format!(in alloc; "{wanted} has to stand {at}")?)
+        FaultKind::Missing(name) => {
+            words.push_str("the field \"");
+            words.push_str(name);
+            words.push_str("\" is missing ");
         }
-        FaultKind::NoChoices => Ok(format!(in alloc; "{}, {at}", shape_words(kind))?),
+        FaultKind::Wants(wanted) => {
+            words.push_str(wanted_words(wanted));
+            words.push_str(" has to stand ");
+        }
+        FaultKind::NoChoices => {
+            words.push_str(shape_words(kind));
+            words.push_str(", ");
+        }
         _ => {
-            let written = written_at(alloc, text, place.loc)?;
-            Ok(format!(in alloc; "{written}: {}, {at}", shape_words(kind))?)
+            words.push_str(written_at(text, place.loc));
+            words.push_str(": ");
+            words.push_str(shape_words(kind));
+            words.push_str(", ");
         }
     }
+    push_pointer(words, place);
 }
 
 /// Why a text is no JSON; where it is Cedar's own syntax of schemas, how to convert it.
-fn no_json_text(alloc: Global, text: &str, too_deep: bool) -> M<String> {
-    let words = if too_deep {
+fn no_json_words(text: &str, too_deep: bool) -> &'static str {
+    if too_deep {
         "this is nested deeper than 128 levels"
     } else if text.starts_with('\u{feff}') {
         "the file begins with a byte order mark, which JSON doesn't have"
@@ -95,8 +106,7 @@ fn no_json_text(alloc: Global, text: &str, too_deep: bool) -> M<String> {
          convert it by `cedar translate-schema --direction cedar-to-json`"
     } else {
         "from here on this is no JSON"
-    };
-    Ok(String::from_str(alloc, words)?)
+    }
 }
 
 /// The words with which a declaration in Cedar's schema syntax may begin.
@@ -113,22 +123,35 @@ fn begins_as_cedar(text: &str) -> bool {
     false
 }
 
+/// Adds what is at fault, in words.
+fn push_fault(words: &mut Text, text: &str, fault: &JsonSchemaFault) {
+    match fault {
+        JsonSchemaFault::TooLong => words.push_str("4 GiB are too long"),
+        JsonSchemaFault::NotUtf8 { valid_up_to } => {
+            write!(
+                words,
+                "byte {valid_up_to} (from 0) belongs to no UTF-8 character"
+            );
+        }
+        JsonSchemaFault::NotJson { too_deep, .. } => {
+            words.push_str(no_json_words(text, *too_deep));
+        }
+        JsonSchemaFault::TwiceInObject { at, .. } => {
+            words.push_str("the key ");
+            words.push_str(written_at(text, at.loc));
+            words.push_str(" comes twice in the object ");
+            push_pointer(words, at);
+        }
+        JsonSchemaFault::OutOfShape { at, fault } => push_shape(words, text, at, *fault),
+        JsonSchemaFault::Memory => words.push_str("out of memory"),
+    }
+}
+
 /// What is at fault, in words.
 pub(crate) fn fault_text(alloc: Global, text: &str, fault: &JsonSchemaFault) -> M<String> {
-    match fault {
-        JsonSchemaFault::TooLong => Ok(String::from_str(alloc, "4 GiB are too long")?),
-        JsonSchemaFault::NotUtf8 { valid_up_to } => Ok(format!(in alloc;
-            "byte {valid_up_to} (from 0) belongs to no UTF-8 character"
-        )?),
-        JsonSchemaFault::NotJson { too_deep, .. } => no_json_text(alloc, text, *too_deep),
-        JsonSchemaFault::TwiceInObject { at, .. } => {
-            let key = written_at(alloc, text, at.loc)?;
-            let place = at_pointer(alloc, at)?;
-            Ok(format!(in alloc; "the key {key} comes twice in the object {place}")?)
-        }
-        JsonSchemaFault::OutOfShape { at, fault } => shape_text(alloc, text, at, *fault),
-        JsonSchemaFault::Memory => Ok(String::from_str(alloc, "out of memory")?),
-    }
+    let mut words = Text::new(alloc);
+    push_fault(&mut words, text, fault);
+    words.whole()
 }
 
 /// A place of some bytes of a file.

@@ -1,11 +1,9 @@
 //! What is found to be at fault in files, and how it is told.
 
-use crate::json_lines::{Members, write_text};
-use crate::position::{line_with_caret, position_of};
-use cedar_below::{Loc, M};
-use json::Writer;
-use schema_lines::escaped;
-use std::alloc::Global;
+use crate::json_lines::{Members, Object};
+use crate::position::{Position, position_of, push_line_with_caret};
+use crate::text::Text;
+use cedar_below::Loc;
 
 /// A file that was asked for.
 #[derive(Drop)]
@@ -76,92 +74,90 @@ fn source_at(sources: &[Source], number: Option<usize>) -> Option<&Source> {
     }
 }
 
-/// `FILE:LINE:COLUMN: ` and what is said of a place, and the line with `^` under the place.
-fn place_text(alloc: Global, source: &Source, at: usize, what: &str) -> M<String> {
-    let name = escaped(alloc, source.name.as_str())?;
-    let position = position_of(source.text.as_str(), at);
-    let line = line_with_caret(alloc, source.text.as_str(), position)?;
-    Ok(format!(in alloc;
-        "{name}:{}:{}: {what}\n{line}",
-        position.line, position.column
-    )?)
+/// The position of a place in a file, if there is one.
+fn position_in(source: &Source, loc: Option<Loc>) -> Option<Position> {
+    let at = loc?.start as usize;
+    Some(position_of(source.text.as_str(), at))
 }
 
-/// What is said of a file: of a place in it, if one fits, and else `FILE: ` and what is said.
-fn source_text(alloc: Global, source: &Source, loc: Option<Loc>, what: &str) -> M<String> {
-    if let Some(loc) = loc {
-        return place_text(alloc, source, loc.start as usize, what);
+/// Adds `FILE:LINE:COLUMN: `, or `FILE: ` where there is no position.
+fn push_where(text: &mut Text, source: &Source, position: Option<Position>) {
+    text.push_escaped(source.name.as_str());
+    if let Some(Position { line, column }) = position {
+        write!(text, ":{line}:{column}");
     }
-    let name = escaped(alloc, source.name.as_str())?;
-    Ok(format!(in alloc; "{name}: {what}\n")?)
+    text.push_str(": ");
 }
 
-/// The lines that tell a finding without its other place.
-fn main_text(alloc: Global, sources: &[Source], finding: &Finding) -> M<String> {
-    let message = escaped(alloc, finding.message.as_str())?;
-    let what = format!(in alloc; "{}: {message}", finding.kind)?;
-    match source_at(sources, finding.file) {
-        Some(source) => source_text(alloc, source, finding.loc, what.as_str()),
-        None => Ok(format!(in alloc; "{what}\n")?),
+/// Adds the line of a position with `^` below it, if there is one.
+fn push_line_at(text: &mut Text, source: &Source, position: Option<Position>) {
+    if let Some(position) = position {
+        push_line_with_caret(text, source.text.as_str(), position);
     }
 }
 
-/// The lines that tell the other place of a finding.
-fn other_text(alloc: Global, sources: &[Source], other: Loc) -> M<String> {
-    match source_at(sources, Some(other.source as usize)) {
-        Some(source) => place_text(alloc, source, other.start as usize, "the other place"),
-        None => Ok(String::new(alloc)),
+/// Adds the kind and the words of a finding.
+fn push_words(text: &mut Text, finding: &Finding) {
+    text.push_str(finding.kind);
+    text.push_str(": ");
+    text.push_escaped(finding.message.as_str());
+    text.push('\n');
+}
+
+/// Adds the lines that tell a finding of a file without its other place.
+fn push_in_file(text: &mut Text, source: &Source, finding: &Finding) {
+    let position = position_in(source, finding.loc);
+    push_where(text, source, position);
+    push_words(text, finding);
+    push_line_at(text, source, position);
+}
+
+/// Adds the lines that tell the other place of a finding, if there is one.
+fn push_other(text: &mut Text, sources: &[Source], other: Option<Loc>) {
+    if let Some(source) = source_at(sources, file_of(other)) {
+        let position = position_in(source, other);
+        push_where(text, source, position);
+        text.push_str("the other place\n");
+        push_line_at(text, source, position);
     }
 }
 
 /// Adds the lines that tell a finding: its place, its kind and its words, the line with `^` under
 /// the place, and then the same of its other place.
-pub(crate) fn push_finding(
-    alloc: Global,
-    text: &mut String,
-    sources: &[Source],
-    finding: &Finding,
-) -> M<()> {
-    text.push_str(main_text(alloc, sources, finding)?.as_str())?;
-    if let Some(other) = finding.other {
-        text.push_str(other_text(alloc, sources, other)?.as_str())?;
+pub(crate) fn push_finding(text: &mut Text, sources: &[Source], finding: &Finding) {
+    match source_at(sources, finding.file) {
+        Some(source) => push_in_file(text, source, finding),
+        None => push_words(text, finding),
     }
-    Ok(())
+    push_other(text, sources, finding.other);
 }
 
 /// Writes a member whose value is a position: `{"line": .., "column": ..}`.
-fn write_position(writer: &mut Writer, key: &str, text: &str, at: u32) -> M<()> {
+fn write_position(object: &mut Object, key: &str, text: &str, at: u32) {
     let position = position_of(text, at as usize);
-    writer.key(key)?;
-    writer.begin_object()?;
-    writer.key("line")?;
-    writer.u64(position.line as u64)?;
-    writer.key("column")?;
-    writer.u64(position.column as u64)?;
-    Ok(writer.end_object()?)
+    object.key(key);
+    object.begin_object();
+    object.number("line", position.line);
+    object.number("column", position.column);
+    object.end_object();
 }
 
 /// Writes the members that say where something is.
-fn write_place(writer: &mut Writer, source: &Source, loc: Option<Loc>) -> M<()> {
-    write_text(writer, "file", source.name.as_str())?;
-    let Some(loc) = loc else {
-        return Ok(());
-    };
-    write_position(writer, "start", source.text.as_str(), loc.start)?;
-    write_position(writer, "end", source.text.as_str(), loc.stop)
+fn write_place(object: &mut Object, source: &Source, loc: Option<Loc>) {
+    object.text("file", source.name.as_str());
+    if let Some(loc) = loc {
+        write_position(object, "start", source.text.as_str(), loc.start);
+        write_position(object, "end", source.text.as_str(), loc.stop);
+    }
 }
 
 /// Writes the other place of a finding as an object, if there is one.
-fn write_other(writer: &mut Writer, sources: &[Source], other: Option<Loc>) -> M<()> {
-    let Some(loc) = other else {
-        return Ok(());
-    };
-    if let Some(source) = source_at(sources, Some(loc.source as usize)) {
-        writer.begin_object()?;
-        write_place(writer, source, other)?;
-        return Ok(writer.end_object()?);
+fn write_other(object: &mut Object, sources: &[Source], other: Option<Loc>) {
+    if let Some(source) = source_at(sources, file_of(other)) {
+        object.begin_object();
+        write_place(object, source, other);
+        object.end_object();
     }
-    Ok(())
 }
 
 /// A finding, with the files that are told of.
@@ -174,16 +170,16 @@ pub(crate) struct FindingIn<'a> {
 }
 
 impl Members for FindingIn<'_> {
-    fn write(&self, writer: &mut Writer) -> M<()> {
+    fn write(&self, object: &mut Object) {
         let finding = self.finding;
         if let Some(source) = source_at(self.sources, finding.file) {
-            write_place(writer, source, finding.loc)?;
+            write_place(object, source, finding.loc);
         }
-        write_text(writer, "kind", finding.kind)?;
-        write_text(writer, "message", finding.message.as_str())?;
-        writer.key("related")?;
-        writer.begin_array()?;
-        write_other(writer, self.sources, finding.other)?;
-        Ok(writer.end_array()?)
+        object.text("kind", finding.kind);
+        object.text("message", finding.message.as_str());
+        object.key("related");
+        object.begin_array();
+        write_other(object, self.sources, finding.other);
+        object.end_array();
     }
 }

@@ -1,63 +1,101 @@
 //! The hierarchies of a schema as a graph in Graphviz DOT.
 
-use crate::hierarchy::{Hierarchy, actions, entity_types, texts};
-use cedar_below::M;
+use crate::hierarchy::{Hierarchy, actions, entity_types, text_of, texts};
+use crate::text::Text;
+use cedar_below::{M, Memory};
 use cedar_schema::{ValidatorActionId, ValidatorSchema};
 use std::alloc::Global;
+use std::collections::BTreeSet;
 
-/// A name as DOT has it in quotes.
-fn quoted(alloc: Global, name: &str) -> M<String> {
-    let mut text = String::new(alloc);
-    text.push('"')?;
+/// Adds a name as DOT has it in quotes.
+fn push_quoted(text: &mut Text, name: &str) {
+    text.push('"');
     for character in name.chars() {
         if character == '"' || character == '\\' {
-            text.push('\\')?;
+            text.push('\\');
         }
-        text.push(character)?;
+        text.push(character);
     }
-    text.push('"')?;
-    Ok(text)
+    text.push('"');
 }
 
 /// Adds a node of a shape.
-fn push_node(alloc: Global, text: &mut String, name: &str, shape: &str) -> M<()> {
-    let name = quoted(alloc, name)?;
-    Ok(text.push_str(format!(in alloc; "  {name} [shape={shape}];\n")?.as_str())?)
+fn push_node(text: &mut Text, name: &str, shape: &str) {
+    text.push_str("  ");
+    push_quoted(text, name);
+    write!(text, " [shape={shape}];\n");
 }
 
 /// Adds an edge, drawn in a style.
-fn push_edge(alloc: Global, text: &mut String, from: &str, to: &str, style: &str) -> M<()> {
-    let from = quoted(alloc, from)?;
-    let to = quoted(alloc, to)?;
-    Ok(text.push_str(format!(in alloc; "  {from} -> {to}{style};\n")?.as_str())?)
+fn push_edge(text: &mut Text, from: &str, to: &str, style: &str) {
+    text.push_str("  ");
+    push_quoted(text, from);
+    text.push_str(" -> ");
+    push_quoted(text, to);
+    write!(text, "{style};\n");
+}
+
+/// Adds each node of a hierarchy.
+fn push_nodes(text: &mut Text, hierarchy: &Hierarchy, shape: &str) {
+    for name in hierarchy.below.keys() {
+        push_node(text, name.as_str(), shape);
+    }
+}
+
+/// Adds edges, each from its lower end.
+fn push_edges(text: &mut Text, edges: &[(&str, &str)]) {
+    for (upper, lower) in edges {
+        push_edge(text, lower, upper, "");
+    }
 }
 
 /// Adds each node of a hierarchy, and each edge that no two others make.
-fn push_hierarchy(alloc: Global, text: &mut String, hierarchy: &Hierarchy, shape: &str) -> M<()> {
-    for name in hierarchy.below.keys() {
-        push_node(alloc, text, name.as_str(), shape)?;
+fn push_hierarchy(text: &mut Text, hierarchy: &Hierarchy, shape: &str) {
+    match hierarchy.edges(text.alloc()) {
+        Ok(edges) => {
+            push_nodes(text, hierarchy, shape);
+            push_edges(text, &edges);
+        }
+        Err(Memory) => text.refuse(),
     }
-    for (upper, lower) in &hierarchy.edges(alloc)? {
-        push_edge(alloc, text, lower, upper, "")?;
-    }
-    Ok(())
 }
 
-/// Adds an edge from each type of principal to an action.
-fn push_principals(alloc: Global, text: &mut String, action: &ValidatorActionId) -> M<()> {
-    let uid = format!(in alloc; "{}", action.name())?;
-    for name in &texts(alloc, action.principals())? {
-        push_edge(alloc, text, name.as_str(), uid.as_str(), " [style=dashed]")?;
+/// Adds the hierarchy of entity types, as boxes.
+fn push_entity_types(text: &mut Text, schema: &ValidatorSchema) {
+    match entity_types(text.alloc(), schema) {
+        Ok(hierarchy) => push_hierarchy(text, &hierarchy, "box"),
+        Err(Memory) => text.refuse(),
     }
-    Ok(())
 }
 
-/// Adds an edge from an action to each type of resource.
-fn push_resources(alloc: Global, text: &mut String, action: &ValidatorActionId) -> M<()> {
-    let uid = format!(in alloc; "{}", action.name())?;
-    for name in &texts(alloc, action.resources())? {
-        push_edge(alloc, text, uid.as_str(), name.as_str(), " [style=dashed]")?;
+/// Adds the hierarchy of actions, as ellipses.
+fn push_actions(text: &mut Text, schema: &ValidatorSchema) {
+    match actions(text.alloc(), schema) {
+        Ok(hierarchy) => push_hierarchy(text, &hierarchy, "ellipse"),
+        Err(Memory) => text.refuse(),
     }
+}
+
+/// Adds a dashed edge from each type of principal to an action.
+fn push_principals(text: &mut Text, principals: &BTreeSet<String>, uid: &str) {
+    for name in principals {
+        push_edge(text, name.as_str(), uid, " [style=dashed]");
+    }
+}
+
+/// Adds a dashed edge from an action to each type of resource.
+fn push_resources(text: &mut Text, uid: &str, resources: &BTreeSet<String>) {
+    for name in resources {
+        push_edge(text, uid, name.as_str(), " [style=dashed]");
+    }
+}
+
+/// Adds the edges from the principals of an action to it, and from it to its resources.
+fn push_action(text: &mut Text, action: &ValidatorActionId) -> M<()> {
+    let alloc = text.alloc();
+    let uid = text_of(alloc, action.name())?;
+    push_principals(text, &texts(alloc, action.principals())?, uid.as_str());
+    push_resources(text, uid.as_str(), &texts(alloc, action.resources())?);
     Ok(())
 }
 
@@ -65,13 +103,13 @@ fn push_resources(alloc: Global, text: &mut String, action: &ValidatorActionId) 
 /// each to what it may stand right below, and a dashed one from the principals of an action to it
 /// and from it to its resources.
 pub(crate) fn graph(alloc: Global, schema: &ValidatorSchema) -> M<String> {
-    let mut text = String::from_str(alloc, "digraph schema {\n  rankdir=BT;\n")?;
-    push_hierarchy(alloc, &mut text, &entity_types(alloc, schema)?, "box")?;
-    push_hierarchy(alloc, &mut text, &actions(alloc, schema)?, "ellipse")?;
+    let mut text = Text::new(alloc);
+    text.push_str("digraph schema {\n  rankdir=BT;\n");
+    push_entity_types(&mut text, schema);
+    push_actions(&mut text, schema);
     for action in schema.action_ids() {
-        push_principals(alloc, &mut text, action)?;
-        push_resources(alloc, &mut text, action)?;
+        push_action(&mut text, action)?;
     }
-    text.push_str("}\n")?;
-    Ok(text)
+    text.push_str("}\n");
+    text.whole()
 }

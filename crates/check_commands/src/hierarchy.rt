@@ -4,11 +4,16 @@ ghost use Rattle.std.specs.Prelude.{◌<◌, Any, IsTrue};
 ghost use Rattle.std.specs.BTreeSet.{contains_text};
 ghost use Rattle.std.specs.Bool.{OnFalse};
 
-use cedar_below::M;
+use cedar_below::{M, Memory};
 use cedar_schema::ValidatorSchema;
 use std::alloc::Global;
 use std::collections::{BTreeMap, BTreeSet, hash_set};
 use std::fmt::Display;
+
+/// The text of a name.
+pub(crate) fn text_of<T: Display>(alloc: Global, name: &T) -> M<String> {
+    format!(in alloc; "{name}").or(Err(Memory))
+}
 
 /// The texts of some names.
 pub(crate) fn texts<T: Display>(
@@ -17,7 +22,7 @@ pub(crate) fn texts<T: Display>(
 ) -> M<BTreeSet<String>> {
     let mut texts = BTreeSet::new(alloc);
     for name in names {
-        texts.insert(format!(in alloc; "{name}")?)?;
+        texts.insert(text_of(alloc, name)?)?;
     }
     Ok(texts)
 }
@@ -32,10 +37,11 @@ pub(crate) struct Hierarchy {
 /// How many names a name and those below it are: the same number for names on one cycle, and a
 /// greater one for what else stands above them.
 fn weight_of(name: &str, below: &BTreeSet<String>) -> usize {
+    let others = below.len();
     if below.contains(name) {
-        below.len()
+        others
     } else {
-        below.len().saturating_add(1)
+        others.saturating_add(1)
     }
 }
 
@@ -68,38 +74,92 @@ impl Node<'_> {
     }
 }
 
-/// Names, each as far as it was gone through.
-type Nodes<'a> = BTreeMap<&'a str, Node<'a>>;
-
-/// Each of some names, before anything was gone through.
-fn nodes<'a>(alloc: Global, names: &[(usize, &'a str)]) -> M<Nodes<'a>> {
-    let mut nodes = BTreeMap::new(alloc);
-    for &(weight, name) in names {
-        let above = Vec::new(alloc);
-        nodes.insert(name, Node { weight, above })?;
-    }
-    Ok(nodes)
+/// The edges of names, as far as they were gone through, the lightest first. Where memory runs out,
+/// that is remembered, and told at the end.
+#[derive(Drop)]
+struct Edges<'a> {
+    /// The names.
+    nodes: BTreeMap<&'a str, Node<'a>>,
+    /// The upper and the lower name of each edge.
+    found: Vec<(&'a str, &'a str)>,
+    /// Whether memory ran out.
+    is_refused: bool,
 }
 
-/// Goes on by a name: adds an edge to it from each name that stands right below it.
-fn push_edges<'a>(
-    nodes: &mut Nodes<'a>,
-    edges: &mut Vec<(&'a str, &'a str)>,
-    (weight, upper): (usize, &'a str),
-    below: &'a BTreeSet<String>,
-) -> M<()> {
-    for lower in below {
-        if let Some(node) = nodes.get_mut(lower.as_str()) {
-            if node.is_right_below(weight, below) {
-                node.above.push((weight, upper))?;
-                edges.push((upper, lower.as_str()))?;
-            }
+impl<'a> Edges<'a> {
+    /// No edges yet between some names.
+    fn new(alloc: Global, names: &[(usize, &'a str)]) -> Self {
+        let mut edges = Edges {
+            nodes: BTreeMap::new(alloc),
+            found: Vec::new(alloc),
+            is_refused: false,
+        };
+        for &(weight, name) in names {
+            edges.push_node(alloc, weight, name);
+        }
+        edges
+    }
+
+    /// Adds a name.
+    fn push_node(&mut self, alloc: Global, weight: usize, name: &'a str) {
+        let above = Vec::new(alloc);
+        self.is_refused |= self.nodes.insert(name, Node { weight, above }).is_err();
+    }
+
+    /// Adds an edge between two names, if no two others make it.
+    fn push_edge(
+        &mut self,
+        weight: usize,
+        upper: &'a str,
+        lower: &'a str,
+        below: &BTreeSet<String>,
+    ) {
+        if let Some(node) = self.nodes.get_mut(lower)
+            && node.is_right_below(weight, below)
+        {
+            self.is_refused |= node.above.push((weight, upper)).is_err();
+            self.is_refused |= self.found.push((upper, lower)).is_err();
         }
     }
-    Ok(())
+
+    /// The upper and the lower name of each edge, where memory sufficed for it.
+    fn whole(self) -> M<Vec<(&'a str, &'a str)>> {
+        if self.is_refused {
+            return Err(Memory);
+        }
+        Ok(self.found)
+    }
+
+    /// Goes on by a name: adds an edge to it from each name that stands right below it.
+    fn push_edges(&mut self, weight: usize, upper: &'a str, below: &'a BTreeSet<String>) {
+        for lower in below {
+            self.push_edge(weight, upper, lower.as_str(), below);
+        }
+    }
 }
 
 impl Hierarchy {
+    /// No names yet.
+    fn new(alloc: Global) -> Self {
+        Hierarchy {
+            below: BTreeMap::new(alloc),
+        }
+    }
+
+    /// Adds a name with those below it.
+    fn push<T: Display>(&mut self, alloc: Global, name: &T, below: hash_set::Iter<'_, T>) -> M<()> {
+        let name = text_of(alloc, name)?;
+        self.push_text(name, texts(alloc, below)?)
+    }
+
+    /// Adds the text of a name with those below it.
+    fn push_text(&mut self, name: String, below: BTreeSet<String>) -> M<()> {
+        match self.below.insert(name, below) {
+            Ok(_) => Ok(()),
+            Err(_) => Err(Memory),
+        }
+    }
+
     /// The names, each with its weight, the lightest first.
     fn by_weight(&self, alloc: Global) -> M<Vec<(usize, &str)>> {
         let mut names = Vec::with_capacity(alloc, self.below.len())?;
@@ -110,17 +170,22 @@ impl Hierarchy {
         Ok(names)
     }
 
+    /// The edges between all names, which are given the lightest first.
+    fn between<'a>(&'a self, alloc: Global, names: &[(usize, &'a str)]) -> Edges<'a> {
+        let mut edges = Edges::new(alloc, names);
+        for &(weight, name) in names {
+            if let Some(below) = self.below.get(name) {
+                edges.push_edges(weight, name, below);
+            }
+        }
+        edges
+    }
+
     /// The upper and the lower name of each edge that no two others make, in order. On a cycle each
     /// name has an edge to each.
     pub(crate) fn edges(&self, alloc: Global) -> M<Vec<(&str, &str)>> {
         let names = self.by_weight(alloc)?;
-        let mut nodes = nodes(alloc, &names)?;
-        let mut edges = Vec::new(alloc);
-        for name in &names {
-            if let Some(below) = self.below.get(name.1) {
-                push_edges(&mut nodes, &mut edges, *name, below)?;
-            }
-        }
+        let mut edges = self.between(alloc, &names).whole()?;
         edges.sort()?;
         Ok(edges)
     }
@@ -128,20 +193,18 @@ impl Hierarchy {
 
 /// The hierarchy of entity types, each under its name.
 pub(crate) fn entity_types(alloc: Global, schema: &ValidatorSchema) -> M<Hierarchy> {
-    let mut below = BTreeMap::new(alloc);
+    let mut hierarchy = Hierarchy::new(alloc);
     for ty in schema.entity_types() {
-        let lower = texts(alloc, ty.descendants.iter())?;
-        below.insert(format!(in alloc; "{}", ty.name())?, lower)?;
+        hierarchy.push(alloc, ty.name(), ty.descendants.iter())?;
     }
-    Ok(Hierarchy { below })
+    Ok(hierarchy)
 }
 
 /// The hierarchy of actions, each under its uid.
 pub(crate) fn actions(alloc: Global, schema: &ValidatorSchema) -> M<Hierarchy> {
-    let mut below = BTreeMap::new(alloc);
+    let mut hierarchy = Hierarchy::new(alloc);
     for action in schema.action_ids() {
-        let lower = texts(alloc, action.descendants())?;
-        below.insert(format!(in alloc; "{}", action.name())?, lower)?;
+        hierarchy.push(alloc, action.name(), action.descendants())?;
     }
-    Ok(Hierarchy { below })
+    Ok(hierarchy)
 }

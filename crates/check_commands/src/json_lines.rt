@@ -1,41 +1,124 @@
 //! Lines of JSON, safe to be shown.
 
-use cedar_below::M;
-use json::Writer;
+ghost use Rattle.check_commands.specs.Words.{HasNumbers, value_view};
+
+use crate::text::Text;
+use cedar_below::{M, Memory};
+use json::{Value, Writer};
 use std::alloc::Global;
 
-/// Adds a member whose value is a text.
-pub(crate) fn write_text(writer: &mut Writer, key: &str, text: &str) -> M<()> {
-    writer.key(key)?;
-    Ok(writer.string(text)?)
+/// An object of JSON that is being written. Where memory runs out, that is remembered, and told at
+/// the end.
+#[derive(Drop)]
+pub(crate) struct Object {
+    /// What was written of it.
+    writer: Writer,
+    /// Whether memory ran out.
+    is_refused: bool,
+}
+
+impl Object {
+    /// Adds a key.
+    pub(crate) fn key(&mut self, key: &str) {
+        self.is_refused |= self.writer.key(key).is_err();
+    }
+
+    /// Adds a member whose value is a text.
+    pub(crate) fn text(&mut self, key: &str, text: &str) {
+        self.key(key);
+        self.is_refused |= self.writer.string(text).is_err();
+    }
+
+    /// Adds a member whose value is a number.
+    pub(crate) fn number(&mut self, key: &str, number: usize) {
+        self.key(key);
+        self.is_refused |= self.writer.u64(number as u64).is_err();
+    }
+
+    /// Adds a member whose value is a text that had to be made first.
+    pub(crate) fn made(&mut self, key: &str, made: M<String>) {
+        match made {
+            Ok(text) => self.text(key, text.as_str()),
+            Err(Memory) => self.refuse(),
+        }
+    }
+
+    /// Adds a value.
+    pub(crate) fn value(&mut self, value: &Value<'_>)
+        requires { HasNumbers (value_view value.now) }
+    {
+        self.is_refused |= self.writer.value(value).is_err();
+    }
+
+    /// Adds `null`.
+    pub(crate) fn null(&mut self) {
+        self.is_refused |= self.writer.null().is_err();
+    }
+
+    /// Notes that memory ran out.
+    pub(crate) fn refuse(&mut self) {
+        self.is_refused = true;
+    }
+
+    /// Begins an object.
+    pub(crate) fn begin_object(&mut self) {
+        self.is_refused |= self.writer.begin_object().is_err();
+    }
+
+    /// Ends an object.
+    pub(crate) fn end_object(&mut self) {
+        self.is_refused |= self.writer.end_object().is_err();
+    }
+
+    /// Begins an array.
+    pub(crate) fn begin_array(&mut self) {
+        self.is_refused |= self.writer.begin_array().is_err();
+    }
+
+    /// Ends an array.
+    pub(crate) fn end_array(&mut self) {
+        self.is_refused |= self.writer.end_array().is_err();
+    }
+
+    /// The text, where memory sufficed for it.
+    fn whole(self, alloc: Global) -> M<String> {
+        if self.is_refused {
+            return Err(Memory);
+        }
+        String::from_utf8_lossy(alloc, self.writer.into_inner().as_slice()).or(Err(Memory))
+    }
 }
 
 /// Adds a line of JSON, with JSON's escape in the place of each character that would control a
 /// terminal, and a line end.
-pub(crate) fn push_line(alloc: Global, text: &mut String, line: &str) -> M<()> {
+pub(crate) fn push_line(text: &mut Text, line: &str) {
     for character in line.chars() {
         if character.is_control() {
-            let escape = format!(in alloc; "\\u{:04x}", u32::from(character))?;
-            text.push_str(escape.as_str())?;
+            write!(text, "\\u{:04x}", u32::from(character));
         } else {
-            text.push(character)?;
+            text.push(character);
         }
     }
-    Ok(text.push('\n')?)
+    text.push('\n');
 }
 
 /// What is told as one object of JSON.
 pub(crate) trait Members {
     /// Writes the members of the object.
-    fn write(&self, writer: &mut Writer) -> M<()>;
+    fn write(&self, object: &mut Object);
 }
 
 /// Adds the line that an object of JSON is.
-pub(crate) fn push_object<T: Members>(alloc: Global, text: &mut String, members: &T) -> M<()> {
-    let mut writer = Writer::new(Vec::new(alloc));
-    writer.begin_object()?;
-    members.write(&mut writer)?;
-    writer.end_object()?;
-    let line = String::from_utf8_lossy(alloc, writer.into_inner().as_slice())?;
-    push_line(alloc, text, line.as_str())
+pub(crate) fn push_object<T: Members>(text: &mut Text, members: &T) {
+    let mut object = Object {
+        writer: Writer::new(Vec::new(text.alloc())),
+        is_refused: false,
+    };
+    object.begin_object();
+    members.write(&mut object);
+    object.end_object();
+    match object.whole(text.alloc()) {
+        Ok(line) => push_line(text, line.as_str()),
+        Err(Memory) => text.refuse(),
+    }
 }

@@ -5,10 +5,10 @@ ghost use Rattle.std.specs.Prelude.{◌≡◌, IfOk};
 use crate::files::FileAccess;
 use crate::finding::{Finding, Source};
 use crate::layout::laid_out;
-use crate::outcome::{Manner, Outcome, Stop, refused};
+use crate::outcome::{Given, Manner, Outcome, Stop, refused};
 use crate::reading::well_formed;
 use crate::status::Status;
-use cedar_below::M;
+use cedar_below::{M, Memory};
 use std::alloc::Global;
 
 /// That a file isn't laid out.
@@ -30,12 +30,21 @@ fn told_layout(
     source: &Source,
     is_test: bool,
 ) -> M<Outcome> {
-    match laid_out(alloc, source.text.as_str())? {
-        Some(text) if !is_test => Ok(Outcome::done(alloc, text)),
-        Some(text) if text.as_str() == source.text.as_str() => {
+    match laid_out(alloc, source.text.as_str()) {
+        Ok(Some(text)) if !is_test => Ok(Outcome::done(alloc, text)),
+        Ok(Some(text)) if text.as_str() == source.text.as_str() => {
             Ok(Outcome::done(alloc, String::new(alloc)))
         }
-        _ => differs(alloc, manner, sources),
+        Ok(_) => differs(alloc, manner, sources),
+        Err(Memory) => Err(Memory),
+    }
+}
+
+/// The layout of the first of some files, which is the only one.
+fn first_layout(alloc: Global, manner: Manner, sources: &[Source], is_test: bool) -> M<Outcome> {
+    match sources.first() {
+        Some(source) => told_layout(alloc, manner, sources, source, is_test),
+        None => Ok(Outcome::done(alloc, String::new(alloc))),
     }
 }
 
@@ -46,10 +55,9 @@ pub(crate) fn format<F: FileAccess>(
     name: &str,
     manner: Manner,
     is_test: bool,
-) -> Result<Outcome, Stop> {
-    let read = well_formed(alloc, files, &[name], manner)?;
-    match read.sources.first() {
-        Some(source) => Ok(told_layout(alloc, manner, &read.sources, source, is_test)?),
-        None => Ok(Outcome::done(alloc, String::new(alloc))),
+) -> Given {
+    match well_formed(alloc, files, &[name], manner) {
+        Ok(read) => first_layout(alloc, manner, &read.sources, is_test).or(Err(Stop::Memory)),
+        Err(stop) => Err(stop),
     }
 }

@@ -47,10 +47,10 @@ fn write_items(pretty: &mut Pretty, shape: Shape, items: &Vec<Value<'_>>) -> Res
     pretty.token(Token::EndArray)
 }
 
-/// The members of an object of a shape, each as what it is sorted by and its index.
-fn places<'a>(shape: Shape, members: &Vec<Member<'a>>) -> Result<Vec<Place<'a>>, AllocError>
-    ensures order { IfOk result (λ places. (d : Bor Text × Tree Global) →
-        map (λ place. get_or members.now.items place.1 d) places.items ≡ members.now.items) }
+/// The places of the members of an object of a shape, in the order of the format.
+fn in_order<'a>(shape: Shape, members: &Vec<Member<'a>>) -> Result<Vec<Place<'a>>, AllocError>
+    ensures order { IfOk result (λ places. (d : Bor Text × Tree Global) → IsPermutation
+        members.now.items (map (λ place. get_or members.now.items place.1 d) places.items)) }
     ensures within { IfOk result (λ places.
         All (λ place. place.1 < length members.now.items) places.items) }
 {
@@ -58,23 +58,8 @@ fn places<'a>(shape: Shape, members: &Vec<Member<'a>>) -> Result<Vec<Place<'a>>,
     for (index, member) in members.iter().enumerate() {
         places.push((shape.sorted_by(member.0), index))?;
     }
-    Ok(places)
-}
-
-/// The indices of the members of an object of a shape, in the order of the format.
-fn in_order(shape: Shape, members: &Vec<Member<'_>>) -> Result<Vec<usize>, AllocError>
-    ensures order { IfOk result (λ order. (d : Bor Text × Tree Global) → IsPermutation
-        members.now.items (map (λ i. get_or members.now.items i d) order.items)) }
-    ensures within { IfOk result (λ order.
-        All (λ i. i < length members.now.items) order.items) }
-{
-    let mut places = places(shape, members)?;
     places.sort()?;
-    let mut order = Vec::with_capacity(*members.allocator(), places.len())?;
-    for place in &places {
-        order.push(place.1)?;
-    }
-    Ok(order)
+    Ok(places)
 }
 
 /// Writes the members of an object.
@@ -90,8 +75,8 @@ fn write_members(
 {
     pretty.token(Token::BeginObject)?;
     let order = in_order(shape, members)?;
-    for index in &order {
-        let member = &members[*index];
+    for place in &order {
+        let member = &members[place.1];
         pretty.token(Token::Key(member.0))?;
         write(pretty, shape.of_member(member.0), &member.1)?;
     }

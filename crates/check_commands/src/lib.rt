@@ -31,6 +31,7 @@ mod shape;
 mod sides;
 mod status;
 mod steps;
+mod text;
 mod witness;
 mod words;
 

@@ -3,17 +3,17 @@
 ghost use Rattle.std.specs.Prelude.{◌≡◌, IfOk, IfSome, string_bytes};
 ghost use Rattle.check_commands.specs.Linked.{IsLinked, fragment_text};
 
-use crate::building::built;
+use crate::building::{BuiltFiles, built};
 use crate::files::{FileAccess, FileFault};
 use crate::finding::{Finding, Source};
-use crate::left_out::left_out;
-use crate::outcome::{Manner, Outcome, Stop, refused};
+use crate::left_out::{LeftOut, left_out};
+use crate::outcome::{Given, Manner, Outcome, Stop, refused};
 use crate::status::Status;
+use crate::text::Text;
 use cedar_below::{M, Memory};
 use cedar_json_writer::{WriteFault, fragment_to_json};
 use cedar_names::json_schema::{Fragment, RawName};
 use cedar_schema::{ValidatorSchema, WriteBackFault};
-use schema_lines::escaped;
 use std::alloc::Global;
 
 /// The text of a fragment with a line end, or None where the format can't say it.
@@ -46,11 +46,17 @@ fn linked_text(alloc: Global, schema: &ValidatorSchema) -> M<Option<String>>
 
 /// What is said of what was left out of some files.
 fn left_out_note(alloc: Global, sources: &[Source]) -> M<String> {
-    let all = left_out(alloc, sources)?;
-    Ok(format!(in alloc;
-        "left out: {} annotations, {} common types (written out where they are used)\n",
-        all.annotations, all.common_types
-    )?)
+    let LeftOut {
+        annotations,
+        common_types,
+    } = left_out(alloc, sources)?;
+    let mut note = Text::new(alloc);
+    write!(
+        note,
+        "left out: {annotations} annotations, {common_types} common types"
+    );
+    note.push_str(" (written out where they are used)\n");
+    note.whole()
 }
 
 /// What is told of a schema that no fragment declares again.
@@ -68,6 +74,14 @@ fn unwritable(alloc: Global, manner: Manner, sources: &[Source]) -> M<Outcome>
     )
 }
 
+/// What is said of a file that couldn't be written.
+fn unwritten_note(alloc: Global, name: &str, why: &str) -> M<String> {
+    let mut note = Text::new(alloc);
+    note.push_escaped(name);
+    write!(note, ": Unwritten: {why}\n");
+    note.whole()
+}
+
 /// The outcome where a text is written to a file.
 fn written<F: FileAccess>(
     alloc: Global,
@@ -80,9 +94,8 @@ fn written<F: FileAccess>(
         Ok(()) => Ok(Outcome::noted(alloc, notes, Status::Done)),
         Err(FileFault::Memory) => Err(Memory),
         Err(FileFault::Refused(why)) => {
-            let name = escaped(alloc, name)?;
-            let why = format!(in alloc; "{name}: Unwritten: {why}\n")?;
-            Ok(Outcome::noted(alloc, why, Status::Unwritten))
+            let notes = unwritten_note(alloc, name, why.as_str())?;
+            Ok(Outcome::noted(alloc, notes, Status::Unwritten))
         }
     }
 }
@@ -117,7 +130,25 @@ pub(crate) fn is_read<F: FileAccess>(files: &mut F, output: &str, names: &[&str]
 
 /// That a file would be read and written.
 pub(crate) fn would_overwrite(alloc: Global, output: &str) -> M<String> {
-    Ok(format!(in alloc; "{output}: the file to be written is one of those read")?)
+    let words = format!(in alloc; "{output}: the file to be written is one of those read");
+    words.or(Err(Memory))
+}
+
+/// Writes what a schema declares as one fragment.
+fn link_built<F: FileAccess>(
+    alloc: Global,
+    files: &mut F,
+    it: &BuiltFiles,
+    manner: Manner,
+    output: Option<&str>,
+) -> M<Outcome> {
+    match linked_text(alloc, &it.schema)? {
+        Some(text) => {
+            let notes = left_out_note(alloc, &it.sources)?;
+            put(alloc, files, output, text, notes)
+        }
+        None => unwritable(alloc, manner, &it.sources),
+    }
 }
 
 /// Writes what files declare together as one fragment.
@@ -127,13 +158,9 @@ pub(crate) fn link<F: FileAccess>(
     names: &[&str],
     manner: Manner,
     output: Option<&str>,
-) -> Result<Outcome, Stop> {
-    let it = built(alloc, files, names, manner)?;
-    match linked_text(alloc, &it.schema)? {
-        Some(text) => {
-            let notes = left_out_note(alloc, &it.sources)?;
-            Ok(put(alloc, files, output, text, notes)?)
-        }
-        None => Ok(unwritable(alloc, manner, &it.sources)?),
+) -> Given {
+    match built(alloc, files, names, manner) {
+        Ok(it) => link_built(alloc, files, &it, manner, output).or(Err(Stop::Memory)),
+        Err(stop) => Err(stop),
     }
 }

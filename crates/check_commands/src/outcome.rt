@@ -5,6 +5,7 @@ ghost use Rattle.std.specs.Prelude.{◌≡◌, ◌≢◌, ◌++◌, IfOk, string
 use crate::finding::{Finding, FindingIn, Source, push_finding};
 use crate::json_lines::push_object;
 use crate::status::Status;
+use crate::text::Text;
 use cedar_below::{M, Memory};
 use std::alloc::Global;
 
@@ -74,6 +75,19 @@ pub(crate) enum Stop {
     Memory,
 }
 
+impl Stop {
+    /// Because of what is told, or since memory ran out for it.
+    pub(crate) fn of(told: M<Outcome>) -> Self {
+        match told {
+            Ok(outcome) => Stop::Told(outcome),
+            Err(Memory) => Stop::Memory,
+        }
+    }
+}
+
+/// What a command gives, or why it goes no further.
+pub(crate) type Given = Result<Outcome, Stop>;
+
 impl From<Memory> for Stop {
     fn from(_refused: Memory) -> Self {
         Stop::Memory
@@ -91,14 +105,14 @@ pub(crate) enum Manner {
 
 /// Each finding, told in a manner.
 fn told(alloc: Global, manner: Manner, sources: &[Source], findings: &[Finding]) -> M<String> {
-    let mut text = String::new(alloc);
+    let mut text = Text::new(alloc);
     for finding in findings {
         match manner {
-            Manner::Lines => push_finding(alloc, &mut text, sources, finding)?,
-            Manner::Json => push_object(alloc, &mut text, &FindingIn { sources, finding })?,
+            Manner::Lines => push_finding(&mut text, sources, finding),
+            Manner::Json => push_object(&mut text, &FindingIn { sources, finding }),
         }
     }
-    Ok(text)
+    text.whole()
 }
 
 /// The outcome where something is at fault. Objects of JSON are what was asked for, so they are

@@ -1,7 +1,6 @@
 //! Places in texts, as people count them.
 
-use cedar_below::M;
-use std::alloc::Global;
+use crate::text::Text;
 
 /// A place in a text: its line and its column, both from 1 on, columns in characters.
 #[derive(Clone, Copy, Drop)]
@@ -48,38 +47,34 @@ fn shown(character: char) -> char {
     }
 }
 
-/// The part of a line around a column, as it can be shown.
-fn shown_part(alloc: Global, line: &str, skipped: usize) -> M<String> {
-    let mut part = String::new(alloc);
+/// Adds the part of a line behind some characters, as it can be shown.
+fn push_shown(text: &mut Text, line: &str, skipped: usize) {
     for character in line.chars().skip(skipped).take(SHOWN) {
-        part.push(shown(character))?;
+        text.push(shown(character));
     }
-    Ok(part)
+    text.push('\n');
 }
 
-/// Blanks below the first characters of a text, with a tab below each tab, and a `^`.
-fn caret(alloc: Global, above: &str, before: usize) -> M<String> {
-    let mut text = String::new(alloc);
-    for character in above.chars().take(before) {
-        text.push(if character == '\t' { '\t' } else { ' ' })?;
+/// Adds blanks for some characters of the part of a line, a tab for each tab, and a `^`.
+fn push_caret(text: &mut Text, line: &str, skipped: usize, before: usize) {
+    for character in line.chars().skip(skipped).take(before) {
+        text.push(if character == '\t' { '\t' } else { ' ' });
     }
-    text.push('^')?;
-    Ok(text)
+    text.push_str("^\n");
 }
 
-/// The line of a position, of a long one the part around it, and below it a `^` under the column.
-pub(crate) fn line_with_caret(alloc: Global, text: &str, position: Position) -> M<String> {
-    let line = text
-        .split('\n')
-        .nth(position.line.saturating_sub(1))
-        .unwrap_or("")
-        .trim_end_matches('\r');
-    let skipped = position
-        .column
-        .saturating_sub(1)
-        .saturating_sub(SHOWN_BEFORE);
-    let above = shown_part(alloc, line, skipped)?;
-    let before = position.column.saturating_sub(1).saturating_sub(skipped);
-    let below = caret(alloc, above.as_str(), before)?;
-    Ok(format!(in alloc; "{above}\n{below}\n")?)
+/// The line of a number, from 1 on.
+fn line_at(text: &str, number: usize) -> &str {
+    let line = text.split('\n').nth(number.saturating_sub(1));
+    line.unwrap_or("").trim_end_matches('\r')
+}
+
+/// Adds the line of a position, of a long one the part around it, and below it a `^` under the
+/// column.
+pub(crate) fn push_line_with_caret(text: &mut Text, source: &str, position: Position) {
+    let line = line_at(source, position.line);
+    let all_before = position.column.saturating_sub(1);
+    let skipped = all_before.saturating_sub(SHOWN_BEFORE);
+    push_shown(text, line, skipped);
+    push_caret(text, line, skipped, all_before.saturating_sub(skipped));
 }

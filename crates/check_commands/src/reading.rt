@@ -13,7 +13,7 @@ use cedar_json::{JsonSchemaFault, fragment_from_json};
 use cedar_names::json_schema::{Fragment, RawName};
 use std::alloc::Global;
 
-/// What was read of some files.
+/// What was read of some files. Where memory runs out, that is remembered, and told at the end.
 #[derive(Drop)]
 pub(crate) struct ReadFiles {
     /// The files, in the order in which they were named.
@@ -24,6 +24,8 @@ pub(crate) struct ReadFiles {
     pub(crate) findings: Vec<Finding>,
     /// Whether one of them couldn't be read.
     pub(crate) is_unread: bool,
+    /// Whether memory ran out.
+    is_refused: bool,
 }
 
 impl ReadFiles {
@@ -34,7 +36,27 @@ impl ReadFiles {
             fragments: Vec::new(alloc),
             findings: Vec::new(alloc),
             is_unread: false,
+            is_refused: false,
         }
+    }
+
+    /// Adds a file that is well formed.
+    fn push(&mut self, source: Source, fragment: Fragment<RawName>) {
+        self.is_refused |= self.fragments.push(fragment).is_err();
+        self.is_refused |= self.sources.push(source).is_err();
+    }
+
+    /// Adds a file that is at fault.
+    fn push_fault(&mut self, source: Source, finding: Finding) {
+        self.is_refused |= self.findings.push(finding).is_err();
+        self.is_refused |= self.sources.push(source).is_err();
+    }
+
+    /// Adds a file without its text, and says why.
+    fn push_no_text(&mut self, name: String, kind: &'static str, why: String) {
+        let finding = Finding::in_file(self.sources.len(), None, kind, why);
+        let text = String::new(*name.allocator());
+        self.push_fault(Source { name, text }, finding);
     }
 }
 
@@ -58,53 +80,47 @@ fn fault_finding(alloc: Global, file: usize, text: &str, fault: &JsonSchemaFault
     })
 }
 
-/// Adds a file that is at fault.
-fn push_fault(read: &mut ReadFiles, source: Source, finding: Finding) -> M<()> {
-    read.findings.push(finding)?;
-    Ok(read.sources.push(source)?)
-}
-
 /// Adds a file whose text is no fragment.
-fn push_no_fragment(
-    alloc: Global,
-    read: &mut ReadFiles,
-    source: Source,
-    fault: &JsonSchemaFault,
-) -> M<()> {
-    let finding = fault_finding(alloc, read.sources.len(), source.text.as_str(), fault)?;
-    push_fault(read, source, finding)
+fn push_no_fragment(alloc: Global, read: &mut ReadFiles, source: Source, fault: &JsonSchemaFault) {
+    match fault_finding(alloc, read.sources.len(), source.text.as_str(), fault) {
+        Ok(finding) => read.push_fault(source, finding),
+        Err(Memory) => read.is_refused = true,
+    }
 }
 
 /// Adds a file with its text.
-fn push_text(alloc: Global, read: &mut ReadFiles, source: Source) -> M<()> {
+fn push_text(alloc: Global, read: &mut ReadFiles, source: Source) {
     let number = source_number(read.sources.len());
     match fragment_from_json(alloc, source.text.as_str(), number) {
-        Ok(fragment) => {
-            read.fragments.push(fragment)?;
-            Ok(read.sources.push(source)?)
-        }
+        Ok(fragment) => read.push(source, fragment),
         Err(fault) => push_no_fragment(alloc, read, source, &fault),
     }
 }
 
-/// Adds a file without its text, and says why.
-fn push_no_text(
+/// Adds a file in UTF-16, as its first bytes say.
+fn push_wide(alloc: Global, read: &mut ReadFiles, name: String) {
+    let why = "the file begins with a byte order mark of UTF-16, and has to be UTF-8";
+    match String::from_str(alloc, why) {
+        Ok(why) => read.push_no_text(name, "NotUtf8", why),
+        Err(_) => read.is_refused = true,
+    }
+}
+
+/// Adds a file that is UTF-8 only up to a byte.
+fn push_no_utf8(
     alloc: Global,
     read: &mut ReadFiles,
     name: String,
-    kind: &'static str,
-    why: String,
-) -> M<()> {
-    let finding = Finding::in_file(read.sources.len(), None, kind, why);
-    let text = String::new(alloc);
-    push_fault(read, Source { name, text }, finding)
-}
-
-/// Adds a file in UTF-16, as its first bytes say.
-fn push_wide(alloc: Global, read: &mut ReadFiles, name: String) -> M<()> {
-    let why = "the file begins with a byte order mark of UTF-16, and has to be UTF-8";
-    let why = String::from_str(alloc, why)?;
-    push_no_text(alloc, read, name, "NotUtf8", why)
+    bytes: &[u8],
+    valid_up_to: usize,
+) {
+    match String::from_utf8_lossy(alloc, bytes) {
+        Ok(text) => {
+            let fault = JsonSchemaFault::NotUtf8 { valid_up_to };
+            push_no_fragment(alloc, read, Source { name, text }, &fault);
+        }
+        Err(_) => read.is_refused = true,
+    }
 }
 
 /// Whether bytes begin with a byte order mark of UTF-16.
@@ -113,33 +129,25 @@ fn is_wide(bytes: &[u8]) -> bool {
 }
 
 /// Adds a file whose bytes were read.
-fn push_bytes(alloc: Global, read: &mut ReadFiles, name: String, bytes: Vec<u8>) -> M<()> {
+fn push_bytes(alloc: Global, read: &mut ReadFiles, name: String, bytes: Vec<u8>) {
     match String::from_utf8(bytes) {
         Ok(text) => push_text(alloc, read, Source { name, text }),
         Err(error) if is_wide(error.as_bytes()) => push_wide(alloc, read, name),
         Err(error) => {
             let valid_up_to = error.utf8_error().valid_up_to();
-            let text = String::from_utf8_lossy(alloc, error.as_bytes())?;
-            let fault = JsonSchemaFault::NotUtf8 { valid_up_to };
-            push_no_fragment(alloc, read, Source { name, text }, &fault)
+            push_no_utf8(alloc, read, name, error.as_bytes(), valid_up_to);
         }
     }
 }
 
-/// Reads a file.
-fn push_file<F: FileAccess>(
-    alloc: Global,
-    files: &mut F,
-    read: &mut ReadFiles,
-    name: &str,
-) -> M<()> {
-    let owned = String::from_str(alloc, name)?;
-    match files.read(alloc, name) {
-        Ok(bytes) => push_bytes(alloc, read, owned, bytes),
-        Err(FileFault::Memory) => Err(Memory),
+/// Adds what came of reading a file.
+fn push_read(alloc: Global, read: &mut ReadFiles, name: String, given: Result<Vec<u8>, FileFault>) {
+    match given {
+        Ok(bytes) => push_bytes(alloc, read, name, bytes),
+        Err(FileFault::Memory) => read.is_refused = true,
         Err(FileFault::Refused(why)) => {
             read.is_unread = true;
-            push_no_text(alloc, read, owned, "Unread", why)
+            read.push_no_text(name, "Unread", why);
         }
     }
 }
@@ -149,7 +157,11 @@ fn push_file<F: FileAccess>(
 fn read_files<F: FileAccess>(alloc: Global, files: &mut F, names: &[&str]) -> M<ReadFiles> {
     let mut read = ReadFiles::new(alloc);
     for name in names {
-        push_file(alloc, files, &mut read, name)?;
+        let owned = String::from_str(alloc, name)?;
+        push_read(alloc, &mut read, owned, files.read(alloc, name));
+    }
+    if read.is_refused {
+        return Err(Memory);
     }
     Ok(read)
 }
@@ -167,6 +179,14 @@ fn told_faults(alloc: Global, manner: Manner, read: &ReadFiles) -> M<Outcome>
     at_fault(alloc, manner, &read.sources, &read.findings, status)
 }
 
+/// The files, where none of them is at fault.
+fn faultless(alloc: Global, manner: Manner, read: ReadFiles) -> Result<ReadFiles, Stop> {
+    if read.findings.is_empty() {
+        return Ok(read);
+    }
+    Err(Stop::of(told_faults(alloc, manner, &read)))
+}
+
 /// The files, each read as a fragment; where some can't be read or are at fault, what is told of
 /// each of these.
 pub(crate) fn well_formed<F: FileAccess>(
@@ -175,9 +195,8 @@ pub(crate) fn well_formed<F: FileAccess>(
     names: &[&str],
     manner: Manner,
 ) -> Result<ReadFiles, Stop> {
-    let read = read_files(alloc, files, names)?;
-    if read.findings.is_empty() {
-        return Ok(read);
+    match read_files(alloc, files, names) {
+        Ok(read) => faultless(alloc, manner, read),
+        Err(Memory) => Err(Stop::Memory),
     }
-    Err(Stop::Told(told_faults(alloc, manner, &read)?))
 }

@@ -8,26 +8,27 @@ use crate::outcome::{Outcome, Stop};
 use crate::status::Status;
 use crate::words::program;
 use cedar_below::{M, Memory};
+use clap::ArgMatches;
 use clap::error::{Error, ErrorKind};
 use std::alloc::Global;
 use std::io;
 use std::io::Write;
 
-/// What the program's words ask for: help, the version or usage, or a command.
-fn asked<F: FileAccess>(
-    alloc: Global,
-    files: &mut F,
-    words: &[String],
-) -> Result<M<Outcome>, Error> {
-    let matches = program(alloc)?.try_get_matches_from(words)?;
-    Ok(match matches.subcommand() {
+/// What the program's words give, unless they ask for help or the version, or give no command.
+fn matches_of<'a>(alloc: Global, words: &'a [String]) -> Result<ArgMatches<'a>, Error> {
+    program(alloc)?.try_get_matches_from(words)
+}
+
+/// What the command gives that the words ask for.
+fn asked<F: FileAccess>(alloc: Global, files: &mut F, matches: &ArgMatches<'_>) -> M<Outcome> {
+    match matches.subcommand() {
         Some((command, matches)) => match outcome_of(alloc, files, command, matches) {
             Ok(outcome) => Ok(outcome),
             Err(Stop::Told(outcome)) => Ok(outcome),
             Err(Stop::Memory) => Err(Memory),
         },
         None => Ok(Outcome::done(alloc, String::new(alloc))),
-    })
+    }
 }
 
 /// The outcome where the words give no command: help or the version, or why they give none.
@@ -90,8 +91,8 @@ pub fn run<F: FileAccess, O: Write, E: Write>(
 ) -> u8
     ensures { result < 7 }
 {
-    let outcome = match asked(alloc, files, words) {
-        Ok(outcome) => outcome,
+    let outcome = match matches_of(alloc, words) {
+        Ok(matches) => asked(alloc, files, &matches),
         Err(error) => no_command(alloc, error),
     };
     finish(outcome, out, err).code()

@@ -1,8 +1,7 @@
 //! The two versions of a schema that a difference parts.
 
-use cedar_below::M;
+use crate::text::Text;
 use cedar_schema::ValidatorSchema;
-use std::alloc::Global;
 
 /// Two versions of a schema: one that admits something, and one that doesn't.
 #[derive(Clone, Copy, Drop)]
@@ -18,9 +17,9 @@ pub(crate) struct Sides<'a> {
 }
 
 impl<'a> Sides<'a> {
-    /// What is said of the version that doesn't admit it, with its name.
-    pub(crate) fn said(&self, alloc: Global, words: &str) -> M<String> {
-        Ok(format!(in alloc; "{} {words}", self.other_name)?)
+    /// Adds what is said of the version that doesn't admit it, with its name.
+    pub(crate) fn push_said(&self, text: &mut Text, words: &str) {
+        write!(text, "{} {words}", self.other_name);
     }
 
     /// The versions for what is lost.

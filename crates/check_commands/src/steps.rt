@@ -1,42 +1,36 @@
 //! Steps down the types of two versions, as paths, and what is said of the types at their end.
 
 use crate::sides::Sides;
-use cedar_below::M;
+use crate::text::Text;
 use cedar_counterexample::Step;
 use cedar_schema::{Attributes, Type};
-use schema_lines::escaped;
-use std::alloc::Global;
 
 /// Adds steps: `.NAME` to an attribute, and `[]` to the elements of a set.
-fn push_steps(alloc: Global, text: &mut String, steps: &[Step]) -> M<()> {
+pub(crate) fn push_steps(text: &mut Text, steps: &[Step]) {
     for step in steps {
         match step {
             Step::Attribute(name) => {
-                text.push('.')?;
-                text.push_str(escaped(alloc, name.as_str())?.as_str())?;
+                text.push('.');
+                text.push_escaped(name.as_str());
             }
-            Step::Element => text.push_str("[]")?,
+            Step::Element => text.push_str("[]"),
         }
     }
-    Ok(())
 }
 
-/// The path from a type that a word names, as `tags.name` or `context.from[]`.
-pub(crate) fn path_from(alloc: Global, word: &str, steps: &[Step]) -> M<String> {
-    let mut text = String::from_str(alloc, word)?;
-    push_steps(alloc, &mut text, steps)?;
-    Ok(text)
-}
-
-/// The path from the attributes of an entity type, as `attribute address.city`.
-pub(crate) fn attribute_path(alloc: Global, steps: &[Step]) -> M<String> {
-    let Some((Step::Attribute(name), others)) = steps.split_first() else {
-        return path_from(alloc, "attributes", steps);
-    };
-    let name = escaped(alloc, name.as_str())?;
-    let mut text = format!(in alloc; "attribute {name}")?;
-    push_steps(alloc, &mut text, others)?;
-    Ok(text)
+/// Adds the path from the attributes of an entity type, as `attribute address.city`.
+pub(crate) fn push_attribute_path(text: &mut Text, steps: &[Step]) {
+    match steps.split_first() {
+        Some((Step::Attribute(name), others)) => {
+            text.push_str("attribute ");
+            text.push_escaped(name.as_str());
+            push_steps(text, others);
+        }
+        _ => {
+            text.push_str("attributes");
+            push_steps(text, steps);
+        }
+    }
 }
 
 /// What a step leads to, or what steps begin at: a type, or the attributes of an entity type.
@@ -110,36 +104,37 @@ fn last_words(own: Part<'_>, other: Part<'_>, steps: &[Step]) -> Option<&'static
     attribute_words(own, other, name.as_str())
 }
 
-/// That a type has values that another hasn't.
-fn types_text(alloc: Global, own: &Type, other: &Type) -> M<String> {
-    let text = format!(in alloc; "{own} admits what {other} doesn't")?;
-    escaped(alloc, text.as_str())
+/// Adds that a type has values that another hasn't.
+fn push_types(text: &mut Text, own: &Type, other: &Type) {
+    text.write_escaped(format_args!("{own} admits what {other} doesn't"));
 }
 
-/// What is said of two parts, one of which has values that the other hasn't.
-fn parts_text(alloc: Global, sides: &Sides<'_>, own: Part<'_>, other: Part<'_>) -> M<String> {
+/// Adds what is said of two parts, one of which has values that the other hasn't.
+fn push_parts(text: &mut Text, sides: &Sides<'_>, own: Part<'_>, other: Part<'_>) {
     if own.attributes().is_some() && other.attributes().is_some() {
-        return sides.said(alloc, "admits no further attributes");
+        sides.push_said(text, "admits no further attributes");
+        return;
     }
     match (own, other) {
-        (Part::Type(own), Part::Type(other)) => types_text(alloc, own, other),
-        _ => sides.said(alloc, "admits less there"),
+        (Part::Type(own), Part::Type(other)) => push_types(text, own, other),
+        _ => sides.push_said(text, "admits less there"),
     }
 }
 
-/// What is said of two types, or of attributes, that part at the end of some steps.
-pub(crate) fn parting_text(
-    alloc: Global,
+/// Adds what is said of two types, or of attributes, that part at the end of some steps.
+pub(crate) fn push_parting(
+    text: &mut Text,
     sides: &Sides<'_>,
     own: Part<'_>,
     other: Part<'_>,
     steps: &[Step],
-) -> M<String> {
+) {
     if let Some(words) = last_words(own, other, steps) {
-        return sides.said(alloc, words);
+        sides.push_said(text, words);
+        return;
     }
     match (own.at(steps), other.at(steps)) {
-        (Some(own), Some(other)) => parts_text(alloc, sides, own, other),
-        _ => sides.said(alloc, "admits less there"),
+        (Some(own), Some(other)) => push_parts(text, sides, own, other),
+        _ => sides.push_said(text, "admits less there"),
     }
 }

@@ -1,25 +1,27 @@
 //! What a difference is of, and its witness as Cedar's JSON.
 
+use crate::text::Text;
 use cedar_below::{M, Memory, RestrictedExpr, Value};
 use cedar_compare::{Difference, Request};
 use cedar_json_writer::{WriteFault, entity_to_json, request_to_json};
 use std::alloc::Global;
 use std::collections::BTreeMap;
 
-/// What a difference is of: `entity NAME`, `action UID`, or `request PRINCIPAL UID RESOURCE` with
-/// the entity types of the principal and the resource.
-pub(crate) fn subject_text(alloc: Global, difference: &Difference) -> M<String> {
+/// Adds what a difference is of: `entity NAME`, `action UID`, or `request PRINCIPAL UID RESOURCE`
+/// with the entity types of the principal and the resource.
+pub(crate) fn push_subject(text: &mut Text, difference: &Difference) {
     match difference {
         Difference::EntityType { witness, .. } => {
-            Ok(format!(in alloc; "entity {}", witness.uid().entity_type())?)
+            write!(text, "entity {}", witness.uid().entity_type());
         }
-        Difference::Action { witness, .. } => Ok(format!(in alloc; "action {}", witness.uid())?),
-        Difference::Environment { witness, .. } => Ok(format!(in alloc;
+        Difference::Action { witness, .. } => write!(text, "action {}", witness.uid()),
+        Difference::Environment { witness, .. } => write!(
+            text,
             "request {} {} {}",
             witness.principal.entity_type(),
             witness.action,
             witness.resource.entity_type()
-        )?),
+        ),
     }
 }
 

@@ -21,8 +21,10 @@ struct Choice {
     unless: &'static [&'static str],
     /// The options that may not be there beside it.
     against: &'static [&'static str],
-    /// Whether it names files. It has to be there then, and one or more stand behind it.
-    names_files: bool,
+    /// Whether it has to be there. One or more values stand behind it then.
+    is_required: bool,
+    /// Whether its values stand without its name.
+    is_positional: bool,
 }
 
 /// A command.
@@ -34,11 +36,7 @@ struct Row {
     about: &'static str,
     /// An example of its use.
     example: &'static str,
-    /// What is said of the files that it reads, unless options name them.
-    files: Option<&'static str>,
-    /// What comes of each of them.
-    action: ArgAction,
-    /// Its options.
+    /// The files that it reads, unless options name them, and its options.
     choices: &'static [Choice],
 }
 
@@ -51,14 +49,29 @@ const JSON: Choice = Choice {
     help: "Tell refusals as objects of JSON, one a line, on standard output",
     unless: &[],
     against: &[],
-    names_files: false,
+    is_required: false,
+    is_positional: false,
+};
+
+/// The files of most commands.
+const FILES: Choice = Choice {
+    name: "FILE",
+    short: None,
+    action: ArgAction::Append,
+    values: &[],
+    help: "Files of schemas in Cedar's JSON format; `-` is standard input",
+    unless: &[],
+    against: &[],
+    is_required: true,
+    is_positional: true,
 };
 
 /// The options of a command that has no others.
-const PLAIN: &[Choice] = &[JSON];
+const PLAIN: &[Choice] = &[FILES, JSON];
 
 /// The options of the command that builds.
 const BUILD: &[Choice] = &[
+    FILES,
     JSON,
     Choice {
         name: "complete",
@@ -68,12 +81,14 @@ const BUILD: &[Choice] = &[
         help: "Refuse a schema that leaves something external",
         unless: &[],
         against: &[],
-        names_files: false,
+        is_required: false,
+        is_positional: false,
     },
 ];
 
 /// The options of the command that shows types.
 const TYPE: &[Choice] = &[
+    FILES,
     JSON,
     Choice {
         name: "entity",
@@ -83,7 +98,8 @@ const TYPE: &[Choice] = &[
         help: "The entity type of which to show attributes",
         unless: &["action"],
         against: &[],
-        names_files: false,
+        is_required: false,
+        is_positional: false,
     },
     Choice {
         name: "attribute",
@@ -93,7 +109,8 @@ const TYPE: &[Choice] = &[
         help: "An attribute; each further one a step down",
         unless: &[],
         against: &[],
-        names_files: false,
+        is_required: false,
+        is_positional: false,
     },
     Choice {
         name: "tags",
@@ -103,7 +120,8 @@ const TYPE: &[Choice] = &[
         help: "The type of the tags, in place of that of attributes",
         unless: &[],
         against: &["attribute", "action"],
-        names_files: false,
+        is_required: false,
+        is_positional: false,
     },
     Choice {
         name: "action",
@@ -113,12 +131,14 @@ const TYPE: &[Choice] = &[
         help: "The action of which to show the context",
         unless: &["entity"],
         against: &["entity"],
-        names_files: false,
+        is_required: false,
+        is_positional: false,
     },
 ];
 
 /// The options of the command that shows environments.
 const ENVS: &[Choice] = &[
+    FILES,
     JSON,
     Choice {
         name: "principal",
@@ -128,7 +148,8 @@ const ENVS: &[Choice] = &[
         help: "Only those of this type of principal",
         unless: &[],
         against: &[],
-        names_files: false,
+        is_required: false,
+        is_positional: false,
     },
     Choice {
         name: "action",
@@ -138,7 +159,8 @@ const ENVS: &[Choice] = &[
         help: "Only those of this action",
         unless: &[],
         against: &[],
-        names_files: false,
+        is_required: false,
+        is_positional: false,
     },
     Choice {
         name: "resource",
@@ -148,12 +170,14 @@ const ENVS: &[Choice] = &[
         help: "Only those of this type of resource",
         unless: &[],
         against: &[],
-        names_files: false,
+        is_required: false,
+        is_positional: false,
     },
 ];
 
 /// The options of the command that links.
 const LINK: &[Choice] = &[
+    FILES,
     JSON,
     Choice {
         name: "output",
@@ -163,12 +187,24 @@ const LINK: &[Choice] = &[
         help: "Write to this file, which may be none of those read",
         unless: &[],
         against: &[],
-        names_files: false,
+        is_required: false,
+        is_positional: false,
     },
 ];
 
 /// The options of the command that lays out.
 const FORMAT: &[Choice] = &[
+    Choice {
+        name: "FILE",
+        short: None,
+        action: ArgAction::Set,
+        values: &[],
+        help: "The file; `-` is standard input",
+        unless: &[],
+        against: &[],
+        is_required: true,
+        is_positional: true,
+    },
     JSON,
     Choice {
         name: "check",
@@ -178,7 +214,8 @@ const FORMAT: &[Choice] = &[
         help: "Write nothing, and end with status 1 where the file differs",
         unless: &[],
         against: &[],
-        names_files: false,
+        is_required: false,
+        is_positional: false,
     },
 ];
 
@@ -192,7 +229,8 @@ const COMPARE: &[Choice] = &[
         help: "The files of the old version; `-` is standard input",
         unless: &[],
         against: &[],
-        names_files: true,
+        is_required: true,
+        is_positional: false,
     },
     Choice {
         name: "new",
@@ -202,7 +240,8 @@ const COMPARE: &[Choice] = &[
         help: "The files of the new version",
         unless: &[],
         against: &[],
-        names_files: true,
+        is_required: true,
+        is_positional: false,
     },
     Choice {
         name: "all",
@@ -212,7 +251,8 @@ const COMPARE: &[Choice] = &[
         help: "Show each request, in place of the first 20 of an action",
         unless: &[],
         against: &[],
-        names_files: false,
+        is_required: false,
+        is_positional: false,
     },
     Choice {
         name: "json",
@@ -222,12 +262,10 @@ const COMPARE: &[Choice] = &[
         help: "Tell all differences, or refusals, as objects of JSON, one a line",
         unless: &[],
         against: &[],
-        names_files: false,
+        is_required: false,
+        is_positional: false,
     },
 ];
-
-/// What is said of the files of most commands.
-const FILES: &str = "Files of schemas in Cedar's JSON format; `-` is standard input";
 
 /// The commands, in the order in which they are listed.
 const ROWS: &[Row] = &[
@@ -235,144 +273,129 @@ const ROWS: &[Row] = &[
         name: "check",
         about: "Reads each file as a fragment, without building",
         example: "Example: cedar_check check photos.json",
-        files: Some(FILES),
-        action: ArgAction::Append,
         choices: PLAIN,
     },
     Row {
         name: "build",
         about: "Builds one schema of all files, and counts what it declares",
         example: "Example: cedar_check build photos.json",
-        files: Some(FILES),
-        action: ArgAction::Append,
         choices: BUILD,
     },
     Row {
         name: "show",
         about: "Shows what the schema declares, in sorted lines",
         example: "Example: cedar_check show photos.json",
-        files: Some(FILES),
-        action: ArgAction::Append,
         choices: PLAIN,
     },
     Row {
         name: "type",
         about: "Shows the type of an entity type's attributes or tags, or of an action's context",
         example: "Example: cedar_check type photos.json --entity PhotoApp::Photo --attribute size",
-        files: Some(FILES),
-        action: ArgAction::Append,
         choices: TYPE,
     },
     Row {
         name: "envs",
         about: "Shows the environments of requests: principal, action and resource",
         example: "Example: cedar_check envs photos.json --principal PhotoApp::User",
-        files: Some(FILES),
-        action: ArgAction::Append,
         choices: ENVS,
     },
     Row {
         name: "graph",
         about: "Draws the hierarchies as a graph in Graphviz DOT",
         example: "Example: cedar_check graph photos.json | dot -Tsvg > photos.svg",
-        files: Some(FILES),
-        action: ArgAction::Append,
         choices: PLAIN,
     },
     Row {
         name: "link",
         about: "Writes what all files declare together as one fragment",
         example: "Example: cedar_check link photos.json printing.json -o whole.json",
-        files: Some(FILES),
-        action: ArgAction::Append,
         choices: LINK,
     },
     Row {
         name: "format",
         about: "Lays a file out in the order of the format, with all that it says",
         example: "Example: cedar_check format photos.json --check",
-        files: Some("The file; `-` is standard input"),
-        action: ArgAction::Set,
         choices: FORMAT,
     },
     Row {
         name: "compare",
         about: "Compares two versions of a schema: what the new one takes away, and what it adds",
         example: "Example: cedar_check compare --old photos.json --new photos_next.json",
-        files: None,
-        action: ArgAction::Append,
         choices: COMPARE,
     },
 ];
 
-/// The files that a command reads, as an argument.
-fn files<'a>(alloc: Global, help: &'static str, action: ArgAction) -> Arg<'a> {
-    Arg::new(alloc, "FILE")
-        .help(help)
-        .action(action)
-        .required(true)
+/// A row of a table, which says something of the program's words.
+trait Says<T> {
+    /// What it says.
+    fn said(&self, alloc: Global) -> Result<T, AllocError>;
 }
 
-/// An option by its name, as far as each option has it.
+/// What each row of a table says.
+fn all<T: Drop, R: Says<T>>(alloc: Global, rows: &[R]) -> Result<Vec<T>, AllocError> {
+    let mut all = Vec::new(alloc);
+    for row in rows {
+        all.push(row.said(alloc)?)?;
+    }
+    Ok(all)
+}
+
+/// An argument, as far as each has it.
 fn named<'a>(alloc: Global, choice: &Choice) -> Arg<'a> {
     Arg::new(alloc, choice.name)
-        .long(choice.name)
         .action(choice.action)
         .value_names(choice.values)
         .help(choice.help)
+        .required(choice.is_required)
 }
 
-/// The option of a row. It has to be there where it names files, and takes one or more of them each
-/// time.
-fn option<'a>(alloc: Global, choice: &Choice) -> Result<Arg<'a>, AllocError> {
+/// An argument of a row.
+fn spelled<'a>(alloc: Global, choice: &Choice) -> Arg<'a> {
     let mut option = named(alloc, choice);
+    if choice.is_positional {
+        return option;
+    }
     if let Some(short) = choice.short {
         option = option.short(short);
     }
-    if choice.names_files {
-        option = option.required(true).num_args(1usize..);
+    if choice.is_required {
+        option = option.num_args(1usize..);
     }
-    option
-        .required_unless_present_any(choice.unless)?
-        .conflicts_with_all(choice.against)
+    option.long(choice.name)
 }
 
-/// The files and the options that a command takes.
-fn args<'a>(alloc: Global, row: &Row) -> Result<Vec<Arg<'a>>, AllocError> {
-    let mut args = Vec::new(alloc);
-    if let Some(help) = row.files {
-        args.push(files(alloc, help, row.action))?;
+impl<'a> Says<Arg<'a>> for Choice {
+    fn said(&self, alloc: Global) -> Result<Arg<'a>, AllocError> {
+        spelled(alloc, self)
+            .required_unless_present_any(self.unless)?
+            .conflicts_with_all(self.against)
     }
-    for choice in row.choices {
-        args.push(option(alloc, choice)?)?;
-    }
-    Ok(args)
 }
 
-/// The command of a row.
-fn command<'a>(alloc: Global, row: &Row) -> Result<Command<'a>, AllocError> {
-    let args = args(alloc, row)?;
+/// The command of a row, with what it takes.
+fn command<'a>(alloc: Global, row: &Row, args: Vec<Arg<'a>>) -> Result<Command<'a>, AllocError> {
     Command::new(alloc, row.name)
         .about(row.about)
         .after_help(row.example)
         .args(args)
 }
 
-/// The commands.
-fn commands<'a>(alloc: Global) -> Result<Vec<Command<'a>>, AllocError> {
-    let mut commands = Vec::new(alloc);
-    for row in ROWS {
-        commands.push(command(alloc, row)?)?;
+impl<'a> Says<Command<'a>> for Row {
+    fn said(&self, alloc: Global) -> Result<Command<'a>, AllocError> {
+        command(alloc, self, all(alloc, self.choices)?)
     }
-    Ok(commands)
 }
 
-/// The program's words.
-pub(crate) fn program<'a>(alloc: Global) -> Result<Command<'a>, AllocError> {
-    let commands = commands(alloc)?;
+/// The program, with its commands.
+fn with_commands<'a>(alloc: Global, commands: Vec<Command<'a>>) -> Result<Command<'a>, AllocError> {
     Command::new(alloc, "cedar_check")
         .version("0.1.0")
         .about("Reads, builds, shows, links and compares schemas of the Cedar policy language")
         .subcommand_required(true)
         .subcommands(commands)
+}
+
+/// The program's words.
+pub(crate) fn program<'a>(alloc: Global) -> Result<Command<'a>, AllocError> {
+    with_commands(alloc, all(alloc, ROWS)?)
 }

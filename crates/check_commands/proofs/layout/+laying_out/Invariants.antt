@@ -3,7 +3,7 @@ use Rattle.std.specs.List.{sum_by}
 use Rattle.json.specs.Token.{Token}
 use Rattle.json.specs.Tree.{items_tokens, json_tokens, members_tokens}
 use Rattle.json.specs.Value.{items_view, members_view, value_view}
-use Rattle.check_commands.proofs.Weights.{index_weight, item_weight}
+use Rattle.check_commands.proofs.Weights.{item_weight, place_weight}
 use Rattle.check_commands.proofs.layout.+laying_out.Given as goal
 
 abbrev pub decreases-write : goal.decreases-write
@@ -20,7 +20,7 @@ invariant-write_items-loop-item l =
     (weight : Token → ℕ) → sum_by weight l.pretty + sum_by (item_weight weight) (drop l.item-index l.item-items)
     ≡ sum_by weight l.initial.pretty + sum_by (item_weight weight) l.item-items
 
-abbrev pub invariant-write_members-loop-index : goal.invariant-write_members-loop-index
-invariant-write_members-loop-index l =
-    (weight : Token → ℕ) → sum_by weight l.pretty + sum_by (index_weight weight l.members.items) (drop l.index-index l.index-items)
-    ≡ sum_by weight l.initial.pretty + sum_by (index_weight weight l.members.items) l.index-items
+abbrev pub invariant-write_members-loop-place : goal.invariant-write_members-loop-place
+invariant-write_members-loop-place l =
+    (weight : Token → ℕ) → sum_by weight l.pretty + sum_by (place_weight weight l.members.items) (drop l.place-index l.place-items)
+    ≡ sum_by weight l.initial.pretty + sum_by (place_weight weight l.members.items) l.place-items

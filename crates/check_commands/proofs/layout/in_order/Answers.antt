@@ -1,16 +1,18 @@
-use Rattle.std.proofs.Common.{◌≡◌, ◌∙◌, ap, rules}
+use Rattle.std.proofs.Common.{◌∙◌, ◌<◌, length, rules}
 use Rattle.std.proofs.lemmas.List.{take_all}
-use Rattle.check_commands.proofs.Places.{indices, sorted_order, sorted_within}
+use Rattle.std.proofs.lemmas.List.Sorted.{All-permutation}
+use Rattle.check_commands.proofs.Places.{indexed_more, sorted_order}
 use Rattle.check_commands.proofs.layout.in_order.Goals as goal
+
+pub loop-index-preserved : goal.loop-index-preserved
+loop-index-preserved c =
+    rw c.in_ok-push.ensures.items (indexed_more _ _ c.loop-index.index _ (search rules) c.loop-index.invariant)
 
 pub returns-clause-order : goal.returns-clause-order
 returns-clause-order c =
-    let all : c.loop-place.order.items ≡ indices c.sort.new.self.items =
-    c.loop-place.invariant ∙ ap indices (take_all c.loop-place.place-index _ (search rules)) ∙ ap indices c.deref-place-items.ensures.value in
-    rw all (sorted_order _ _ _ c.in_ok-places.ensures.order c.sort.ensures.permutation)
+    rw (← c.deref-member-items.ensures.value) (sorted_order _ _ _ (λ d. c.loop-index.invariant.0 d ∙ take_all c.loop-index.index _ (search rules))
+    c.sort.ensures.permutation)
 
 pub returns-clause-within : goal.returns-clause-within
 returns-clause-within c =
-    let all : c.loop-place.order.items ≡ indices c.sort.new.self.items =
-    c.loop-place.invariant ∙ ap indices (take_all c.loop-place.place-index _ (search rules)) ∙ ap indices c.deref-place-items.ensures.value in
-    rw all (sorted_within _ _ _ c.in_ok-places.ensures.within c.sort.ensures.permutation)
+    rw (← c.deref-member-items.ensures.value) (All-permutation (λ place. place.1 < length c.deref-member-items.result.now) _ _ c.sort.ensures.permutation c.loop-index.invariant.1)

@@ -1,6 +1,5 @@
-use Rattle.std.proofs.Common.{◌≡◌, take}
-use Rattle.check_commands.proofs.Places.{indices}
+use Rattle.check_commands.proofs.Places.{AreIndexed}
 use Rattle.check_commands.proofs.layout.in_order.Given as goal
 
-abbrev pub invariant-loop-place : goal.invariant-loop-place
-invariant-loop-place l = l.order.items ≡ indices (take l.place-index l.place-items)
+abbrev pub invariant-loop-index : goal.invariant-loop-index
+invariant-loop-index l = AreIndexed l.member-items l.places.items l.index

@@ -1,4 +1,4 @@
-use Rattle.std.proofs.Common.{◌≡◌, ℕ, ◌<◌, List, [], get_or, subst, rules, IsTrue}
+use Rattle.std.proofs.Common.{ℕ, ◌<◌, List, [], get_or, subst, rules, IsTrue}
 use Rattle.std.proofs.lemmas.List.{get_or_default}
 use Rattle.std.specs.Borrow.{Bor}
 use Rattle.std.specs.List.{Any}

@@ -1,0 +1,74 @@
+//! Texts that are being written.
+
+use cedar_below::{M, Memory};
+use schema_lines::escaped;
+use std::alloc::Global;
+use std::fmt::Display;
+
+/// A text that is being written. Where memory runs out, that is remembered, and told at the end.
+#[derive(Drop)]
+pub(crate) struct Text {
+    /// What was written of it.
+    written: String,
+    /// Whether memory ran out.
+    is_refused: bool,
+}
+
+impl Text {
+    /// Nothing written yet.
+    pub(crate) fn new(alloc: Global) -> Self {
+        Text {
+            written: String::new(alloc),
+            is_refused: false,
+        }
+    }
+
+    /// Where the text is.
+    pub(crate) fn alloc(&self) -> Global {
+        *self.written.allocator()
+    }
+
+    /// Adds a character.
+    pub(crate) fn push(&mut self, character: char) {
+        self.is_refused |= self.written.push(character).is_err();
+    }
+
+    /// Adds words.
+    pub(crate) fn push_str(&mut self, words: &str) {
+        self.is_refused |= self.written.push_str(words).is_err();
+    }
+
+    /// Adds what a value is as text: what `write!` calls.
+    pub(crate) fn write_fmt<T: Display + Drop>(&mut self, value: T) {
+        self.is_refused |= self.written.write(value).is_err();
+    }
+
+    /// Notes that memory ran out.
+    pub(crate) fn refuse(&mut self) {
+        self.is_refused = true;
+    }
+
+    /// Adds words with an escape in the place of each character that would control a terminal.
+    pub(crate) fn push_escaped(&mut self, words: &str) {
+        match escaped(self.alloc(), words) {
+            Ok(words) => self.push_str(words.as_str()),
+            Err(Memory) => self.refuse(),
+        }
+    }
+
+    /// Adds what a value is as text, escaped so.
+    pub(crate) fn write_escaped<T: Display + Drop>(&mut self, value: T) {
+        match String::format(self.alloc(), value) {
+            Ok(words) => self.push_escaped(words.as_str()),
+            Err(_) => self.refuse(),
+        }
+    }
+
+    /// The text, where memory sufficed for it.
+    pub(crate) fn whole(self) -> M<String> {
+        if self.is_refused {
+            return Err(Memory);
+        }
+        Ok(self.written)
+    }
+}
