@@ -1,10 +1,7 @@
 //! Reading declarations of actions.
 
-ghost use Rattle.std.specs.Prelude.{◌≡◌, None, false, codes, option_map};
-ghost use Rattle.std.specs.Str.{bytes_eq};
-ghost use Rattle.json.specs.Find.{get};
-ghost use Rattle.json.specs.Value.{value_view};
-ghost use Rattle.cedar_json.specs.Words.{IsReadFrom, Requests, Text, Tree, WrittenAction, WrittenParent, action_of, optional, pairs_in, parent_of, requests_of, tree_of, value_expr, value_of, written_action, written_pairs, written_parent, written_requests};
+ghost use Rattle.std.specs.Prelude.{false};
+ghost use Rattle.cedar_json.specs.Words.{Requests, Tree, WrittenAction, WrittenParent, action_of, parent_of, requests_of, tree_of, value_expr, value_of, written_action, written_parent, written_requests};
 
 use crate::annotations::check_annotations;
 use crate::described::{Described, described_field, optional_field};
@@ -87,21 +84,6 @@ impl Taken for CedarValue {
     }
 }
 
-/// The attributes that the field `attributes` describes, or None where it is absent or `null`.
-fn attributes_field(
-    alloc: Global,
-    value: &mut Value<'_>,
-    cursor: Cursor<'_>,
-) -> Result<Option<BTreeMap<String, CedarValue>>, Fault>
-    ensures value { IsReadFrom (value_view value.old)
-        (optional pairs_in (get (codes "attributes") (value_view value.old)))
-        (option_map written_pairs) result }
-    ensures others { (other : Text) → bytes_eq (codes "attributes") other ≡ false
-        → get other (value_view value.new) ≡ get other (value_view value.old) }
-{
-    taken_unless_null(alloc, value, "attributes", cursor)
-}
-
 impl Taken for ActionType<RawName> {
     ghost Plain = { WrittenAction };
 
@@ -118,7 +100,7 @@ impl Taken for ActionType<RawName> {
         check_fields(alloc, value, Row::OfAction)?;
         check_annotations(alloc, value)?;
         let external = flag_field(alloc, value, "external", false)?;
-        let attributes = attributes_field(alloc, value, cursor)?;
+        let attributes = taken_unless_null(alloc, value, "attributes", cursor)?;
         let member_of = optional_field(alloc, value, "memberOf", cursor)?;
         let applies_to = optional_field(alloc, value, "appliesTo", cursor)?;
         Ok(ActionType {

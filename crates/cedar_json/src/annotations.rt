@@ -37,8 +37,20 @@ fn check_annotation_members(alloc: Global, members: &Vec<(&str, Value<'_>)>) -> 
     Ok(())
 }
 
-/// Refuses an object whose field `annotations` holds no annotations: an object of identifiers with
-/// texts or `null`. The field may be absent.
+/// Refuses a value that is no annotations: an object of identifiers with texts or `null`.
+fn check_held(alloc: Global, value: &Value<'_>) -> Result<(), Fault>
+    ensures { MatchResult result
+        (λ _. annotations_fit (Some (value_view value.now)) ≡ true)
+        (λ fault. (annotations_fit (Some (value_view value.now)) ≡ false)
+        × IsTrueOf fault (value_view value.now)) }
+{
+    match members_of(value) {
+        Some(members) => check_annotation_members(alloc, members),
+        None => Err(Fault::here(alloc, FaultKind::Wants(Wanted::Object))),
+    }
+}
+
+/// Refuses an object whose field `annotations` holds no annotations. The field may be absent.
 pub(crate) fn check_annotations(alloc: Global, value: &Value<'_>) -> Result<(), Fault>
     ensures { MatchResult result
         (λ _. annotations_fit (get (codes "annotations") (value_view value.now)) ≡ true)
@@ -49,10 +61,7 @@ pub(crate) fn check_annotations(alloc: Global, value: &Value<'_>) -> Result<(), 
     let Some(held) = value.get(name) else {
         return Ok(());
     };
-    let Some(members) = members_of(held) else {
-        return Err(Fault::here(alloc, FaultKind::Wants(Wanted::Object)).within(name));
-    };
-    match check_annotation_members(alloc, members) {
+    match check_held(alloc, held) {
         Ok(()) => Ok(()),
         Err(fault) => Err(fault.within(name)),
     }

@@ -1,6 +1,6 @@
 //! Reading declarations of entity types.
 
-ghost use Rattle.std.specs.Prelude.{◌≡◌, Option, Some, None, codes, map, option_map};
+ghost use Rattle.std.specs.Prelude.{◌≡◌, Some, None, codes, map};
 ghost use Rattle.json.specs.Find.{as_str, get};
 ghost use Rattle.json.specs.Value.{value_view};
 ghost use Rattle.cedar_json.specs.Words.{Entity, IsReadFrom, Reference, Text, WrittenEntity, body_by, choices_in, eid_text, empty_record, entity_of, entity_reference, items_of, raw_expr, raw_record, raw_reference, shape_in, standard_of, written_entity, written_kind};

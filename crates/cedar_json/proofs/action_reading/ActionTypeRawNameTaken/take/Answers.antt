@@ -3,7 +3,7 @@ use Rattle.std.proofs.lemmas.Result.{err_from_is_err_and}
 use Rattle.json.specs.Find.{get}
 use Rattle.json.specs.Value.{value_view}
 use Rattle.cedar_json.specs.Words.{action_by, annotations_fit, flag_or, if_so, optional, pairs_in, parents_of, requests_of}
-use Rattle.cedar_json.proofs.ActionLemmas.{action_by-no_external, action_by-no_parents, action_by-no_requests}
+use Rattle.cedar_json.proofs.ActionLemmas.{action_by-no_external, action_by-no_parents, action_by-no_requests, optional-pairs}
 use Rattle.cedar_json.proofs.action_reading.ActionTypeRawNameTaken.take.Goals as goal
 
 -- a value with other fields than a declaration may have describes none
@@ -50,10 +50,12 @@ returns-in_err-attributes c =
     let j = value_view c.args.value.now in
     let p = err_from_is_err_and c.from_residual-in_err-attributes.result c.from_residual-in_err-attributes.ensures.1 in
     rw (p.1, p.2) (
-      λ other. (λ i. if_so (c.in_ok-check_fields.ensures i) (if_so (c.in_ok-check_annotations.ensures i)
-          (action_by (c.in_err-attributes.ensures.value.0 other i)
+      λ other.
+          let none = sym (optional-pairs (get (codes "attributes") j)) ∙ c.in_err-attributes.ensures.value.0 other in
+          (λ i. if_so (c.in_ok-check_fields.ensures i) (if_so (c.in_ok-check_annotations.ensures i)
+          (action_by (none i)
           (optional requests_of (get (codes "appliesTo") j)) (optional parents_of (get (codes "memberOf") j)) (flag_or false (get (codes "external") j))))),
-      c.in_err-attributes.ensures.value.1,
+      c.in_err-attributes.ensures.value.1 j refl,
     )
 
 -- nor one that lists no parents in its field for them
@@ -95,7 +97,8 @@ returns-in_err-applies_to c =
 -- what is declared are the parts that were read
 pub returns : goal.returns
 returns c =
+    let attributes = sym (optional-pairs (get (codes "attributes") (value_view c.args.value.now))) ∙ c.in_ok-attributes.ensures.value in
     let parents = ap (optional parents_of) (sym (c.in_ok-attributes.ensures.others (codes "memberOf") refl)) ∙ c.in_ok-member_of.ensures in
     let requests = ap (optional requests_of) (sym (c.in_ok-attributes.ensures.others (codes "appliesTo") refl)) ∙ c.in_ok-applies_to.ensures in
     λ i. if_so (c.in_ok-check_fields.ensures i) (if_so (c.in_ok-check_annotations.ensures i)
-    (action_by (c.in_ok-attributes.ensures.value i) (requests i) (parents i) (c.in_ok-external.ensures i)))
+    (action_by (attributes i) (requests i) (parents i) (c.in_ok-external.ensures i)))
