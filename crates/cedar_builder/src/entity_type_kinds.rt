@@ -104,9 +104,9 @@ fn standard_type<N: WrittenName>(
     let loc = name.loc();
     let attributes = shape_attributes(alloc, &name, shape, namespace, scope)?;
     let tags = tags_type(alloc, tags, namespace, scope)?;
-    let descendants: Vec<EntityType> = Vec::new(alloc);
     let open = OpenTag::ClosedAttributes;
-    Ok(ValidatorEntityType::new_standard(alloc, name, descendants, attributes, open, tags, loc)?)
+    let none = scope.shared.no_attributes()?;
+    Ok(ValidatorEntityType::new_standard_sharing(alloc, name, attributes, open, tags, none, loc))
 }
 
 /// The entity type that a declaration of the name gives alone, as yet without descendants.

@@ -10,6 +10,7 @@ use cedar_fragments::defs::{AllDefs, WrittenName};
 use cedar_schema_elements::ValidatorEntityType;
 use cedar_table::Table;
 use std::alloc::Global;
+use std::collections::HashSet;
 
 /// The entity type that a name stands for where it is written in a namespace, which must be one of
 /// these.
@@ -45,10 +46,10 @@ pub(crate) fn declared_types<N: WrittenName>(
     namespace: Option<&InternalName>,
     entity_types: &Table<EntityType, ValidatorEntityType>,
     defs: &AllDefs,
-) -> Result<Vec<EntityType>, SchemaError>
+) -> Result<HashSet<EntityType>, SchemaError>
     ensures names { IfOk result (λ types. AreNamed (held_names defs.now)
         (map (N.refer (namespace_name namespace.entry) Entity) names.now)
-        (map type_name types.items)) }
+        (map type_name types.keys)) }
     ensures declared { OnOk result ((reference : Reference)
         → Contains (map (N.refer (namespace_name namespace.entry) Entity) names.now) reference
         → (name : PlainName) × ResolvesTo (held_names defs.now) reference name
@@ -57,9 +58,9 @@ pub(crate) fn declared_types<N: WrittenName>(
         IsRequestTypeFault (held_names defs.now) (names_in entity_types.now)
         (map (N.refer (namespace_name namespace.entry) Entity) names.now) (fault_of error)) }
 {
-    let mut types = Vec::with_capacity(alloc, names.len())?;
+    let mut types = HashSet::new(alloc);
     for name in names {
-        types.push(declared_type(alloc, name, namespace, entity_types, defs)?)?;
+        types.insert(declared_type(alloc, name, namespace, entity_types, defs)?)?;
     }
     Ok(types)
 }

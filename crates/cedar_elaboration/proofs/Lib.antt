@@ -4,6 +4,7 @@ mod ElaborationLemmas
 mod Entries
 mod IndexLemmas
 mod OrderLemmas
+mod PrimitiveLemmas
 mod RecordLemmas
 mod ReferringLemmas
 pub mod Results

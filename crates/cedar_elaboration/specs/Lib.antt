@@ -2,6 +2,7 @@ pub mod Common
 pub mod DeclaredTypes
 pub mod Indices
 pub mod Order
+pub mod Primitive
 pub mod Refusals
 pub mod Scope
 pub mod SoundTypes

@@ -2,7 +2,7 @@
 pub use Rattle.cedar_below.specs.Words.{Chain, HoldsPairwise, Included, IsReserved, PlainName, SameItems, Text, Twice, TypeNamesFit, extension_types, id_text, more, name_of, one, text_cmp, unreserved_id_text}
 pub use Rattle.cedar_below.specs.declared.extension.Extensions.{Extensions}
 pub use Rattle.cedar_below.specs.declared.internal_name.InternalName.{InternalName}
-pub use Rattle.cedar_type_rules.specs.Words.{Fields, HoldsLast, IsSortedByName, Ty, end, extension_of, field, field_names, fields_from, record_of, set_of, union_of}
+pub use Rattle.cedar_type_rules.specs.Words.{Fields, HoldsLast, IsSortedByName, Ty, end, extension_of, field, field_names, fields_from, long, record_of, set_of, text, union_of}
 pub use Rattle.cedar_type_rules.specs.declared.open_tag.OpenTag.TheVariants.{ClosedAttributes}
 pub use Rattle.cedar_names.specs.Words.{Expr, Members, Reference, extension_expr, flag_and_expr, member, members_from, named, namespace_name, no_member, record_expr, record_type_expr, set_expr, type_expr, variant_expr}
 pub use Rattle.cedar_names.specs.declared.json_schema.reference_type.ReferenceType.{ReferenceType}
@@ -21,6 +21,7 @@ pub use Rattle.cedar_elaboration.specs.Common.{AreSound, IsCommonFault, IsSoundE
 pub use Rattle.cedar_elaboration.specs.DeclaredTypes.{AreElaborated, AreTypesOf}
 pub use Rattle.cedar_elaboration.specs.Indices.{AddsIndices, AreIndices, NamesItems, defined_over, indexed_names, item_names}
 pub use Rattle.cedar_elaboration.specs.Order.{HasNoCycle, IsElaborationOrder, IsOrderFault}
+pub use Rattle.cedar_elaboration.specs.Primitive.{IsPrimitive, any_truth, is_long, is_long_type, is_text, is_text_type, is_truth, is_truth_type}
 pub use Rattle.cedar_elaboration.specs.Refusals.{IsExprFault, IsRefusal, IsReservedEntity}
 pub use Rattle.cedar_elaboration.specs.Scope.{Covers, CoversExtensions, ElaboratesAs, HoldsElaborated, ResolvesEach, elaborated_types, extension_name, extensions_in_scope}
 pub use Rattle.cedar_elaboration.specs.SoundTypes.{CommonTypesAreSound}

@@ -6,6 +6,7 @@ ghost use Rattle.cedar_elaboration.specs.Words.{AreSound, Chain, ElaboratesTo, E
 use crate::elaborating::elaborate;
 use crate::indices::CommonType;
 use crate::ordering::elaboration_order;
+use crate::shared_types::SharedTypes;
 use crate::type_scope::TypeScope;
 use cedar_below::{Extensions, InternalName, put};
 use cedar_declarations::SchemaError;
@@ -21,6 +22,7 @@ fn elaborate_in_order<N: WrittenName>(
     order: &[usize],
     defs: &AllDefs,
     extensions: &Extensions,
+    shared: &SharedTypes,
 ) -> Result<BTreeMap<InternalName, Type>, SchemaError>
     requires { IsElaborationOrder (held_names defs.now)
         (written_common N N.refer declared.now) order.now }
@@ -48,6 +50,7 @@ fn elaborate_in_order<N: WrittenName>(
             common: &common,
             defs,
             extensions,
+            shared,
         };
         let ty = elaborate(alloc, &item.1.declared, item.1.namespace(), &scope)?;
         put(&mut common, item.0.clone()?, ty)?;
@@ -56,7 +59,7 @@ fn elaborate_in_order<N: WrittenName>(
 }
 
 /// The common types elaborated, each under its full name: a reference to another is what that one
-/// was elaborated as.
+/// was elaborated as. Attributes of primitive types share these.
 ///
 /// It errs where a name stands twice, or is on a cycle of references, where a record admits
 /// attributes that it doesn't list, a name is neither that of a common type nor that of an entity
@@ -67,6 +70,7 @@ pub fn common_types<N: WrittenName>(
     declared: &[CommonType<N>],
     defs: &AllDefs,
     extensions: &Extensions,
+    shared: &SharedTypes,
 ) -> Result<BTreeMap<InternalName, Type>, SchemaError>
     ensures names { IfOk result (λ types. NamesItems (held_names defs.now)
         (written_common N N.refer declared.now)
@@ -100,5 +104,5 @@ pub fn common_types<N: WrittenName>(
         (held_names defs.now)) (extension_types extensions.now) (fault_of error)) }
 {
     let order = elaboration_order(alloc, declared, defs)?;
-    elaborate_in_order(alloc, declared, &order, defs, extensions)
+    elaborate_in_order(alloc, declared, &order, defs, extensions, shared)
 }

@@ -5,6 +5,7 @@ ghost use Rattle.cedar_elaboration.specs.Words.{AreElaborated, AreTypesOf, Bag, 
 
 use crate::common::common_types;
 use crate::indices::CommonType;
+use crate::shared_types::SharedTypes;
 use cedar_below::{Extensions, InternalName};
 use cedar_declarations::SchemaError;
 use cedar_fragments::defs::{AllDefs, WrittenName};
@@ -13,7 +14,8 @@ use std::alloc::Global;
 use std::collections::BTreeMap;
 
 /// The common types that are defined where these are declared and these are the built-in types
-/// and their aliases, each elaborated under its full name. The names that are defined are given.
+/// and their aliases, each elaborated under its full name. The names that are defined are given, and
+/// the primitive types that attributes share.
 ///
 /// It errs where a common type is declared twice or is built in, or is on a cycle of references;
 /// where a record admits attributes that it doesn't list, a name names nothing, or an extension
@@ -24,6 +26,7 @@ pub fn defined_common_types<N: WrittenName + Drop>(
     built_in: Vec<CommonType<N>>,
     defs: &AllDefs,
     extensions: &Extensions,
+    shared: &SharedTypes,
 ) -> Result<BTreeMap<InternalName, Type>, SchemaError>
     ensures elaborates { IfOk result (λ types. (bag : Bag)
         → AreTypesOf bag extensions.now (written_common N N.refer declared.items)
@@ -41,5 +44,5 @@ pub fn defined_common_types<N: WrittenName + Drop>(
     let mut types = declared;
     let mut built_in = built_in;
     types.append(&mut built_in)?;
-    common_types(alloc, &types, defs, extensions)
+    common_types(alloc, &types, defs, extensions, shared)
 }

@@ -55,8 +55,124 @@ fn elaborate_reference<N: WrittenName>(
     entity_reference(alloc, full)
 }
 
+/// The type that a type stands for that is written in a namespace, shared with others where it is
+/// primitive.
+#[cycle(elaborate_variant)]
+fn elaborate_shared<N: WrittenName>(
+    alloc: Global,
+    ty: &json_schema::Type<N>,
+    namespace: Option<&InternalName>,
+    scope: &TypeScope,
+) -> Result<Rc<Type>, SchemaError>
+    ensures elaborates { IfOk result (λ elaborated.
+        ElaboratesAs scope.now
+        (type_expr N (N.refer (namespace_name namespace.entry)) ty.now)
+        (ty_of elaborated.value)) }
+    ensures closed { OnOk result (¬ HasOpenRecord
+        (type_expr N (N.refer (namespace_name namespace.entry)) ty.now)) }
+    ensures extensions { OnOk result (CoversExtensions scope.now
+        (type_expr N (N.refer (namespace_name namespace.entry)) ty.now)) }
+    ensures fault { IfErr result (λ error.
+        IsRefusal scope.now
+        (type_expr N (N.refer (namespace_name namespace.entry)) ty.now)
+        (fault_of error)) }
+{
+    let made = match ty {
+        json_schema::Type::Plain { ty, .. } => {
+            if let Some(shared) = scope.shared.primitive(ty) {
+                return Ok(shared.clone()?);
+            }
+            elaborate_variant(alloc, ty, namespace, scope)?
+        }
+        json_schema::Type::CommonTypeRef { type_name, .. } => {
+            elaborate_reference(alloc, type_name, ReferenceType::Common, namespace, scope)?
+        }
+    };
+    Ok(Rc::new(alloc, made)?)
+}
+
+/// The type that a type variant stands for that is written in a namespace.
+#[cycle(elaborate_variant)]
+fn elaborate_variant<N: WrittenName>(
+    alloc: Global,
+    ty: &TypeVariant<N>,
+    namespace: Option<&InternalName>,
+    scope: &TypeScope,
+) -> Result<Type, SchemaError>
+    ensures elaborates { IfOk result (λ elaborated.
+        ElaboratesAs scope.now
+        (variant_expr N (N.refer (namespace_name namespace.entry)) ty.now)
+        (ty_of elaborated)) }
+    ensures closed { OnOk result (¬ HasOpenRecord
+        (variant_expr N (N.refer (namespace_name namespace.entry)) ty.now)) }
+    ensures extensions { OnOk result (CoversExtensions scope.now
+        (variant_expr N (N.refer (namespace_name namespace.entry)) ty.now)) }
+    ensures fault { IfErr result (λ error.
+        IsRefusal scope.now
+        (variant_expr N (N.refer (namespace_name namespace.entry)) ty.now)
+        (fault_of error)) }
+{
+    match ty {
+        TypeVariant::String => Ok(Type::primitive_string()),
+        TypeVariant::Long => Ok(Type::primitive_long()),
+        TypeVariant::Boolean => Ok(Type::primitive_boolean()),
+        TypeVariant::Set { element } => {
+            Ok(Type::set(elaborate_shared(alloc, element, namespace, scope)?))
+        }
+        TypeVariant::Record(record_type) => Ok(Type::Record {
+            attrs: elaborate_attributes(alloc, record_type, namespace, scope)?,
+            open_attributes: OpenTag::ClosedAttributes,
+        }),
+        TypeVariant::Entity { name } => {
+            elaborate_reference(alloc, name, ReferenceType::Entity, namespace, scope)
+        }
+        TypeVariant::EntityOrCommon { type_name } => {
+            elaborate_reference(
+                alloc,
+                type_name,
+                ReferenceType::CommonOrEntity,
+                namespace,
+                scope,
+            )
+        }
+        TypeVariant::Extension { name } => scope.extension_type(alloc, name),
+    }
+}
+
+/// The attributes of a record type, each with its flag and its location.
+#[cycle(elaborate_variant)]
+fn elaborate_attributes<N: WrittenName>(
+    alloc: Global,
+    record_type: &RecordType<N>,
+    namespace: Option<&InternalName>,
+    scope: &TypeScope,
+) -> Result<Attributes, SchemaError>
+    ensures elaborates { IfOk result (λ elaborated.
+        ElaboratesAs scope.now
+        (record_type_expr N (N.refer (namespace_name namespace.entry)) record_type.now)
+        (record_of (fields_of elaborated) OpenTag.ClosedAttributes)) }
+    ensures closed { OnOk result (¬ HasOpenRecord
+        (record_type_expr N (N.refer (namespace_name namespace.entry)) record_type.now)) }
+    ensures extensions { OnOk result (CoversExtensions scope.now
+        (record_type_expr N (N.refer (namespace_name namespace.entry)) record_type.now)) }
+    ensures fault { IfErr result (λ error.
+        IsRefusal scope.now
+        (record_type_expr N (N.refer (namespace_name namespace.entry)) record_type.now)
+        (fault_of error)) }
+{
+    if record_type.additional_attributes {
+        return Err(SchemaError::UnsupportedFeature(UnsupportedFeature::OpenRecordsAndEntities));
+    }
+    let mut attributes = Vec::with_capacity(alloc, record_type.attributes.len())?;
+    for (name, attribute) in &record_type.attributes {
+        let ty = elaborate_shared(alloc, &attribute.ty, namespace, scope)?;
+        let declared = AttributeType::new_with_loc(ty, attribute.required, attribute.loc);
+        attributes.push((name.clone()?, declared))?;
+    }
+    Ok(Attributes::from_entries(alloc, attributes)?)
+}
+
 /// The type that a type stands for that is written in a namespace.
-#[cycle(elaborate_type)]
 fn elaborate_type<N: WrittenName>(
     alloc: Global,
     ty: &json_schema::Type<N>,
@@ -82,91 +198,6 @@ fn elaborate_type<N: WrittenName>(
             elaborate_reference(alloc, type_name, ReferenceType::Common, namespace, scope)
         }
     }
-}
-
-/// The type that a type variant stands for that is written in a namespace.
-#[cycle(elaborate_type)]
-fn elaborate_variant<N: WrittenName>(
-    alloc: Global,
-    ty: &TypeVariant<N>,
-    namespace: Option<&InternalName>,
-    scope: &TypeScope,
-) -> Result<Type, SchemaError>
-    ensures elaborates { IfOk result (λ elaborated.
-        ElaboratesAs scope.now
-        (variant_expr N (N.refer (namespace_name namespace.entry)) ty.now)
-        (ty_of elaborated)) }
-    ensures closed { OnOk result (¬ HasOpenRecord
-        (variant_expr N (N.refer (namespace_name namespace.entry)) ty.now)) }
-    ensures extensions { OnOk result (CoversExtensions scope.now
-        (variant_expr N (N.refer (namespace_name namespace.entry)) ty.now)) }
-    ensures fault { IfErr result (λ error.
-        IsRefusal scope.now
-        (variant_expr N (N.refer (namespace_name namespace.entry)) ty.now)
-        (fault_of error)) }
-{
-    match ty {
-        TypeVariant::String => Ok(Type::primitive_string()),
-        TypeVariant::Long => Ok(Type::primitive_long()),
-        TypeVariant::Boolean => Ok(Type::primitive_boolean()),
-        TypeVariant::Set { element } => {
-            let element = elaborate_type(alloc, element, namespace, scope)?;
-            Ok(Type::set(Rc::new(alloc, element)?))
-        }
-        TypeVariant::Record(record_type) => Ok(Type::Record {
-            attrs: elaborate_attributes(alloc, record_type, namespace, scope)?,
-            open_attributes: OpenTag::ClosedAttributes,
-        }),
-        TypeVariant::Entity { name } => {
-            elaborate_reference(alloc, name, ReferenceType::Entity, namespace, scope)
-        }
-        TypeVariant::EntityOrCommon { type_name } => {
-            elaborate_reference(
-                alloc,
-                type_name,
-                ReferenceType::CommonOrEntity,
-                namespace,
-                scope,
-            )
-        }
-        TypeVariant::Extension { name } => scope.extension_type(alloc, name),
-    }
-}
-
-/// The attributes of a record type, each with its flag and its location.
-#[cycle(elaborate_type)]
-fn elaborate_attributes<N: WrittenName>(
-    alloc: Global,
-    record_type: &RecordType<N>,
-    namespace: Option<&InternalName>,
-    scope: &TypeScope,
-) -> Result<Attributes, SchemaError>
-    ensures elaborates { IfOk result (λ elaborated.
-        ElaboratesAs scope.now
-        (record_type_expr N (N.refer (namespace_name namespace.entry)) record_type.now)
-        (record_of (fields_of elaborated) OpenTag.ClosedAttributes)) }
-    ensures closed { OnOk result (¬ HasOpenRecord
-        (record_type_expr N (N.refer (namespace_name namespace.entry)) record_type.now)) }
-    ensures extensions { OnOk result (CoversExtensions scope.now
-        (record_type_expr N (N.refer (namespace_name namespace.entry)) record_type.now)) }
-    ensures fault { IfErr result (λ error.
-        IsRefusal scope.now
-        (record_type_expr N (N.refer (namespace_name namespace.entry)) record_type.now)
-        (fault_of error)) }
-{
-    if record_type.additional_attributes {
-        return Err(SchemaError::UnsupportedFeature(UnsupportedFeature::OpenRecordsAndEntities));
-    }
-    let mut attributes = Vec::with_capacity(alloc, record_type.attributes.len())?;
-    for (name, attribute) in &record_type.attributes {
-        let ty = Rc::new(
-            alloc,
-            elaborate_type(alloc, &attribute.ty, namespace, scope)?,
-        )?;
-        let declared = AttributeType::new_with_loc(ty, attribute.required, attribute.loc);
-        attributes.push((name.clone()?, declared))?;
-    }
-    Ok(Attributes::with_attributes(alloc, attributes)?)
 }
 
 /// Elaborates a type that is written in a namespace, None being the empty one. Each name stands

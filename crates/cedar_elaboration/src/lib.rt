@@ -10,6 +10,7 @@ pub use common::common_types;
 pub use defined::defined_common_types;
 pub use elaborating::{elaborate, undefined_type};
 pub use indices::CommonType;
+pub use shared_types::SharedTypes;
 pub use type_scope::TypeScope;
 
 mod common;
@@ -18,4 +19,5 @@ mod elaborating;
 mod indices;
 mod ordering;
 mod referring;
+mod shared_types;
 mod type_scope;

@@ -3,6 +3,7 @@
 ghost use Rattle.std.specs.Prelude.{◌≡◌, ◌↔◌, ◌⊎◌, [], ◌∷◌, Contains, IfErr, IfOk, IsTrue, MatchOption, OnOk, map};
 ghost use Rattle.cedar_elaboration.specs.Words.{IsReserved, MayNameCommon, elaborated_types, extension_name, extension_of, extensions_in_scope, fault_of, name_of, out_of_memory, reserved_name, ty_of, union_of, unknown_extension_type, unreserved_id_text};
 
+use crate::shared_types::SharedTypes;
 use cedar_below::{EntityType, Extensions, InternalName, M, Name, UnreservedId};
 use cedar_declarations::SchemaError;
 use cedar_fragments::defs::AllDefs;
@@ -20,6 +21,8 @@ pub struct TypeScope<'a> {
     pub defs: &'a AllDefs,
     /// The extension types that may be named.
     pub extensions: &'a Extensions,
+    /// The types that attributes share.
+    pub shared: &'a SharedTypes,
 }
 
 /// Whether a reference of the kind may name a common type.

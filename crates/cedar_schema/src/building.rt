@@ -9,7 +9,7 @@ use crate::shared::Shared;
 use cedar_below::{EntityType, EntityUID, Extensions};
 use cedar_builder::{actions, entity_types};
 use cedar_declarations::SchemaError;
-use cedar_elaboration::{TypeScope, defined_common_types};
+use cedar_elaboration::{SharedTypes, TypeScope, defined_common_types};
 use cedar_fragments::defs::{AllDefs, WrittenName};
 use cedar_fragments::namespace::ValidatorSchemaFragment;
 use cedar_resolution::{
@@ -63,11 +63,13 @@ fn build_named<N: WrittenName + Drop>(
         entity_types: declared,
         actions: declared_actions,
     } = collect_declarations(alloc, fragments)?;
-    let common = defined_common_types(alloc, common_types, built_in, defs, extensions)?;
+    let shared = SharedTypes::new(alloc)?;
+    let common = defined_common_types(alloc, common_types, built_in, defs, extensions, &shared)?;
     let known = TypeScope {
         common: &common,
         defs,
         extensions,
+        shared: &shared,
     };
     let entity_types = entity_types(alloc, declared, &known)?;
     let actions = actions(alloc, declared_actions, &entity_types, &known)?;

@@ -60,7 +60,7 @@ impl Drop for ActionParts {
 
 impl ValidatorActionId {
     ghost use Rattle.std.specs.Prelude.{◌≡◌, ◌≢◌, ◌↔◌, map, IsTrue, IfOk, Some, Contains, AllPairs};
-    ghost use Rattle.cedar_schema_elements.specs.Words.{HoldsOfAll, IsFiniteIterable, SameActionKind, SameItems, action_loc, action_of, borrowed_context, context_of, external_action, kind_context, kind_principals, kind_resources, name_type_loc, option_copied, option_map, ty_of, type_name, uid_loc, uid_of, uid_type_loc};
+    ghost use Rattle.cedar_schema_elements.specs.Words.{HoldsOfAll, IsFiniteIterable, SameActionKind, SameItems, action_loc, action_of, borrowed_context, context_of, defined_action, external_action, kind_context, kind_principals, kind_resources, name_type_loc, option_copied, option_map, principal_names, resource_names, ty_of, type_name, uid_loc, uid_of, uid_type_loc};
     ghost use Rattle.cedar_schema_elements.specs.ActionKind.{plain_kind};
     ghost use Rattle.cedar_schema_elements.specs.ValidatorActionId.{name_loc};
 
@@ -137,8 +137,36 @@ impl ValidatorActionId {
     {
         let principals = type_set(alloc, principals)?;
         let resources = type_set(alloc, resources)?;
+        let applies_to = ValidatorApplySpec::new(principals, resources);
+        Self::for_requests(alloc, name, applies_to, descendants, context, loc)
+    }
+
+    /// An action that is for these requests, whose context is of this type. The descendants have to
+    /// come to an end. Out of memory is the only refusal.
+    pub fn for_requests<D: IntoIterator<Item = EntityUID> + Drop>(
+        alloc: Global,
+        name: EntityUID,
+        applies_to: ValidatorApplySpec<EntityType>,
+        descendants: D,
+        context: Type,
+        loc: Option<Loc>,
+    ) -> M<Self>
+        requires { IsFiniteIterable D.into_iter_gives D.IntoIter.can_next
+            D.IntoIter.remaining descendants }
+        ensures uid { IfOk result (λ action. (action_of action).uid ≡ uid_of name) }
+        ensures name_loc { IfOk result (λ action. name_loc action ≡ uid_loc name) }
+        ensures name_type_loc { IfOk result (λ action. name_type_loc action ≡ uid_type_loc name) }
+        ensures kind { IfOk result (λ action. (action_of action).kind
+            ≡ defined_action (principal_names applies_to) (resource_names applies_to)
+            (ty_of context)) }
+        ensures borrowed { IfOk result (λ action. context_of action ≡ Some context) }
+        ensures descendants { IfOk result (λ action.
+            HoldsOfAll D.into_iter_gives D.IntoIter.next_gives descendants
+            (λ xs. SameItems (action_of action).descendants (map uid_of xs))) }
+        ensures loc { IfOk result (λ action. action_loc action ≡ loc) }
+    {
         let kind = ValidatorActionKind::Defined {
-            applies_to: Rc::new(alloc, ValidatorApplySpec::new(principals, resources))?,
+            applies_to: Rc::new(alloc, applies_to)?,
             context,
         };
         Self::with_kind(alloc, name, descendants, kind, loc)

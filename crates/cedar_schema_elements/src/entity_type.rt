@@ -35,8 +35,8 @@ pub struct ValidatorEntityType {
 }
 
 impl ValidatorEntityType {
-    ghost use Rattle.std.specs.Prelude.{◌≡◌, ◌↔◌, ◌∷◌, map, IsTrue, IfOk, Contains};
-    ghost use Rattle.cedar_schema_elements.specs.Words.{HoldsOfAll, IsEnumerated, IsFiniteIterable, SameItems, Text, attribute_of, attributes_of, descendant_names, eid_text, entity_type_of, enumerated_kind, external_kind, field_at, fields_of, kind_fields, kind_openness, kind_tags, located, located_at, name_loc, option_copied, option_map, standard_kind, tags_of, ty_of, type_loc, type_name};
+    ghost use Rattle.std.specs.Prelude.{◌≡◌, ◌↔◌, [], ◌∷◌, map, IsTrue, IfOk, Contains};
+    ghost use Rattle.cedar_schema_elements.specs.Words.{HoldsOfAll, IsEnumerated, IsFiniteIterable, SameItems, Text, attribute_of, attributes_of, descendant_names, eid_text, entity_type_of, enumerated_kind, external_kind, field_at, field_names, fields_of, kind_fields, kind_openness, kind_tags, located, located_at, name_loc, option_copied, option_map, standard_kind, tags_of, ty_of, type_loc, type_name};
 
     /// An entity type of some kind. The descendants have to come to an end.
     fn with_kind<I: IntoIterator<Item = EntityType>>(
@@ -94,6 +94,39 @@ impl ValidatorEntityType {
         let kind = StandardValidatorEntityType::new(attributes, open_attributes, tags);
         let kind = ValidatorEntityTypeKind::Standard(kind);
         Self::with_kind(alloc, name, descendants, kind, loc)
+    }
+
+    /// A standard entity type, as [`ValidatorEntityType::new_standard`] makes it, without
+    /// descendants. Of what an entity type without attributes lends it is given its share, which
+    /// has no attributes, so that it takes no memory.
+    pub fn new_standard_sharing(
+        alloc: Global,
+        name: EntityType,
+        attributes: Attributes,
+        open_attributes: OpenTag,
+        tags: Option<Type>,
+        no_attributes: Attributes,
+        loc: Option<Loc>,
+    ) -> Self
+        requires { field_names (fields_of no_attributes) ≡ [] }
+        ensures name { (entity_type_of result).name ≡ type_name name }
+        ensures name_loc { name_loc result ≡ type_loc name }
+        ensures kind { (entity_type_of result).kind
+            ≡ standard_kind (fields_of attributes) open_attributes (option_map ty_of tags) }
+        ensures attributes { attributes_of result ≡ attributes }
+        ensures tags { tags_of result ≡ tags }
+        ensures descendants { descendant_names result ≡ [] }
+        ensures loc { result.loc ≡ loc }
+    {
+        let standard = StandardValidatorEntityType::new(attributes, open_attributes, tags);
+        ValidatorEntityType {
+            name,
+            descendants: HashSet::new(alloc),
+            kind: ValidatorEntityTypeKind::Standard(standard),
+            loc,
+            no_attributes,
+            alloc,
+        }
     }
 
     /// An enumerated entity type, whose only entities have these ids. The descendants have to come

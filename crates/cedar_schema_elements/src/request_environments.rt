@@ -1,7 +1,7 @@
 //! The environments of the requests that the actions of a schema are for.
 
-ghost use Rattle.std.specs.Prelude.{◌≡◌, ◌≢◌, ◌++◌, AllPairs, IfOk, List, OnOk, map};
-ghost use Rattle.cedar_schema_elements.specs.Words.{ActionEntity, AreEnvironmentsOf, PlainName, SchemaEntityType, action_of, kind_resources, owned_environment, schema_with, shared_name, ty_of, type_name, uid_of, with_principals, with_resources};
+ghost use Rattle.std.specs.Prelude.{◌≡◌, ◌++◌, IfOk, List, OnOk, map};
+ghost use Rattle.cedar_schema_elements.specs.Words.{ActionEntity, AreEnvironmentsOf, PlainName, SchemaEntityType, owned_environment, schema_with, shared_name, ty_of, type_name, uid_of, with_principals, with_resources};
 
 use crate::action_id::ValidatorActionId;
 use crate::request_env::UnlinkedRequestEnv;
@@ -17,57 +17,50 @@ use std::rc::Rc;
 struct Requests {
     /// The action.
     action: Rc<EntityUID>,
-    /// The types of the resources.
-    resources: Vec<Rc<EntityType>>,
     /// The type of the context.
     context: Rc<Type>,
 }
 
-/// Some entity types, each shared, in their order.
-fn shared_types(alloc: Global, types: hash_set::Iter<'_, EntityType>) -> M<Vec<Rc<EntityType>>>
-    ensures { IfOk result (λ shared. map shared_name shared.items ≡ map type_name types.entry) }
+/// Puts some entity types in place of those that are listed, each shared, in their order.
+fn share_types(
+    alloc: Global,
+    shared: &mut Vec<Rc<EntityType>>,
+    types: hash_set::Iter<'_, EntityType>,
+) -> M<()>
+    ensures { OnOk result (map shared_name shared.new.items ≡ map type_name types.entry) }
 {
-    let mut shared = Vec::new(alloc);
+    shared.clear();
     for ty in types {
         shared.push(Rc::new(alloc, ty.clone()?)?)?;
     }
-    Ok(shared)
+    Ok(())
 }
 
-/// What the environments of an action share, where its context has this type.
-fn requests_of(
-    alloc: Global,
-    uid: &EntityUID,
-    action: &ValidatorActionId,
-    context: &Type,
-) -> M<Requests>
+/// What the environments of the action of a uid share, where its context has this type.
+fn requests_of(alloc: Global, uid: &EntityUID, context: &Type) -> M<Requests>
     ensures action { IfOk result (λ requests. uid_of requests.action.value ≡ uid_of uid.now) }
-    ensures resources { IfOk result (λ requests.
-        map shared_name requests.resources.items ≡ kind_resources (action_of action.now).kind) }
     ensures context { IfOk result (λ requests. ty_of requests.context.value ≡ ty_of context.now) }
-    ensures once { OnOk result (AllPairs (λ a b.
-        a ≢ b) (kind_resources (action_of action.now).kind)) }
 {
     Ok(Requests {
         action: Rc::new(alloc, uid.clone()?)?,
-        resources: shared_types(alloc, action.resources())?,
         context: Rc::new(alloc, context.clone()?)?,
     })
 }
 
-/// Adds the environments of a principal with each resource of an action.
+/// Adds the environments of a principal with each of these resources of an action.
 fn add_resources(
     environments: &mut Vec<UnlinkedRequestEnv>,
     requests: &Requests,
     principal: &Rc<EntityType>,
+    resources: &[Rc<EntityType>],
 ) -> M<()>
     ensures { OnOk result (map owned_environment environments.new.items
         ≡ map owned_environment environments.old.items
         ++ with_resources (uid_of requests.now.action.value) (ty_of requests.now.context.value)
         (shared_name principal.now)
-        (map shared_name requests.now.resources.items)) }
+        (map shared_name resources.now)) }
 {
-    for resource in &requests.resources {
+    for resource in resources {
         environments.push(UnlinkedRequestEnv {
             principal: principal.clone()?,
             action: requests.action.clone()?,
@@ -78,22 +71,24 @@ fn add_resources(
     Ok(())
 }
 
-/// Adds the environments of each principal of an action with each of its resources, each once.
+/// Adds the environments of each of these principals of an action with each of these resources,
+/// each once.
 fn add_principals(
     alloc: Global,
     environments: &mut Vec<UnlinkedRequestEnv>,
     requests: &Requests,
     principals: hash_set::Iter<'_, EntityType>,
+    resources: &[Rc<EntityType>],
 ) -> M<()>
     ensures { OnOk result (map owned_environment environments.new.items
         ≡ map owned_environment environments.old.items
         ++ with_principals (uid_of requests.now.action.value) (ty_of requests.now.context.value)
         (map type_name principals.entry)
-        (map shared_name requests.now.resources.items)) }
+        (map shared_name resources.now)) }
 {
     for principal in principals {
         let principal = Rc::new(alloc, principal.clone()?)?;
-        add_resources(environments, requests, &principal)?;
+        add_resources(environments, requests, &principal, resources)?;
     }
     Ok(())
 }
@@ -111,11 +106,14 @@ pub fn environments(
         → AreEnvironmentsOf (schema_with types actions.now.entries entities)
         (map owned_environment environments.items)) }
 {
-    let mut environments = Vec::new(alloc);
+    let mut environments = Vec::with_capacity(alloc, actions.len())?;
+    let mut resources = Vec::new(alloc);
     for (uid, action) in actions {
         if let Some(context) = action.context() {
-            let requests = requests_of(alloc, uid, action, context)?;
-            add_principals(alloc, &mut environments, &requests, action.principals())?;
+            let requests = requests_of(alloc, uid, context)?;
+            share_types(alloc, &mut resources, action.resources())?;
+            let principals = action.principals();
+            add_principals(alloc, &mut environments, &requests, principals, &resources)?;
         }
     }
     Ok(environments)

@@ -117,11 +117,13 @@ impl AttributeType {
 }
 
 impl Attributes {
-    /// The attributes of these pairs. Of repeated names the last wins.
-    fn from_entries(alloc: Global, entries: Vec<(String, AttributeType)>) -> M<Self>
+    /// The attributes of these names, with their locations, in whatever order. Of repeated names the
+    /// last wins. The list becomes that of the attributes. Out of memory is the only refusal.
+    pub fn from_entries(alloc: Global, entries: Vec<(String, AttributeType)>) -> M<Self>
         ensures attributes { IfOk result (λ all.
             HoldsLast (plain_attributes entries.items) (fields_of all)) }
         ensures located { IfOk result (λ all. KeepsLast (located_attributes entries.items) all) }
+        ensures sorted_by_name { IfOk result (λ all. IsSortedByName (fields_of all)) }
     {
         Ok(Attributes {
             attrs: Rc::new(alloc, ByName::from_entries(entries)?)?,

@@ -26,6 +26,17 @@ fn view(alloc: Global) -> Result<ValidatorActionId, Fail> {
     )?)
 }
 
+/// The action `view`, made of what it applies to.
+fn view_of_requests(alloc: Global) -> Result<ValidatorActionId, Fail> {
+    let principals = HashSet::from_iter(alloc, entity_types(alloc, &["Admin", "User"])?)?;
+    let resources = HashSet::from_iter(alloc, entity_types(alloc, &["Photo"])?)?;
+    let requests = ValidatorApplySpec::new(principals, resources);
+    let name = uid(alloc, "Action", "view")?;
+    let below = vec![in alloc; uid(alloc, "Action", "peek")?]?;
+    let place = Some(PLACE);
+    Ok(ValidatorActionId::for_requests(alloc, name, requests, below, Type::Long, place)?)
+}
+
 /// The external action `look`, above `peek`.
 fn external(alloc: Global) -> Result<ValidatorActionId, Fail> {
     let name = uid(alloc, "Action", "look")?;
@@ -66,6 +77,13 @@ fn copies_of_actions_are_equal(rt: HostRuntime) -> Result<(), Fail> {
         holds(is_copied(alloc, word, principals)?, word)?;
     }
     Ok(())
+}
+
+#[test]
+fn actions_are_made_of_what_they_apply_to(rt: HostRuntime) -> Result<(), Fail> {
+    let alloc = rt.alloc();
+    let (view, same) = (view(alloc)?, view_of_requests(alloc)?);
+    holds(are_alike(&view, &same, 2), "view")
 }
 
 #[test]

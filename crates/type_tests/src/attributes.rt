@@ -43,6 +43,18 @@ fn attribute(alloc: Global, name: &str, ty: Type) -> Result<(String, AttributeTy
     Ok((text(alloc, name)?, attribute))
 }
 
+#[test]
+fn a_list_becomes_attributes(rt: HostRuntime) -> Result<(), Fail> {
+    let alloc = rt.alloc();
+    let mut entries = Vec::new(alloc);
+    entries.push(attribute(alloc, "foo", Type::Long)?)?;
+    entries.push(attribute(alloc, "bar", Type::Long)?)?;
+    entries.push(attribute(alloc, "foo", Type::String)?)?;
+    let all = Attributes::from_entries(alloc, entries)?;
+    let shown = format!(in alloc; "{all}")?;
+    same("the attributes", shown.as_str(), "{bar: Long,foo: String,}")
+}
+
 /// The closed record type of numbers at `bar` and of the type of a word at `foo`, both declared at
 /// the place.
 fn located(alloc: Global, foo: &str) -> Result<Type, Fail> {

@@ -1,7 +1,7 @@
-use Rattle.std.proofs.Common.{map, inl, inr, refl}
+use Rattle.std.proofs.Common.{map, ap, inl, inr, refl}
 use Rattle.std.proofs.IntoIterSteps.{All-taken}
-use Rattle.cedar_builder.specs.Words.{Entity, action_of, fault_of, held_names, kind_principals, kind_resources, names_in, namespace_name, ty_of, type_expr, uid_of}
-use Rattle.cedar_builder.proofs.ActionsElaborated.{SameItems-none, kind_elaborated, named_by, principals_fault, resources_fault}
+use Rattle.cedar_builder.specs.Words.{Entity, action_of, fault_of, kind_context, names_in, namespace_name, ty_of, type_expr, uid_of}
+use Rattle.cedar_builder.proofs.ActionsElaborated.{SameItems-none, kind_elaborated, principals_fault, resources_fault}
 use Rattle.cedar_fragments.proofs.FragmentLemmas.{exit_holds}
 use Rattle.cedar_builder.proofs.action_requests.elaborated_definition.Goals as goal
 
@@ -45,23 +45,17 @@ returns-in_err-resources-clause-fault g c =
 pub returns-clause-elaborates : goal.returns-clause-elaborates
 returns-clause-elaborates g c =
     let refer = g.N.WrittenName.refer (namespace_name c.args.namespace) in
-    let held = held_names c.args.scope.now.defs.now in
-    let made = c.in_ok-new_defined in
+    let made = c.in_ok-for_requests in
     let it = c.args.requests.now in
-    let kind = (action_of made.field-0).kind in
+    let is = made.ensures.kind in
     let from = made.ensures.descendants in
-    let of_principals = made.ensures.principals in
-    let of_resources = made.ensures.resources in
-    let principals = map (refer Entity) it.principals.items in
-    let resources = map (refer Entity) it.resources.items in
     record {
       uid = made.ensures.uid;
-      kind = kind_elaborated c.args.scope.now principals resources (type_expr g.row.N.Denot refer it.context) (ty_of c.in_ok-context.context) kind
-          (named_by held principals c.in_ok-principals.principals.items (kind_principals kind) (rw c.deref.ensures.value at c.in_ok-principals.ensures.names)
-          (rw (All-taken of_principals.0 of_principals.1 of_principals.3, of_principals.2.0) at of_principals.4))
-          (named_by held resources c.in_ok-resources.resources.items (kind_resources kind) (rw c.deref-2.ensures.value at c.in_ok-resources.ensures.names)
-          (rw (All-taken of_resources.0 of_resources.1 of_resources.3, of_resources.2.0) at of_resources.4))
-          made.ensures.context c.in_ok-context.ensures.elaborates;
+      kind = kind_elaborated c.args.scope.now (map (refer Entity) it.principals.items) (map (refer Entity) it.resources.items)
+          (type_expr g.row.N.Denot refer it.context) (ty_of c.in_ok-context.context) (action_of made.field-0).kind
+          (rw (is, c.new-requests.ensures.principals, ← c.deref.ensures.value) c.in_ok-principals.ensures.names)
+          (rw (is, c.new-requests.ensures.resources, ← c.deref-2.ensures.value) c.in_ok-resources.ensures.names)
+          (ap kind_context is) c.in_ok-context.ensures.elaborates;
       no_descendants = SameItems-none (action_of made.field-0).descendants
           (rw (All-taken from.0 from.1 from.3, from.2.0, c.new-descendants.ensures.items) at from.4);
     }

@@ -1,7 +1,5 @@
 use Rattle.std.proofs.Common.{refl, inl, inr}
-use Rattle.std.proofs.IntoIterSteps.{All-taken}
-use Rattle.cedar_builder.specs.Words.{descendant_names, fields_of, namespace_name, type_expr}
-use Rattle.cedar_builder.proofs.EntityTypesElaborated.{SameItems-none}
+use Rattle.cedar_builder.specs.Words.{fields_of, namespace_name, type_expr}
 use Rattle.cedar_fragments.proofs.FragmentLemmas.{exit_holds}
 use Rattle.cedar_builder.proofs.entity_type_kinds.standard_type.Goals as goal
 
@@ -29,13 +27,11 @@ returns-in_err-tags-clause-fault g c =
 -- attributes and tags are elaborated, and there are no descendants yet
 pub returns-clause-elaborates : goal.returns-clause-elaborates
 returns-clause-elaborates g c = λ parents.
-    let made = c.in_ok-new_standard in
-    let from = made.ensures.descendants in
+    let made = c.new_standard_sharing in
     record {
       name = made.ensures.name;
       kind = rw made.ensures.kind (c.in_ok-attributes.ensures.elaborates, refl, c.in_ok-tags.ensures.elaborates);
-      no_descendants = SameItems-none (descendant_names made.field-0)
-          (rw (All-taken from.0 from.1 from.3, from.2.0, c.new-descendants.ensures.items) at from.4);
+      no_descendants = made.ensures.descendants;
     }
 
 -- attributes and tags are closed, and their extension types are in scope

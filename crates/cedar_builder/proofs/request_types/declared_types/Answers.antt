@@ -1,7 +1,9 @@
-use Rattle.std.proofs.Common.{◌≡◌, ◌+◌, ◌++◌, [], ◌∷◌, map, take, ap, ◌∙◌, inr}
+use Rattle.std.proofs.Common.{◌≡◌, ◌+◌, ◌++◌, [], ◌∷◌, map, take, inr}
 use Rattle.std.proofs.lemmas.List.{map-append, take_all}
 use Rattle.cedar_builder.specs.Words.{Entity, held_names, names_in, namespace_name, type_name}
 use Rattle.cedar_declarations.proofs.OccurrenceLemmas.{Contains-image}
+use Rattle.cedar_schema_elements.proofs.NamedTypes.{alike_names}
+use Rattle.cedar_builder.proofs.ActionsElaborated.{named_by}
 use Rattle.cedar_builder.proofs.NodeEdges.{item_among, map_item}
 use Rattle.cedar_builder.proofs.RequestTypes.{named_more, placed_more}
 use Rattle.cedar_fragments.proofs.FragmentLemmas.{exit_holds}
@@ -13,7 +15,7 @@ returns-in_err-declared_type-clause-fault g c =
     let refer = g.N.WrittenName.refer (namespace_name c.args.namespace) Entity in
     let names = c.args.names.now in
     let name = c.name-item.result in
-    exit_holds _ _ _ c.from_residual-in_err-declared_type.ensures.1
+    exit_holds _ _ _ c.from_residual.ensures.1
     (inr (
       refer name,
       Contains-image refer names name
@@ -33,13 +35,15 @@ loop-name-preserved g c =
     let types = names_in c.args.entity_types.now in
     let more : so_far ++ refer name ∷ [] ≡ map refer (take (index + 1) names) =
     map_item refer names index name c.loop-name-test.true c.name-item.is in
-    let found =
-    ap (map type_name) c.in_ok-push.ensures.items ∙ map-append type_name c.loop-name.types.items (c.in_ok-declared_type.field-0 ∷ []) in
+    let found = c.in_ok-declared_type.field-0 in
+    let old = c.loop-name.types.keys in
+    let alike = alike_names old c.insert.new.self.keys found c.in_ok-insert.ensures.updates.0 in
     let resolves = c.in_ok-declared_type.ensures.name.1 in (
-      rw (found, ← more)
-          (named_more held so_far (refer name) (type_name c.in_ok-declared_type.field-0) resolves (map type_name c.loop-name.types.items) c.loop-name.invariant.0),
+      rw (← more) (named_by held (so_far ++ refer name ∷ []) (old ++ found ∷ []) (map type_name c.insert.new.self.keys)
+          (rw (map-append type_name old (found ∷ []))
+          (named_more held so_far (refer name) (type_name found) resolves (map type_name old) c.loop-name.invariant.0)) alike),
       rw (← more)
-          (placed_more held so_far (refer name) (type_name c.in_ok-declared_type.field-0) resolves types c.loop-name.invariant.1 c.in_ok-declared_type.ensures.declared),
+          (placed_more held so_far (refer name) (type_name found) resolves types c.loop-name.invariant.1 c.in_ok-declared_type.ensures.declared),
     )
 
 -- at the end all are

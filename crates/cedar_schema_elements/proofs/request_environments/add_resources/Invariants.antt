@@ -6,4 +6,4 @@ abbrev pub invariant-loop-resource : goal.invariant-loop-resource
 invariant-loop-resource l =
     map owned_environment l.environments.items ≡ map owned_environment l.initial.environments.items
     ++ with_resources (uid_of l.requests.action.value) (ty_of l.requests.context.value) (shared_name l.principal)
-    (map shared_name (take l.resource-index l.resource-items))
+    (map shared_name (take l.resource-index l.resources))

@@ -10,7 +10,7 @@ pub loop-uid-init : goal.loop-uid-init
 loop-uid-init c =
     given_none environments_under under [] (map plain_action_entry c.args.actions.now.entries) _ _
     (ap (map plain_action_entry) c.into_iter-uid-iterator.ensures.into_iter_gives.0)
-    (ap (map owned_environment) c.new-environments.ensures.items)
+    (ap (map owned_environment) c.in_ok-environments.ensures.items)
     (uids_once c.args.actions.now.entries c.into_iter-uid-iterator.ensures.into_iter_gives.1)
 
 -- an action that is defined gives each pair of its principals and resources
@@ -21,16 +21,16 @@ loop-uid-preserved-in-Some-context c =
     let context = ty_of c.in-Some-context.context.now in
     let all = with_context uid kind context c.in-Some-context.ensures.ty in
     let same : with_principals (uid_of c.in_ok-requests.requests.action.value) (ty_of c.in_ok-requests.requests.context.value)
-    (map type_name c.principals.result) (map shared_name c.in_ok-requests.requests.resources.items)
+    (map type_name c.principals-principals.result) (map shared_name c.deref.result.now)
     ≡ with_principals uid context (kind_principals kind) (kind_resources kind) =
-    λ i. with_principals (c.in_ok-requests.ensures.action i) (c.in_ok-requests.ensures.context i) (c.principals.ensures.names i)
-    (c.in_ok-requests.ensures.resources i) in
+    λ i. with_principals (c.in_ok-requests.ensures.action i) (c.in_ok-requests.ensures.context i) (c.principals-principals.ensures.names i)
+    ((ap (map shared_name) c.deref.ensures.value ∙ (c.in_ok-share_types.ensures ∙ c.resources.ensures.names)) i) in
     let AreOnce : List Environment → Type 0 = λ items. (it : Environment) → ¬ Twice items it in
     given_more environments_under under [] (map plain_action_entry c.args.actions.now.entries) (λ it. it.action) of_action _ _ _ _
     (plain_action_entry (c.in-Some.uid.now, c.in-Some.action.now)) (ap (map plain_action_entry) c.in-Some.ensures.steps)
     (c.in_ok-add_principals.ensures ∙ ap (λ items. map owned_environment c.loop-uid.environments.items ++ items) (same ∙ sym all))
-    (subst AreOnce (sym all) (pairs_once uid context (kind_principals kind) (kind_resources kind) c.principals.ensures.once
-    c.in_ok-requests.ensures.once)) c.loop-uid.invariant
+    (subst AreOnce (sym all) (pairs_once uid context (kind_principals kind) (kind_resources kind) c.principals-principals.ensures.once
+    c.resources.ensures.once)) c.loop-uid.invariant
 
 -- an action that isn't defined gives none
 pub loop-uid-preserved : goal.loop-uid-preserved

@@ -6,15 +6,15 @@ use Rattle.cedar_schema_elements.proofs.action_id.ValidatorActionId.new_defined.
 pub returns-clause-principals : goal.returns-clause-principals
 returns-clause-principals g c =
     let found = c.in_ok-principals.ensures in
-    let named : SameItems (principal_names c.in_ok-new.field-0.value) (map type_name found.1) =
-    rw (c.in_ok-new.ensures.ok, c.new.ensures.principals) found.4 in
-    IfOk-weaker c.with_kind.result _ _ (λ action is. (found.0, found.1, found.2, found.3, rw is named))
-    c.with_kind.ensures.kind
+    let named : SameItems (principal_names c.new-applies_to.result) (map type_name found.1) =
+    rw c.new-applies_to.ensures.principals found.4 in
+    IfOk-weaker c.for_requests.result _ _ (λ action is. (found.0, found.1, found.2, found.3, rw is named))
+    c.for_requests.ensures.kind
 
 pub returns-clause-resources : goal.returns-clause-resources
 returns-clause-resources g c =
     let found = c.in_ok-resources.ensures in
-    let named : SameItems (resource_names c.in_ok-new.field-0.value) (map type_name found.1) =
-    rw (c.in_ok-new.ensures.ok, c.new.ensures.resources) found.4 in
-    IfOk-weaker c.with_kind.result _ _ (λ action is. (found.0, found.1, found.2, found.3, rw is named))
-    c.with_kind.ensures.kind
+    let named : SameItems (resource_names c.new-applies_to.result) (map type_name found.1) =
+    rw c.new-applies_to.ensures.resources found.4 in
+    IfOk-weaker c.for_requests.result _ _ (λ action is. (found.0, found.1, found.2, found.3, rw is named))
+    c.for_requests.ensures.kind

@@ -1,11 +1,12 @@
 use Rattle.std.proofs.Common.{sym, ◌∙◌, ap, rules}
-use Rattle.std.proofs.IntoIterSteps.{All-taken}
 use Rattle.cedar_types.proofs.MemberParts.{ty_of-record}
-use Rattle.cedar_elaboration.specs.Words.{ClosedAttributes, as_long, as_text, as_truth, fields_of, namespace_name, out-TypeOfAttribute, record_type_expr, set_expr, set_of, ty_of, type_expr, unreserved_id_text, variant_expr}
+use Rattle.cedar_elaboration.specs.Words.{ClosedAttributes, as_long, as_text, as_truth, fields_of, namespace_name, record_type_expr, set_expr, ty_of, type_expr, unreserved_id_text, variant_expr}
 use Rattle.cedar_elaboration.proofs.ScopeLemmas.{ElaboratesTo-as, set_elaborated, fault_of_set, elaborates_as, extension_elaborated, extensions_as, memory_refused}
 use Rattle.cedar_elaboration.proofs.RecordLemmas.{ElaboratedSoFar-none, ElaboratedSoFar-more, fault_of_next, record_elaborated, record_closed, record_extensions, record_open}
-use Rattle.cedar_names.proofs.VariantLemmas.{variant-String, variant-Long, variant-Boolean, variant-Set, variant-Record, variant-Extension}
-use Rattle.cedar_elaboration.proofs.elaborating.+elaborate_type.Goals as goal
+use Rattle.cedar_elaboration.proofs.PrimitiveLemmas.{primitive_closed, primitive_elaborated, primitive_extensions}
+use Rattle.cedar_elaboration.proofs.elaborating.+elaborate_variant.Goals.{elaborate_shared-in-Plain+in_default+in_ok-made-in-Plain, elaborate_shared-in-CommonTypeRef+in_ok-made-in-CommonTypeRef}
+use Rattle.cedar_names.proofs.VariantLemmas.{type-CommonTypeRef, type-Plain, variant-String, variant-Long, variant-Boolean, variant-Set, variant-Record, variant-Extension}
+use Rattle.cedar_elaboration.proofs.elaborating.+elaborate_variant.Goals as goal
 
 -- the primitive types are elaborated as themselves
 pub elaborate_variant-returns-in-String-clause-elaborates : goal.elaborate_variant-returns-in-String-clause-elaborates
@@ -27,24 +28,23 @@ elaborate_variant-returns-in-Boolean-clause-elaborates g t c defined knows =
     ElaboratesTo-as defined (ap (variant_expr N refer) c.in-Boolean.is ∙ variant-Boolean N refer) c.primitive_boolean.ensures as_truth
 
 -- a set is elaborated with the type of its elements
-pub elaborate_variant-returns-in_ok-new-in-Set-clause-elaborates : goal.elaborate_variant-returns-in_ok-new-in-Set-clause-elaborates
-elaborate_variant-returns-in_ok-new-in-Set-clause-elaborates g t c =
+pub elaborate_variant-returns-in_ok-elaborate_shared-in-Set-clause-elaborates : goal.elaborate_variant-returns-in_ok-elaborate_shared-in-Set-clause-elaborates
+elaborate_variant-returns-in_ok-elaborate_shared-in-Set-clause-elaborates g t c =
     let N = g.row.N.Denot in
     let refer = g.N.WrittenName.refer (namespace_name c.args.namespace) in
     set_elaborated c.args.scope.now (variant_expr N refer c.args.ty.now) (type_expr N refer c.deref.result.now)
-    (ty_of c.set.result) (ty_of c.in_ok-element-in-Set.element)
+    (ty_of c.set.result) (ty_of c.in_ok-elaborate_shared-in-Set.field-0.value)
     (ap (variant_expr N refer) c.in-Set.is ∙ (variant-Set N refer c.in-Set.element ∙ ap (λ ty. set_expr (type_expr N refer ty)) (sym c.deref.ensures)))
-    (c.set.ensures ∙ ap (λ ty. set_of (ty_of ty)) c.in_ok-new-in-Set.ensures.ok)
-    c.in_ok-element-in-Set.ensures.elaborates
+    c.set.ensures c.in_ok-elaborate_shared-in-Set.ensures.elaborates
 
 -- what is refused of the elements is refused of the set
-pub elaborate_variant-returns-in_err-element-in-Set-clause-fault : goal.elaborate_variant-returns-in_err-element-in-Set-clause-fault
-elaborate_variant-returns-in_err-element-in-Set-clause-fault g t c =
+pub elaborate_variant-returns-in_err-elaborate_shared-in-Set-clause-fault : goal.elaborate_variant-returns-in_err-elaborate_shared-in-Set-clause-fault
+elaborate_variant-returns-in_err-elaborate_shared-in-Set-clause-fault g t c =
     let N = g.row.N.Denot in
     let refer = g.N.WrittenName.refer (namespace_name c.args.namespace) in
     let at_fault = fault_of_set c.args.scope.now (variant_expr N refer c.args.ty.now) (type_expr N refer c.deref.result.now) _
     (ap (variant_expr N refer) c.in-Set.is ∙ (variant-Set N refer c.in-Set.element ∙ ap (λ ty. set_expr (type_expr N refer ty)) (sym c.deref.ensures)))
-    c.in_err-element-in-Set.ensures.fault in
+    c.in_err-elaborate_shared-in-Set.ensures.fault in
     search (rules, at_fault)
 
 -- an extension type is elaborated as itself
@@ -65,13 +65,13 @@ elaborate_attributes-loop-name-init g t c =
     (sym c.into_iter-name-iterator.ensures.into_iter_gives.0) c.in_ok-attributes.ensures.items
 
 -- the refusal of an attribute is that of its record
-pub elaborate_attributes-returns-in_err-elaborate_type-clause-fault : goal.elaborate_attributes-returns-in_err-elaborate_type-clause-fault
-elaborate_attributes-returns-in_err-elaborate_type-clause-fault g t c =
+pub elaborate_attributes-returns-in_err-ty-clause-fault : goal.elaborate_attributes-returns-in_err-ty-clause-fault
+elaborate_attributes-returns-in_err-ty-clause-fault g t c =
     let N = g.row.N.Denot in
     let refer = g.N.WrittenName.refer (namespace_name c.args.namespace) in
     let at_fault = fault_of_next N refer c.args.scope.now c.args.record_type.now c.loop-name.name-iterator c.next.new.self
     c.loop-name.attributes.items c.in-Some.name.now c.in-Some.attribute.now c.in-Some.ensures.steps c.loop-name.invariant
-    _ c.in_err-elaborate_type.ensures.fault in
+    _ c.in_err-ty.ensures.fault in
     search (rules, at_fault)
 
 -- one more attribute is elaborated
@@ -82,20 +82,18 @@ elaborate_attributes-loop-name-preserved g t c =
     rw c.in_ok-push.ensures.items
     (ElaboratedSoFar-more N refer c.args.scope.now c.args.record_type.now c.loop-name.name-iterator c.next.new.self
     c.loop-name.attributes.items c.in-Some.name.now c.in-Some.attribute.now c.in-Some.ensures.steps c.loop-name.invariant
-    c.in_ok-clone.field-0 c.new_with_loc-declared.result (ty_of c.in_ok-elaborate_type.field-0) c.in_ok-clone.ensures.cases
-    (c.new_with_loc-declared.ensures.attribute
-    ∙ ap (λ ty. ((out-TypeOfAttribute N c.in-Some.attribute.now).required, ty_of ty)) c.in_ok-ty.ensures.ok)
-    c.in_ok-elaborate_type.ensures.elaborates c.in_ok-elaborate_type.ensures.closed c.in_ok-elaborate_type.ensures.extensions)
+    c.in_ok-clone.field-0 c.new_with_loc-declared.result (ty_of c.in_ok-ty.ty.value) c.in_ok-clone.ensures.cases
+    c.new_with_loc-declared.ensures.attribute c.in_ok-ty.ensures.elaborates c.in_ok-ty.ensures.closed c.in_ok-ty.ensures.extensions)
 
 -- at the end the record type is elaborated
 pub elaborate_attributes-returns-clause-elaborates : goal.elaborate_attributes-returns-clause-elaborates
 elaborate_attributes-returns-clause-elaborates g t c =
     let N = g.row.N.Denot in
     let refer = g.N.WrittenName.refer (namespace_name c.args.namespace) in
-    let made = c.in_ok-with_attributes.ensures.attributes in
+    let made = c.in_ok-from_entries.ensures in
     record_elaborated N refer c.args.scope.now c.args.record_type.now c.loop-name.attributes.items c.loop-name.name-iterator
-    c.in-None.ensures.steps.0 c.loop-name.invariant (fields_of c.in_ok-with_attributes.field-0) c.len.ensures.ordered
-    (rw (All-taken made.0 made.1 made.3, made.2.0) at made.4.0) c.in_ok-with_attributes.ensures.sorted_by_name
+    c.in-None.ensures.steps.0 c.loop-name.invariant (fields_of c.in_ok-from_entries.field-0) c.len.ensures.ordered
+    made.attributes made.sorted_by_name
 
 -- it has no open record
 pub elaborate_attributes-returns-clause-closed : goal.elaborate_attributes-returns-clause-closed
@@ -122,14 +120,6 @@ elaborate_attributes-returns-then-record_type-clause-fault g t c =
     record_open N refer c.args.scope.now c.args.record_type.now c.if-record_type.true
 
 -- memory that runs out is a refusal
-pub elaborate_attributes-returns-in_err-ty-clause-fault :
-    goal.elaborate_attributes-returns-in_err-ty-clause-fault
-elaborate_attributes-returns-in_err-ty-clause-fault g t c =
-    let N = g.row.N.Denot in
-    let refer = g.N.WrittenName.refer (namespace_name c.args.namespace) in
-    let wanting = memory_refused c.args.scope.now (record_type_expr N refer c.args.record_type.now) in
-    search (rules, wanting)
-
 pub elaborate_attributes-returns-in_err-push-clause-fault :
     goal.elaborate_attributes-returns-in_err-push-clause-fault
 elaborate_attributes-returns-in_err-push-clause-fault g t c =
@@ -161,14 +151,14 @@ elaborate_variant-returns-in-Boolean-clause-extensions g t c =
     extensions_as c.args.scope.now (ap (variant_expr N refer) c.in-Boolean.is ∙ variant-Boolean N refer) (λ word mentions. absurd mentions)
 
 -- a set has the extension types of its elements
-pub elaborate_variant-returns-in_ok-new-in-Set-clause-extensions :
-    goal.elaborate_variant-returns-in_ok-new-in-Set-clause-extensions
-elaborate_variant-returns-in_ok-new-in-Set-clause-extensions g t c =
+pub elaborate_variant-returns-in_ok-elaborate_shared-in-Set-clause-extensions :
+    goal.elaborate_variant-returns-in_ok-elaborate_shared-in-Set-clause-extensions
+elaborate_variant-returns-in_ok-elaborate_shared-in-Set-clause-extensions g t c =
     let N = g.row.N.Denot in
     let refer = g.N.WrittenName.refer (namespace_name c.args.namespace) in
     extensions_as c.args.scope.now
     (ap (variant_expr N refer) c.in-Set.is ∙ (variant-Set N refer c.in-Set.element ∙ ap (λ ty. set_expr (type_expr N refer ty)) (sym c.deref.ensures)))
-    c.in_ok-element-in-Set.ensures.extensions
+    c.in_ok-elaborate_shared-in-Set.ensures.extensions
 
 -- a record is elaborated with its attributes
 pub elaborate_variant-returns-in_ok-elaborate_attributes-in-Record-clause-elaborates :
@@ -187,3 +177,39 @@ elaborate_variant-returns-in_ok-elaborate_attributes-in-Record-clause-extensions
     let refer = g.N.WrittenName.refer (namespace_name c.args.namespace) in
     extensions_as c.args.scope.now (ap (variant_expr N refer) c.in-Record.is ∙ variant-Record N refer _)
     c.in_ok-elaborate_attributes-in-Record.ensures.extensions
+
+-- a primitive type is elaborated as itself, and shared
+pub elaborate_shared-returns-in-Some-clause-elaborates : goal.elaborate_shared-returns-in-Some-clause-elaborates
+elaborate_shared-returns-in-Some-clause-elaborates g t c =
+    let N = g.row.N.Denot in
+    let refer = g.N.WrittenName.refer (namespace_name c.args.namespace) in
+    rw c.in_ok-clone-in-Plain.ensures.cases
+    (elaborates_as c.args.scope.now _ (ap (type_expr N refer) c.in-Plain.is ∙ type-Plain N refer _ _)
+    (primitive_elaborated c.args.scope.now (c.in-Some.ensures refer)))
+
+pub elaborate_shared-returns-in-Some-clause-closed : goal.elaborate_shared-returns-in-Some-clause-closed
+elaborate_shared-returns-in-Some-clause-closed g t c holds =
+    let N = g.row.N.Denot in
+    let refer = g.N.WrittenName.refer (namespace_name c.args.namespace) in
+    primitive_closed (c.in-Some.ensures refer) (rw (c.in-Plain.is, type-Plain N refer _ _) at holds)
+
+pub elaborate_shared-returns-in-Some-clause-extensions : goal.elaborate_shared-returns-in-Some-clause-extensions
+elaborate_shared-returns-in-Some-clause-extensions g t c =
+    let N = g.row.N.Denot in
+    let refer = g.N.WrittenName.refer (namespace_name c.args.namespace) in
+    extensions_as c.args.scope.now (ap (type_expr N refer) c.in-Plain.is ∙ type-Plain N refer _ _)
+    (primitive_extensions c.args.scope.now (c.in-Some.ensures refer))
+
+-- any other has the extension types of what it is
+pub elaborate_shared-returns-clause-extensions : goal.elaborate_shared-returns-clause-extensions
+elaborate_shared-returns-clause-extensions g t c =
+    let N = g.row.N.Denot in
+    let refer = g.N.WrittenName.refer (namespace_name c.args.namespace) in
+    elim c.match-ty.branch [
+      | elaborate_shared-in-Plain+in_default+in_ok-made-in-Plain w ↦
+          extensions_as c.args.scope.now (ap (type_expr N refer) w.in-Plain.is ∙ type-Plain N refer _ _)
+          w.in_ok-made-in-Plain.ensures.extensions
+      | elaborate_shared-in-CommonTypeRef+in_ok-made-in-CommonTypeRef w ↦
+          extensions_as c.args.scope.now (ap (type_expr N refer) w.in-CommonTypeRef.is ∙ type-CommonTypeRef N refer _ _)
+          (λ word mentions. absurd mentions)
+    ]

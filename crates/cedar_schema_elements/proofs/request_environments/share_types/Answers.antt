@@ -1,10 +1,10 @@
 use Rattle.std.proofs.Common.{◌++◌, map, ap, ◌∙◌}
 use Rattle.cedar_schema_elements.specs.Words.{shared_name, type_name}
 use Rattle.cedar_schema_elements.proofs.EnvironmentLemmas.{shared_all, shared_more}
-use Rattle.cedar_schema_elements.proofs.request_environments.shared_types.Goals as goal
+use Rattle.cedar_schema_elements.proofs.request_environments.share_types.Goals as goal
 
 pub loop-ty-init : goal.loop-ty-init
-loop-ty-init c = λ i. map shared_name (c.new-shared.ensures.items i) ++ map type_name (c.into_iter-ty-iterator.ensures.into_iter_gives i)
+loop-ty-init c = λ i. map shared_name (c.clear.ensures.items i) ++ map type_name (c.into_iter-ty-iterator.ensures.into_iter_gives i)
 
 pub loop-ty-preserved : goal.loop-ty-preserved
 loop-ty-preserved c =
