@@ -9,6 +9,8 @@ pub mod ListLemmas
 pub mod MapLemmas
 pub mod NameLemmas
 pub mod NumberLemmas
+pub mod ReadLemmas
+pub mod TableLemmas
 pub mod TakenLemmas
 pub mod TypeLemmas
 pub mod TypeMarkLemmas

@@ -1,5 +1,5 @@
 -- The definition of types by look-ups.
-use Rattle.std.proofs.Common.{◌≡◌, ℕ, ◌+◌, ◌<◌, ◌≤◌, length, drop, drop_of_length-le, get_or, BTreeMap, List, [], ◌∷◌, Bool, true, false, cond, Option, Some, None, Result, Ok, Err, MatchResult, ◌≢◌, subst, option_map, option_and_then, codes, string_bytes, string_cmp, Bor, String, Global, refl, ap, ap₂, sym, ◌∙◌}
+use Rattle.std.proofs.Common.{◌≡◌, ℕ, ◌+◌, ◌<◌, ◌≤◌, length, drop, drop_of_length-le, get_or, BTreeMap, List, [], ◌∷◌, Bool, true, false, cond, Option, Some, None, Result, Ok, Err, MatchResult, ◌≢◌, option_map, option_and_then, codes, string_bytes, string_cmp, Bor, String, Global, refl, ap, ap₂, sym, ◌∙◌}
 use Rattle.std.proofs.lemmas.List.{drop_more}
 use Rattle.std.specs.BTreeMap.{insert_entry}
 use Rattle.std.proofs.lemmas.Bool.{cond-false}

@@ -10,9 +10,9 @@ use Rattle.json.specs.Tree.{json_tokens, members_tokens}
 use Rattle.json.specs.Value.{items_view, members_view, value_view}
 use Rattle.json.specs.declared.value.Value.{Value, the_lemmas}
 use Rattle.json.specs.declared.value.Value as kit
-use Rattle.cedar_below.proofs.TreeLemmas.{tree_of-call, tree_of-record}
+use Rattle.cedar_below.proofs.TreeLemmas.{tree_of-record}
 use Rattle.cedar_below.proofs.ValueCopies.{tree_of-text, tree_of-truth}
-use Rattle.cedar_json.specs.Words.{Name, OfCall, Pairs, PlainName, RestrictedExpr, Text, Tree, Trees, argument_of, call_by, call_in, call_of, call_value, first_call, fold-roll-RestrictedExpr, has_only, if_so, known_fields, no_tree, number_value, object_by, pairs_of, plain_name, plain_name_in, record_of_pairs, roll-RestrictedExpr, set_value, sole_held, text_cmp, text_held, text_value, tree, tree_of, tree_step, trees_of, truth_value, uid_in, uid_value, value_of, values_of, whole_number}
+use Rattle.cedar_json.specs.Words.{OfCall, Pairs, PlainName, RestrictedExpr, Text, Tree, Trees, argument_of, call_by, call_in, call_of, call_value, first_call, fold-roll-RestrictedExpr, has_only, if_so, known_fields, no_tree, number_value, object_by, pairs_of, plain_name_in, record_of_pairs, roll-RestrictedExpr, set_value, sole_held, text_cmp, text_held, text_value, tree, tree_of, tree_step, trees_of, truth_value, uid_in, uid_value, value_of, values_of, whole_number}
 use Rattle.cedar_below.specs.declared.value.RestrictedExpr.TheOpen as layer
 use Rattle.cedar_below.specs.declared.value.RestrictedExpr.TheVariants as expr
 use Rattle.cedar_json.proofs.MapLemmas.{seen-insert}
@@ -273,33 +273,30 @@ module _ (j : Json) where
   abbrev argument : Option Tree
   argument = option_and_then value_of (get (codes "arg") j)
 
-  pub call_other : has_only (known_fields OfCall j) j ≡ false → call_in j ≡ None
-  call_other e = call_in-with j ∙ ap (λ test. if_so test (call_of function argument)) e
+  -- the name of the function, where all fields are those of a call
+  abbrev called : Option PlainName
+  called = if_so (has_only (known_fields OfCall j) j) function
 
-  none_by : (test : Bool) → if_so {A = Tree} test None ≡ None
-  none_by true = refl
-  none_by false = refl
+  call_in-called : call_in j ≡ call_of called argument
+  call_in-called = call_in-with j ∙ by (has_only (known_fields OfCall j) j)
+    where
+      by : (test : Bool) → if_so test (call_of function argument) ≡ call_of (if_so test function) argument
+      by true = refl
+      by false = refl
 
-  pub call_no_function : function ≡ None → call_in j ≡ None
-  call_no_function e =
-      call_in-with j ∙ ap (λ f. if_so (has_only (known_fields OfCall j) j) (call_of f argument)) e ∙ none_by (has_only (known_fields OfCall j) j)
+  pub call_no_function : called ≡ None → call_in j ≡ None
+  call_no_function e = call_in-called ∙ ap (λ f. call_of f argument) e
 
   no_call : (f : Option PlainName) → call_of f None ≡ None
   no_call None = refl
   no_call (Some name) = refl
 
   pub call_no_argument : argument ≡ None → call_in j ≡ None
-  call_no_argument e =
-      call_in-with j ∙ ap (λ a. if_so (has_only (known_fields OfCall j) j) (call_of function a)) e
-      ∙ ap (λ c. if_so (has_only (known_fields OfCall j) j) c) (no_call function) ∙ none_by (has_only (known_fields OfCall j) j)
+  call_no_argument e = call_in-called ∙ ap (call_of called) e ∙ no_call called
 
-  pub call_read : (name : Name) (args : Vec RestrictedExpr Global) (it : RestrictedExpr) → has_only (known_fields OfCall j) j ≡ true
-      → function ≡ Some (plain_name name) → argument ≡ Some (tree_of it) → args.items ≡ it ∷ []
-      → call_in j ≡ Some (tree_of (expr.ExtensionCall name args))
-  call_read name args it known named valued listed =
-      call_in-with j ∙ ap (λ test. if_so test (call_of function argument)) known
-      ∙ ap (λ f. call_of f argument) named ∙ ap (λ a. call_of (Some (plain_name name)) a) valued
-      ∙ ap (λ es. Some (call_value (plain_name name) (trees_of es))) (sym listed) ∙ ap Some (sym (tree_of-call name args))
+  pub call_read : (name : PlainName) (it : Tree) → called ≡ Some name → argument ≡ Some it
+      → call_in j ≡ Some (call_value name (tree it no_tree))
+  call_read name it named valued = call_in-called ∙ ap (λ f. call_of f argument) named ∙ ap (call_of (Some name)) valued
 
 -- what an object that isn't one of a single member with the key holds
 pub sole_held-many : (name : Text) (xs : List Held) → length xs ≢ 1 → sole_held name (members_view xs) ≡ None

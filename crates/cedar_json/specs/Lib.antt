@@ -5,6 +5,7 @@ pub mod EntityFormat
 pub mod ExtensionRows
 pub mod Fields
 pub mod Filling
+pub mod Listing
 pub mod Lists
 pub mod Mark
 pub mod Nesting

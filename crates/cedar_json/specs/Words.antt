@@ -24,9 +24,10 @@ pub use Rattle.cedar_json.specs.ExtensionRows.{AreKinds, AreNames, AreRows, IsKi
 pub use Rattle.cedar_json.specs.Fields.{IsOther, annotations_fit, are_annotations, flag_or, further_fields, has_only, is_among, is_text_or_null, keys_among, known_fields, nth_member, own_fields, text_held, texts_of, type_fields, type_word}
 pub use Rattle.cedar_json.specs.Filling.{IsAscending, all_put}
 pub use Rattle.cedar_json.specs.Lists.{all_of, field_or}
-pub use Rattle.cedar_json.specs.Mark.{Mark, Marks, mark_of, marked, open_record}
+pub use Rattle.cedar_json.specs.Listing.{IsListed, action_mark, common_type_mark, entity_type_mark, marks_under}
+pub use Rattle.cedar_json.specs.Mark.{Mark, Marked, Marks, extension_type, mark_of, marked, open_record}
 pub use Rattle.cedar_json.specs.Place.{IsFault, IsTrueOf, member_at, step_into}
-pub use Rattle.cedar_json.specs.Reading.{IsReadFrom, IsReadWhere}
+pub use Rattle.cedar_json.specs.Reading.{IsPutUnder, IsReadFrom, IsReadWhere, IsSeenFrom}
 pub use Rattle.cedar_json.specs.RefusalPlace.{IsAttributedAction, IsAttributedPlace, IsExtensionType, IsFirstPlace, IsPlaceOf, IsSecondPlaceOf, IsShadowedPlace, IsSought}
 pub use Rattle.cedar_json.specs.Repeats.{IsRepeatIn, IsRepeated}
 pub use Rattle.cedar_json.specs.Table.{action_marks, common_type_marks, definition_marks, entity_type_marks, fragment_marks, full_name, kind_marks, namespace_of, requests_marks}

@@ -8,6 +8,7 @@ ghost use Rattle.cedar_json.specs.Words.{IsReadFrom, IsReadWhere, all_of, field_
 
 use crate::fault::{Fault, FaultKind, Wanted};
 use crate::fields::lack;
+use crate::gathering::push_read;
 use crate::place_table::Cursor;
 use json::Value;
 use std::alloc::Global;
@@ -41,10 +42,7 @@ fn read_items<T: Described + Drop>(
     let mut all = Vec::with_capacity(alloc, items.len())?;
     let mut at = cursor.first();
     for (index, item) in items.iter().enumerate() {
-        match T::read(alloc, item, at) {
-            Ok(it) => all.push(it)?,
-            Err(fault) => return Err(fault.in_item(index)),
-        }
+        push_read(&mut all, index, T::read(alloc, item, at))?;
         at = at.next();
     }
     Ok(all)
@@ -111,10 +109,7 @@ pub(crate) fn field_or_else<T: Described + Drop>(
 {
     match value.get(name) {
         None => Ok(absent),
-        Some(held) => match T::read(alloc, held, cursor.field(value, name)) {
-            Ok(it) => Ok(it),
-            Err(fault) => Err(fault.within(name)),
-        },
+        Some(_) => described_field(alloc, value, name, cursor),
     }
 }
 

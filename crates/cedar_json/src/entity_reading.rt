@@ -12,10 +12,9 @@ use crate::fields::{check_fields, flag_field};
 use crate::place_table::Cursor;
 use crate::spelling::read_name;
 use crate::taken::Taken;
-use crate::type_reading::plain_type;
 use cedar_below::{Eid, NonEmpty};
 use cedar_names::json_schema::{
-    AttributesOrContext, EntityType, EntityTypeKind, RawName, RecordType, StandardEntityType,
+    AttributesOrContext, EntityType, EntityTypeKind, RawName, RecordType, StandardEntityType, Type,
     TypeVariant,
 };
 use json::Value;
@@ -82,7 +81,10 @@ pub(crate) fn shape_field(
     ensures { IsReadFrom (value_view value.now)
         (shape_in (get name.now (value_view value.now))) (λ shape. raw_expr None shape.0) result }
 {
-    let absent = plain_type(TypeVariant::Record(empty_record(alloc)), None);
+    let absent = Type::Plain {
+        ty: TypeVariant::Record(empty_record(alloc)),
+        loc: None,
+    };
     let ty = field_or_else(alloc, value, name, absent, cursor)?;
     Ok(AttributesOrContext(ty))
 }

@@ -16,6 +16,7 @@ mod extensions;
 mod fault;
 mod fields;
 mod filling;
+mod gathering;
 mod place_table;
 mod places;
 mod repeated_keys;

@@ -4,7 +4,7 @@
 //! values are numbered in the order of the text, and a cursor goes over their numbers as a reader
 //! goes over the values. No contract says that a place is the right one: tests do.
 
-use cedar_below::{Loc, M};
+use cedar_below::{Loc, M, Memory};
 use json::{Reader, Scratch, Token, Value};
 use std::alloc::Global;
 
@@ -36,7 +36,7 @@ pub(crate) struct ValuePlaces {
     entries: Vec<Entry>,
 }
 
-/// Places that are being listed.
+/// Places that are being listed. Where memory runs out, that is remembered, and told at the end.
 #[derive(Drop)]
 struct Listing {
     entries: Vec<Entry>,
@@ -44,6 +44,8 @@ struct Listing {
     open: Vec<usize>,
     /// The key of the value that comes next.
     key: Option<Span>,
+    /// Whether memory ran out.
+    is_refused: bool,
 }
 
 /// A number as 32 bits, which are enough in a text that is short enough to be read.
@@ -62,16 +64,31 @@ fn stop_before(text: &[u8], start: usize, next: usize) -> usize {
 }
 
 impl Listing {
-    /// Lists a value that begins with some bytes, and gives its number.
-    fn begin(&mut self, value: Span) -> M<usize> {
-        let number = self.entries.len();
-        self.entries.push(Entry {
+    /// Nothing listed yet of a text of some bytes.
+    fn new(alloc: Global, length: usize) -> M<Listing> {
+        Ok(Listing {
+            entries: Vec::with_capacity(alloc, length / BYTES_A_VALUE)?,
+            open: Vec::new(alloc),
+            key: None,
+            is_refused: false,
+        })
+    }
+
+    /// Lists a value that begins with some bytes.
+    fn begin(&mut self, value: Span) {
+        let entry = Entry {
             value,
             key: self.key,
-            after: in_32_bits(number.saturating_add(1)),
-        })?;
+            after: in_32_bits(self.entries.len().saturating_add(1)),
+        };
+        self.is_refused |= self.entries.push(entry).is_err();
         self.key = None;
-        Ok(number)
+    }
+
+    /// Lists an array or an object that begins with some bytes.
+    fn open(&mut self, value: Span) {
+        self.is_refused |= self.open.push(self.entries.len()).is_err();
+        self.begin(value);
     }
 
     /// Ends the innermost value that is open.
@@ -88,20 +105,30 @@ impl Listing {
     }
 
     /// Lists what a token begins or ends.
-    fn take(&mut self, token: Token<'_>, place: Span) -> M<()> {
+    fn take(&mut self, token: Token<'_>, place: Span) {
         match token {
             Token::Key(_) => self.key = Some(place),
-            Token::BeginArray | Token::BeginObject => {
-                let number = self.begin(place)?;
-                self.open.push(number)?;
-            }
+            Token::BeginArray | Token::BeginObject => self.open(place),
             Token::EndArray | Token::EndObject => self.end(place.stop),
             Token::String(_) | Token::Number(_) | Token::Bool(_) | Token::Null => {
-                self.begin(place)?;
+                self.begin(place);
             }
             Token::Bad => {}
         }
-        Ok(())
+    }
+
+    /// Lists what the tokens of a text begin and end.
+    fn take_all(&mut self, text: &[u8], reader: &mut Reader<'_>) {
+        let mut start = reader.offset();
+        while let Some(token) = reader.next() {
+            let next = reader.offset();
+            let place = Span {
+                start: in_32_bits(start),
+                stop: in_32_bits(stop_before(text, start, next)),
+            };
+            self.take(token, place);
+            start = next;
+        }
     }
 }
 
@@ -110,20 +137,10 @@ impl ValuePlaces {
     pub(crate) fn of(alloc: Global, text: &str, source: u32) -> M<ValuePlaces> {
         let mut scratch = Scratch::new(alloc);
         let mut reader = Reader::new(text, &mut scratch)?;
-        let mut listing = Listing {
-            entries: Vec::with_capacity(alloc, text.len() / BYTES_A_VALUE)?,
-            open: Vec::new(alloc),
-            key: None,
-        };
-        let mut start = reader.offset();
-        while let Some(token) = reader.next() {
-            let next = reader.offset();
-            let place = Span {
-                start: in_32_bits(start),
-                stop: in_32_bits(stop_before(text.as_bytes(), start, next)),
-            };
-            listing.take(token, place)?;
-            start = next;
+        let mut listing = Listing::new(alloc, text.len())?;
+        listing.take_all(text.as_bytes(), &mut reader);
+        if listing.is_refused {
+            return Err(Memory);
         }
         Ok(ValuePlaces {
             source,

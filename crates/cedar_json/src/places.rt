@@ -24,6 +24,7 @@
 
 mod listing;
 mod place;
+mod table;
 mod type_listing;
 mod written;
 

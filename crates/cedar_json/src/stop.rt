@@ -95,6 +95,31 @@ impl Nesting {
     }
 }
 
+/// Where the tokens that a reader has stop being JSON, in a text that ends at a place.
+fn stop_among(reader: &mut Reader<'_>, nesting: &mut Nesting, end: usize) -> M<Stop>
+    ensures { IfOk result (λ stop. (stop.up_to ≤ end) × (stop.too_deep ≡ true
+        → nests_too_deep (vec_len nesting.old.open) reader.old ≡ true)) }
+{
+    let mut up_to = reader.offset().min(end);
+    while let Some(token) = reader.next() {
+        if !nesting.fits(&token) {
+            break;
+        }
+        if begins_part(&token) && nesting.open.len() >= MAX_DEPTH {
+            return Ok(Stop {
+                up_to,
+                too_deep: true,
+            });
+        }
+        nesting.pass(&token)?;
+        up_to = reader.offset().min(end);
+    }
+    Ok(Stop {
+        up_to,
+        too_deep: false,
+    })
+}
+
 /// Where a text that is no JSON, or nests too deep, stops being JSON.
 pub(crate) fn stop_of(alloc: Global, text: &str) -> M<Stop>
     ensures { IfOk result (λ stop. (stop.up_to ≤ length text.now)
@@ -107,18 +132,5 @@ pub(crate) fn stop_of(alloc: Global, text: &str) -> M<Stop>
         has_key: false,
         is_whole: false,
     };
-    let mut up_to = reader.offset().min(text.len());
-    let mut too_deep = false;
-    while let Some(token) = reader.next() {
-        if !nesting.fits(&token) {
-            break;
-        }
-        too_deep = begins_part(&token) && nesting.open.len() >= MAX_DEPTH;
-        if too_deep {
-            break;
-        }
-        nesting.pass(&token)?;
-        up_to = reader.offset().min(text.len());
-    }
-    Ok(Stop { up_to, too_deep })
+    stop_among(&mut reader, &mut nesting, text.len())
 }

@@ -9,19 +9,22 @@ use crate::annotations::check_annotations;
 use crate::described::{Described, described_field};
 use crate::fault::{Fault, Row};
 use crate::fields::{check_fields, field, flag_field, object_field, text_field};
+use crate::gathering::put_read;
 use crate::place_table::Cursor;
 use crate::spelling::{read_name, read_unreserved_id};
-use cedar_below::{Loc, put};
 use cedar_names::json_schema::{RawName, RecordType, Type, TypeOfAttribute, TypeVariant};
 use json::Value;
 use std::alloc::Global;
 use std::collections::BTreeMap;
 
-/// The type of a variant, with the location.
-pub(crate) fn plain_type(ty: TypeVariant<RawName>, loc: Option<Loc>) -> Type<RawName>
+/// The type of a variant that is written at a value.
+fn plain_type(ty: TypeVariant<RawName>, cursor: Cursor<'_>) -> Type<RawName>
     ensures { raw_expr None result ≡ raw_variant None ty }
 {
-    Type::Plain { ty, loc }
+    Type::Plain {
+        ty,
+        loc: cursor.loc(),
+    }
 }
 
 /// The extension type that the field `name` names.
@@ -37,7 +40,7 @@ fn extension_type(
     let field = "name";
     let text = text_field(alloc, value, field)?;
     match read_unreserved_id(alloc, text) {
-        Ok(name) => Ok(plain_type(TypeVariant::Extension { name }, cursor.loc())),
+        Ok(name) => Ok(plain_type(TypeVariant::Extension { name }, cursor)),
         Err(fault) => Err(fault.within(field)),
     }
 }
@@ -110,18 +113,18 @@ fn read_type_by(
         × (text_held (codes "type") j ≡ Some word.now → IsTrueOf fault j)) }
 {
     match word {
-        "String" => Ok(plain_type(TypeVariant::String, cursor.loc())),
-        "Long" => Ok(plain_type(TypeVariant::Long, cursor.loc())),
-        "Boolean" => Ok(plain_type(TypeVariant::Boolean, cursor.loc())),
+        "String" => Ok(plain_type(TypeVariant::String, cursor)),
+        "Long" => Ok(plain_type(TypeVariant::Long, cursor)),
+        "Boolean" => Ok(plain_type(TypeVariant::Boolean, cursor)),
         "Set" => read_set(alloc, value, cursor),
         "Record" => read_record(alloc, value, cursor),
         "Entity" => {
             let name = described_field(alloc, value, "name", cursor)?;
-            Ok(plain_type(TypeVariant::Entity { name }, cursor.loc()))
+            Ok(plain_type(TypeVariant::Entity { name }, cursor))
         }
         "EntityOrCommon" => {
             let type_name = described_field(alloc, value, "name", cursor)?;
-            Ok(plain_type(TypeVariant::EntityOrCommon { type_name }, cursor.loc()))
+            Ok(plain_type(TypeVariant::EntityOrCommon { type_name }, cursor))
         }
         "Extension" => extension_type(alloc, value, cursor),
         _ => common_type(alloc, value, word, cursor),
@@ -139,7 +142,7 @@ fn read_set(alloc: Global, value: &Value<'_>, cursor: Cursor<'_>) -> Result<Type
     match read_type_of(alloc, held, Row::OfType, cursor.field(value, name)) {
         Ok(ty) => {
             let element = Box::new(alloc, ty)?;
-            Ok(plain_type(TypeVariant::Set { element }, cursor.loc()))
+            Ok(plain_type(TypeVariant::Set { element }, cursor))
         }
         Err(fault) => Err(fault.within(name)),
     }
@@ -162,7 +165,7 @@ fn read_record(alloc: Global, value: &Value<'_>, cursor: Cursor<'_>) -> Result<T
                 attributes,
                 additional_attributes,
             };
-            Ok(plain_type(TypeVariant::Record(record), cursor.loc()))
+            Ok(plain_type(TypeVariant::Record(record), cursor))
         }
         Err(fault) => Err(fault.within(name)),
     }
@@ -182,11 +185,8 @@ fn read_attributes(
     let mut attributes = BTreeMap::new(alloc);
     let mut at = cursor.first();
     for (index, member) in members.iter().enumerate() {
-        let name = String::from_str(alloc, member.0)?;
-        match read_attribute(alloc, &member.1, at) {
-            Ok(attribute) => put(&mut attributes, name, attribute)?,
-            Err(fault) => return Err(fault.in_member(index)),
-        }
+        let read = read_attribute(alloc, &member.1, at);
+        put_read(alloc, &mut attributes, index, member.0, read)?;
         at = at.next();
     }
     Ok(attributes)

@@ -4,10 +4,9 @@ ghost use Rattle.std.specs.Prelude.{◌≡◌, IfOk};
 
 use crate::fault::{FaultKind, Step};
 use crate::place_table::Cursor;
-use cedar_below::{Loc, M};
+use cedar_below::{Loc, M, Memory};
 use json::Value;
 use std::alloc::Global;
-use std::fmt::Write;
 
 /// The place of a value in a text. That the pointer and the location are those of the steps is
 /// tested and not proved.
@@ -21,58 +20,82 @@ pub struct Place {
     pub loc: Option<Loc>,
 }
 
-/// The index of a field among the members of an object.
-fn field_index(value: &Value<'_>, name: &str) -> Option<usize> {
-    let Value::Object(members) = value else {
-        return None;
-    };
-    members.iter().position(|member| member.0 == name)
-}
-
-/// The index of the value to which a step leads, among the values that a value holds.
-fn child_index(value: &Value<'_>, step: Step) -> Option<usize> {
-    match step {
-        Step::Field(name) => field_index(value, name),
-        Step::Member(index) | Step::Item(index) => Some(index),
-    }
-}
-
-/// The value at an index among those that a value holds.
-fn child<'v, 'a>(value: &'v Value<'a>, index: usize) -> Option<&'v Value<'a>> {
+/// The member at an index of a value.
+fn member_at<'v, 'a>(value: &'v Value<'a>, index: usize) -> Option<&'v (&'a str, Value<'a>)> {
     match value {
-        Value::Array(items) => items.get(index),
-        Value::Object(members) => match members.get(index) {
-            Some(member) => Some(&member.1),
-            None => None,
-        },
-        Value::Null | Value::Bool(_) | Value::Number(_) | Value::String(_) => None,
+        Value::Object(members) => members.get(index),
+        _ => None,
     }
 }
 
-/// Writes a key as a part of a JSON pointer: `~0` for `~` and `~1` for `/`.
-fn push_key(pointer: &mut String, key: &str) -> M<()> {
-    for c in key.chars() {
-        match c {
-            '~' => pointer.push_str("~0")?,
-            '/' => pointer.push_str("~1")?,
-            _ => pointer.push(c)?,
+/// The value to which a step leads from a value.
+fn child<'v, 'a>(value: &'v Value<'a>, step: Step) -> Option<&'v Value<'a>> {
+    match step {
+        Step::Field(name) => value.get(name),
+        Step::Member(index) => Some(&member_at(value, index)?.1),
+        Step::Item(index) => value.at(index),
+    }
+}
+
+/// The cursor to which a step leads from that at a value.
+fn cursor_at<'p>(cursor: Cursor<'p>, value: &Value<'_>, step: Step) -> Cursor<'p> {
+    match step {
+        Step::Field(name) => cursor.field(value, name),
+        Step::Member(index) | Step::Item(index) => cursor.child(index),
+    }
+}
+
+/// A JSON pointer that is being written. Where memory runs out, that is remembered, and told at the
+/// end.
+#[derive(Drop)]
+struct Pointer {
+    /// What is written so far.
+    written: String,
+    /// Whether memory ran out.
+    is_refused: bool,
+}
+
+impl Pointer {
+    /// Adds a character.
+    fn push(&mut self, character: char) {
+        self.is_refused |= self.written.push(character).is_err();
+    }
+
+    /// Adds the escape that ends in a character.
+    fn push_escape(&mut self, last: char) {
+        self.push('~');
+        self.push(last);
+    }
+
+    /// Adds the part that leads to the value under a key, with `~0` for `~` and `~1` for `/`.
+    fn push_key(&mut self, key: &str) {
+        self.push('/');
+        for character in key.chars() {
+            match character {
+                '~' => self.push_escape('0'),
+                '/' => self.push_escape('1'),
+                _ => self.push(character),
+            }
         }
     }
-    Ok(())
-}
 
-/// Writes the part of a JSON pointer that leads to the value at an index.
-fn push_part(pointer: &mut String, value: &Value<'_>, index: usize) -> M<()> {
-    pointer.push('/')?;
-    if let Value::Object(members) = value {
-        return match members.get(index) {
-            Some(member) => push_key(pointer, member.0),
-            None => Ok(()),
-        };
+    /// Adds the part that leads to the item at an index.
+    fn push_index(&mut self, index: usize) {
+        self.push('/');
+        self.is_refused |= self.written.write(index).is_err();
     }
-    match write!(pointer, "{index}") {
-        Ok(()) => Ok(()),
-        Err(_) => Err(cedar_below::Memory),
+
+    /// Adds the part that is a step from a value.
+    fn push_step(&mut self, value: &Value<'_>, step: Step) {
+        match step {
+            Step::Field(name) => self.push_key(name),
+            Step::Member(index) => {
+                if let Some(member) = member_at(value, index) {
+                    self.push_key(member.0);
+                }
+            }
+            Step::Item(index) => self.push_index(index),
+        }
     }
 }
 
@@ -99,21 +122,18 @@ pub(crate) fn faulty_key(kind: FaultKind) -> Option<usize> {
 /// Writes the JSON pointer that steps are from a value, the last of them first, and gives the
 /// cursor at their end.
 fn follow<'p>(
-    pointer: &mut String,
+    pointer: &mut Pointer,
     value: &Value<'_>,
     cursor: Cursor<'p>,
     steps: &[Step],
-) -> M<Cursor<'p>> {
+) -> Cursor<'p> {
     let [rest @ .., step] = steps else {
-        return Ok(cursor);
+        return cursor;
     };
-    let Some(index) = child_index(value, *step) else {
-        return Ok(cursor);
-    };
-    push_part(pointer, value, index)?;
-    match child(value, index) {
-        Some(inner) => follow(pointer, inner, cursor.child(index), rest),
-        None => Ok(cursor),
+    pointer.push_step(value, *step);
+    match child(value, *step) {
+        Some(inner) => follow(pointer, inner, cursor_at(cursor, value, *step), rest),
+        None => cursor,
     }
 }
 
@@ -128,15 +148,21 @@ pub(crate) fn place_at(
 ) -> M<Place>
     ensures { IfOk result (λ place. place.steps ≡ steps) }
 {
-    let mut pointer = String::new(alloc);
-    let at = follow(&mut pointer, value, cursor, steps.as_slice())?;
+    let mut pointer = Pointer {
+        written: String::new(alloc),
+        is_refused: false,
+    };
+    let at = follow(&mut pointer, value, cursor, steps.as_slice());
+    if pointer.is_refused {
+        return Err(Memory);
+    }
     let loc = match key {
         Some(index) => at.child(index).key_loc(),
         None => at.loc(),
     };
     Ok(Place {
         steps,
-        pointer,
+        pointer: pointer.written,
         loc,
     })
 }

@@ -1,15 +1,16 @@
 //! Reading values of Cedar.
 
-ghost use Rattle.std.specs.Prelude.{◌≡◌, [], Some, None, option_map, option_and_then};
+ghost use Rattle.std.specs.Prelude.{◌≡◌, [], Some, None, MatchResult, codes, option_map, option_and_then};
 ghost use Rattle.json.specs.Find.{as_number};
 ghost use Rattle.json.specs.Json.{array, object};
 ghost use Rattle.json.specs.Value.{items_view, members_view, value_view};
-ghost use Rattle.cedar_json.specs.Words.{IsReadFrom, call_in, pairs_of, plain_name, plain_name_in, record_of_pairs, set_value, sole_held, text_held, tree_of, uid_in, uid_of, value_of, values_of, whole_number};
+ghost use Rattle.cedar_json.specs.Words.{IsReadFrom, call_in, call_value, has_only, if_so, known_fields, no_tree, pairs_of, plain_name, plain_name_in, record_of_pairs, set_value, sole_held, text_held, tree, tree_of, uid_in, uid_of, value_of, values_of, whole_number};
 
 use crate::fault::{Fault, FaultKind, Row, Wanted};
 use crate::fields::{check_fields, field, text_field};
+use crate::gathering::{push_read, put_read};
 use crate::spelling::read_plain_name;
-use cedar_below::{Eid, EntityType, EntityUID, Name, RestrictedExpr, put};
+use cedar_below::{Eid, EntityType, EntityUID, Name, RestrictedExpr};
 use json::Value;
 use std::alloc::Global;
 use std::collections::BTreeMap;
@@ -91,10 +92,7 @@ fn read_set(alloc: Global, items: &Vec<Value<'_>>) -> Result<RestrictedExpr, Fau
 {
     let mut exprs = Vec::new(alloc);
     for (index, item) in items.iter().enumerate() {
-        match read_expr(alloc, item) {
-            Ok(expr) => exprs.push(expr)?,
-            Err(fault) => return Err(fault.in_item(index)),
-        }
+        push_read(&mut exprs, index, read_expr(alloc, item))?;
     }
     Ok(RestrictedExpr::Set(exprs))
 }
@@ -125,18 +123,36 @@ fn read_object<'a>(
     read_record(alloc, members)
 }
 
+/// The name of the function that a value calls which has the fields of a call.
+fn read_function(alloc: Global, value: &Value<'_>) -> Result<Name, Fault>
+    ensures { let j = value_view value.now in
+        IsReadFrom j (if_so (has_only (known_fields Row.OfCall j) j)
+        (option_and_then plain_name_in (text_held (codes "fn") j))) plain_name result }
+{
+    check_fields(alloc, value, Row::OfCall)?;
+    plain_name_field(alloc, value, "fn")
+}
+
+/// The call of a function on an argument.
+fn call_on(alloc: Global, function: Name, argument: RestrictedExpr) -> Result<RestrictedExpr, Fault>
+    ensures { MatchResult result
+        (λ call. tree_of call ≡ call_value (plain_name function) (tree (tree_of argument) no_tree))
+        (λ fault. fault ≡ Fault.Memory) }
+{
+    Ok(RestrictedExpr::ExtensionCall {
+        function,
+        args: vec![in alloc; argument]?,
+    })
+}
+
 /// The call that a value describes.
 #[cycle(value_reading)]
 fn read_call(alloc: Global, value: &Value<'_>) -> Result<RestrictedExpr, Fault>
     ensures { IsReadFrom (value_view value.now) (call_in (value_view value.now)) tree_of result }
 {
-    check_fields(alloc, value, Row::OfCall)?;
-    let function = plain_name_field(alloc, value, "fn")?;
+    let function = read_function(alloc, value)?;
     match read_expr(alloc, field(alloc, value, "arg")?) {
-        Ok(argument) => Ok(RestrictedExpr::ExtensionCall {
-            function,
-            args: vec![in alloc; argument]?,
-        }),
+        Ok(argument) => call_on(alloc, function, argument),
         Err(fault) => Err(fault.within("arg")),
     }
 }
@@ -153,11 +169,8 @@ fn read_record<'a>(
 {
     let mut pairs = BTreeMap::new(alloc);
     for (index, member) in members.iter().enumerate() {
-        let name = String::from_str(alloc, member.0)?;
-        match read_expr(alloc, &member.1) {
-            Ok(expr) => put(&mut pairs, name, expr)?,
-            Err(fault) => return Err(fault.in_member(index)),
-        }
+        let read = read_expr(alloc, &member.1);
+        put_read(alloc, &mut pairs, index, member.0, read)?;
     }
     Ok(RestrictedExpr::Record(pairs))
 }

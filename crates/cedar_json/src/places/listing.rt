@@ -1,14 +1,19 @@
-//! The table of what is written in a fragment.
+//! What of a fragment is listed in its table.
 
-ghost use Rattle.std.specs.Prelude.{◌≡◌, ◌++◌, IfOk, OnOk, map};
+ghost use Rattle.std.specs.Prelude.{◌≡◌, Option, IfOk, map};
 ghost use Rattle.std.specs.List.{flat_map};
-ghost use Rattle.cedar_json.specs.Words.{action_marks, common_type_marks, definition_marks, entity_type_marks, fragment_marks, full_name, id_text, kind_marks, marked, name_of, namespace_of, requests_marks};
+ghost use Rattle.cedar_json.specs.Words.{IsListed, Marked, Marks, PlainName, action_mark, common_type_mark, definition_marks, entity_type_mark, fragment_marks, full_name, id_text, kind_marks, marked, marks_under, name_of, namespace_of, requests_marks, type_marks};
 
+use super::table::Table;
 use super::type_listing::list_type;
 use super::written::{Places, Written, WrittenAt};
-use cedar_below::{Id, InternalName, M, Name, identifier};
-use cedar_names::json_schema::{ApplySpec, EntityTypeKind, Fragment, NamespaceDefinition, RawName};
+use cedar_below::{Id, InternalName, M, Name, UnreservedId, identifier};
+use cedar_names::json_schema::{
+    ActionType, CommonType, CommonTypeId, EntityType, EntityTypeKind, Fragment,
+    NamespaceDefinition, RawName,
+};
 use std::alloc::Global;
+use std::collections::BTreeMap;
 
 /// The name in full of what is declared under an id in a namespace.
 fn full_name(alloc: Global, namespace: &Option<Name>, id: Id) -> M<InternalName>
@@ -22,101 +27,113 @@ fn full_name(alloc: Global, namespace: &Option<Name>, id: Id) -> M<InternalName>
     }
 }
 
-/// Lists the common types of a namespace, each with what is in its type.
-fn list_common_types(
+/// What is declared under ids.
+///
+/// The ghost members are what contracts speak of: what is listed of a declaration itself, by its
+/// namespace and its id, and what is listed of the types in it.
+trait Declared {
+    type Key: Ord;
+
+    ghost mark: { Option PlainName → Self.Key → Self → Marked };
+
+    ghost inner: { Self → Marks };
+
+    /// The declaration under an id of a namespace.
+    fn at(&self, alloc: Global, namespace: &Option<Name>, id: &Self::Key) -> M<WrittenAt>
+        ensures { IfOk result (λ it.
+            marked it ≡ mark (namespace_of namespace.now) id.now self.now) };
+
+    /// Lists what is in the types of the declaration.
+    fn list_types(&self, table: &mut Table)
+        ensures { IsListed (inner self.now) table.old table.new };
+}
+
+/// Lists the declarations of a namespace, each with what is in its types.
+fn list_declarations<T: Declared>(
     alloc: Global,
     namespace: &Option<Name>,
-    it: &NamespaceDefinition<RawName>,
-    list: &mut Vec<WrittenAt>,
-) -> M<()>
-    ensures { OnOk result (map marked list.new.items ≡ map marked list.old.items
-        ++ flat_map (common_type_marks (namespace_of namespace.now)) it.now.common_types.entries) }
+    declarations: &BTreeMap<T::Key, T>,
+    table: &mut Table,
+)
+    ensures { IsListed (flat_map (marks_under (T.mark (namespace_of namespace.now)) T.inner)
+        declarations.now.entries) table.old table.new }
 {
-    for (id, common_type) in &it.common_types {
+    for (id, it) in declarations {
+        table.add(it.at(alloc, namespace, id));
+        it.list_types(table);
+    }
+}
+
+impl Declared for CommonType<RawName> {
+    type Key = CommonTypeId;
+
+    ghost mark = { common_type_mark };
+
+    ghost inner = { λ it. type_marks it.ty };
+
+    fn at(&self, alloc: Global, namespace: &Option<Name>, id: &CommonTypeId) -> M<WrittenAt> {
         let name = full_name(alloc, namespace, id.as_id().as_id().clone()?)?;
-        list.push(WrittenAt {
+        Ok(WrittenAt {
             what: Written::CommonType(name),
-            loc: common_type.loc,
-        })?;
-        list_type(alloc, &common_type.ty, list)?;
+            loc: self.loc,
+        })
     }
-    Ok(())
-}
 
-/// Lists what is in the types of an entity type.
-fn list_kind(alloc: Global, kind: &EntityTypeKind<RawName>, list: &mut Vec<WrittenAt>) -> M<()>
-    ensures { OnOk result (map marked list.new.items
-        ≡ map marked list.old.items ++ kind_marks kind.now) }
-{
-    let EntityTypeKind::Standard(standard) = kind else {
-        return Ok(());
-    };
-    list_type(alloc, &standard.shape.0, list)?;
-    match &standard.tags {
-        Some(tags) => list_type(alloc, tags, list),
-        None => Ok(()),
+    fn list_types(&self, table: &mut Table) {
+        list_type(&self.ty, table);
     }
 }
 
-/// Lists the entity types of a namespace, each with what is in its types.
-fn list_entity_types(
-    alloc: Global,
-    namespace: &Option<Name>,
-    it: &NamespaceDefinition<RawName>,
-    list: &mut Vec<WrittenAt>,
-) -> M<()>
-    ensures { OnOk result (map marked list.new.items ≡ map marked list.old.items
-        ++ flat_map (entity_type_marks (namespace_of namespace.now)) it.now.entity_types.entries) }
-{
-    for (id, entity_type) in &it.entity_types {
+impl Declared for EntityType<RawName> {
+    type Key = UnreservedId;
+
+    ghost mark = { entity_type_mark };
+
+    ghost inner = { λ it. kind_marks it.kind };
+
+    fn at(&self, alloc: Global, namespace: &Option<Name>, id: &UnreservedId) -> M<WrittenAt> {
         let name = full_name(alloc, namespace, id.as_id().clone()?)?;
-        list.push(WrittenAt {
+        Ok(WrittenAt {
             what: Written::EntityType(name),
-            loc: entity_type.loc,
-        })?;
-        list_kind(alloc, &entity_type.kind, list)?;
+            loc: self.loc,
+        })
     }
-    Ok(())
-}
 
-/// Lists what is in the context of an action.
-fn list_requests(
-    alloc: Global,
-    requests: &Option<ApplySpec<RawName>>,
-    list: &mut Vec<WrittenAt>,
-) -> M<()>
-    ensures { OnOk result (map marked list.new.items
-        ≡ map marked list.old.items ++ requests_marks requests.now) }
-{
-    match requests {
-        Some(requests) => list_type(alloc, &requests.context.0, list),
-        None => Ok(()),
+    fn list_types(&self, table: &mut Table) {
+        let EntityTypeKind::Standard(standard) = &self.kind else {
+            return;
+        };
+        list_type(&standard.shape.0, table);
+        if let Some(tags) = &standard.tags {
+            list_type(tags, table);
+        }
     }
 }
 
-/// Lists the actions of a namespace, each with what is in its context.
-fn list_actions(
-    alloc: Global,
-    namespace: &Option<Name>,
-    it: &NamespaceDefinition<RawName>,
-    list: &mut Vec<WrittenAt>,
-) -> M<()>
-    ensures { OnOk result (map marked list.new.items ≡ map marked list.old.items
-        ++ flat_map (action_marks (namespace_of namespace.now)) it.now.actions.entries) }
-{
-    for (id, action) in &it.actions {
+impl Declared for ActionType<RawName> {
+    type Key = String;
+
+    ghost mark = { action_mark };
+
+    ghost inner = { λ it. requests_marks it.applies_to };
+
+    fn at(&self, alloc: Global, namespace: &Option<Name>, id: &String) -> M<WrittenAt> {
         let ty = full_name(alloc, namespace, identifier(alloc, "Action")?)?;
-        list.push(WrittenAt {
+        Ok(WrittenAt {
             what: Written::Action {
                 ty,
                 id: id.clone()?,
-                has_attributes: action.attributes.is_some(),
+                has_attributes: self.attributes.is_some(),
             },
-            loc: action.loc,
-        })?;
-        list_requests(alloc, &action.applies_to, list)?;
+            loc: self.loc,
+        })
     }
-    Ok(())
+
+    fn list_types(&self, table: &mut Table) {
+        if let Some(requests) = &self.applies_to {
+            list_type(&requests.context.0, table);
+        }
+    }
 }
 
 /// Lists what a namespace declares.
@@ -124,14 +141,13 @@ fn list_definition(
     alloc: Global,
     namespace: &Option<Name>,
     it: &NamespaceDefinition<RawName>,
-    list: &mut Vec<WrittenAt>,
-) -> M<()>
-    ensures { OnOk result (map marked list.new.items ≡ map marked list.old.items
-        ++ definition_marks (namespace_of namespace.now) it.now) }
+    table: &mut Table,
+)
+    ensures { IsListed (definition_marks (namespace_of namespace.now) it.now) table.old table.new }
 {
-    list_common_types(alloc, namespace, it, list)?;
-    list_entity_types(alloc, namespace, it, list)?;
-    list_actions(alloc, namespace, it, list)
+    list_declarations(alloc, namespace, &it.common_types, table);
+    list_declarations(alloc, namespace, &it.entity_types, table);
+    list_declarations(alloc, namespace, &it.actions, table);
 }
 
 impl Places {
@@ -142,10 +158,10 @@ impl Places {
         ensures { IfOk result (λ places.
             map marked places.0.items ≡ fragment_marks fragment.now) }
     {
-        let mut list = Vec::new(alloc);
+        let mut table = Table::new(alloc);
         for (namespace, definition) in &fragment.0 {
-            list_definition(alloc, namespace, definition, &mut list)?;
+            list_definition(alloc, namespace, definition, &mut table);
         }
-        Ok(Places(list))
+        table.whole()
     }
 }

@@ -1,4 +1,4 @@
-use Rattle.std.proofs.Common.{inl, inr, ◌≡◌, ap, map, sym, ◌∙◌, rules, Bor, Global}
+use Rattle.std.proofs.Common.{inl, inr, ap, map, sym, ◌∙◌, Bor, Global}
 use Rattle.std.proofs.lemmas.List.{nil_from_length}
 use Rattle.std.proofs.lemmas.Result.{err_from_is_err_and}
 use Rattle.std.specs.Iterator.Adapters.{enumerate_count, enumerate_source}

@@ -1,5 +1,5 @@
-use Rattle.std.proofs.Common.{◌+◌, ◌*◌, ◌<◌, length, Some, None, option_and_then, option_map, codes, ap, sym, subst, ◌∙◌, arith, rules}
-use Rattle.std.proofs.lemmas.Result.{IfErr-weaker, err_from_is_err_and}
+use Rattle.std.proofs.Common.{◌≡◌, ◌+◌, ◌*◌, ◌<◌, length, Some, None, option_and_then, option_map, codes, ap, sym, subst, ◌∙◌, arith, rules}
+use Rattle.std.proofs.lemmas.Result.{err_from_is_err_and}
 use Rattle.json.proofs.Trees.{member_smaller}
 use Rattle.json.specs.Find.{get}
 use Rattle.json.specs.Json.{object}
@@ -8,8 +8,9 @@ use Rattle.json.specs.Value.{value_view, members_view}
 use Rattle.cedar_names.proofs.VariantLemmas.{variant-Boolean, variant-Entity, variant-EntityOrCommon, variant-Long, variant-Record, variant-Set, variant-String}
 use Rattle.cedar_names.specs.Words.{named, reference_to}
 use Rattle.cedar_names.specs.declared.json_schema.reference_type.ReferenceType.TheVariants.{CommonOrEntity}
-use Rattle.cedar_json.specs.Words.{Entity, RawName, additional_field, attributes_field, element_field, members_from, plain_members, raw_expr, raw_name, raw_reference, record_expr, record_of, roll-RecordType, set_expr, text_held, type_by_word, type_of}
+use Rattle.cedar_json.specs.Words.{Entity, IsPutUnder, RawName, additional_field, attribute_of, attributes_field, element_field, member_at, members_from, plain_members, raw_attribute, raw_expr, raw_name, raw_reference, record_expr, record_of, roll-RecordType, set_expr, text_held, type_by_word, type_of}
 use Rattle.cedar_json.proofs.FieldLemmas.{get-smaller, nth_member-is, object_field-smaller, object_held}
+use Rattle.cedar_json.proofs.ReadLemmas.{read_inside, refused_inside}
 use Rattle.cedar_json.proofs.TypeLemmas.{all_read, attribute_read, attributes_field-held, attributes_field-none, described_too, element_field-held, members_from_index, name_held, no_annotations, no_attribute, no_name_held, no_required, no_type, one_more, raw_attribute-made, raw_record-made, record_of-no_flag, type_by_word-either, type_by_word-entity, type_by_word-other, type_with-known, type_with-no_word, type_with-unknown}
 use Rattle.cedar_json.proofs.type_reading.+type_reading.Goals as goal
 
@@ -39,8 +40,8 @@ read_attribute-returns t c =
     ∙ ap Some (sym (raw_attribute-made c.in_ok-ty.ty c.in_ok-required.required c.key_loc.result))
 
 -- the value of one member has fewer tokens than all members, so the reading ends
-pub read_attributes-read_attribute-requires : goal.read_attributes-read_attribute-requires
-read_attributes-read_attribute-requires t c =
+pub read_attributes-read_attribute-read-requires : goal.read_attributes-read_attribute-read-requires
+read_attributes-read_attribute-read-requires t c =
     let xs = c.deref-member-items.result.now in
     let x = c.member-item.result in
     let below : length (json_tokens (value_view x.1)) < length (members_tokens (members_view c.args.members.now.items)) =
@@ -51,19 +52,19 @@ read_attributes-read_attribute-requires t c =
 
 -- where one member describes no attribute, all together describe none, and the fault of the member's
 -- value is found in the object at the index of the member
-pub read_attributes-returns-in-Err : goal.read_attributes-returns-in-Err
-read_attributes-returns-in-Err t c =
+pub read_attributes-returns-in_err-put_read : goal.read_attributes-returns-in_err-put_read
+read_attributes-returns-in_err-put_read t c =
     let x = c.member-item.result in
     let items = c.deref-member-items.result.now in
     let all = c.args.members.now.items in
     let i = c.loop-index.index in
     let same = c.deref-member-items.ensures.value in
     let here = members_from_index items all i x same c.loop-index-test.true c.member-item.is in
-    let found = nth_member-is items all i x same c.loop-index-test.true c.member-item.is in (
-      λ other. no_attribute all i x c.loop-index.attributes.entries here c.loop-index.invariant
-          (c.in-Err.ensures.0 (c.in_member.ensures.memory other)),
-      c.in_member.ensures.place (object (members_view all)) (x.0.now, value_view x.1) found c.in-Err.ensures.1,
-    )
+    let found = nth_member-is items all i x same c.loop-index-test.true c.member-item.is in
+    let p = err_from_is_err_and c.from_residual.result c.from_residual.ensures.1 in
+    let refused = refused_inside c.read_attribute-read.result (value_view x.1) (attribute_of (value_view x.1)) (raw_attribute None) (object (members_view all))
+    (λ j k. member_at i j ≡ Some (x.0.now, k)) c.in_err-put_read.field-0.0 c.read_attribute-read.ensures c.in_err-put_read.ensures found in
+    rw (p.1, p.2) (λ other. no_attribute all i x c.loop-index.attributes.entries here c.loop-index.invariant (refused.0 other), refused.1)
 
 -- one more attribute is read and put under its name
 pub read_attributes-loop-index-preserved : goal.read_attributes-loop-index-preserved
@@ -72,8 +73,10 @@ read_attributes-loop-index-preserved t c =
     let all = c.args.members.now.items in
     let here = members_from_index c.deref-member-items.result.now all c.loop-index.index x c.deref-member-items.ensures.value c.loop-index-test.true
     c.member-item.is in
-    one_more all c.loop-index.index x c.loop-index.attributes.entries here c.loop-index.invariant c.in_ok-name.name c.in-Ok.attribute
-    c.put.new.map.entries c.in-Ok.ensures c.in_ok-name.ensures.ok (search rules)
+    let more = read_inside c.read_attribute-read.result (value_view x.1) (attribute_of (value_view x.1)) (raw_attribute None)
+    (IsPutUnder x.0.now c.loop-index.attributes.entries c.put_read.new.all.entries) c.read_attribute-read.ensures c.in_ok-put_read.ensures in
+    one_more all c.loop-index.index x c.loop-index.attributes.entries here c.loop-index.invariant more.2.0 more.0
+    c.put_read.new.all.entries more.1 more.2.1 more.2.2
 
 -- where no member is left, all attributes were read
 pub read_attributes-returns : goal.read_attributes-returns

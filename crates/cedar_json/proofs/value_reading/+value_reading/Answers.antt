@@ -1,27 +1,23 @@
-use Rattle.std.proofs.Common.{◌+◌, ◌*◌, ◌<◌, FitsSigned, w64, length, Some, ap, codes, option_and_then, option_map, subst, sym, ◌∙◌, arith, rules}
+use Rattle.std.proofs.Common.{◌≡◌, ◌++◌, [], ◌∷◌, ◌+◌, ◌*◌, ◌<◌, FitsSigned, w64, length, Some, ap, codes, option_and_then, option_map, subst, sym, ◌∙◌, arith, rules}
 use Rattle.std.proofs.lemmas.Result.{err_from_is_err_and}
 use Rattle.json.proofs.Trees.{item_smaller, member_smaller}
+use Rattle.json.specs.Find.{at}
 use Rattle.json.specs.Json.{array, object}
 use Rattle.json.specs.Tree.{items_tokens, json_tokens, members_tokens}
 use Rattle.json.specs.Value.{items_view, members_view, value_view}
 use Rattle.cedar_below.proofs.TreeLemmas.{tree_of-set, tree_of-uid}
-use Rattle.cedar_json.specs.Words.{IsTrueOf, number_value, record_of_pairs, set_value, tree_of, uid_value, value_of}
+use Rattle.cedar_json.specs.Words.{IsPutUnder, IsTrueOf, call_value, member_at, no_tree, number_value, plain_name, record_of_pairs, set_value, tree, tree_of, uid_value, value_of}
 use Rattle.cedar_json.proofs.FieldLemmas.{get-smaller, nth_member-is}
 use Rattle.cedar_json.proofs.ListLemmas.{get_item-is, items_from_index}
+use Rattle.cedar_json.proofs.ReadLemmas.{made, read_inside, refused_inside}
 use Rattle.cedar_json.proofs.TypeLemmas.{described_too, members_from_index}
-use Rattle.cedar_json.proofs.ValueLemmas.{all_pairs, all_values, array_is, array_row, call_no_argument, call_no_function, call_other, call_read, no_long, no_pair, no_value, null_is, null_row, number_read, number_row, pair_more, record_read, sole_held-get, sole_held-smaller, text_row, truth_row, value_more, value_of-call, value_of-entity, value_of-record}
+use Rattle.cedar_json.proofs.ValueLemmas.{all_pairs, all_values, array_is, array_row, call_no_argument, call_no_function, call_read, no_long, no_pair, no_value, null_is, null_row, number_read, number_row, pair_more, record_read, sole_held-get, sole_held-smaller, text_row, truth_row, value_more, value_of-call, value_of-entity, value_of-record}
 use Rattle.cedar_json.proofs.value_reading.+value_reading.Goals as goal
 
--- a value whose fields aren't those of a call describes no call
-pub read_call-returns-in_err-check_fields : goal.read_call-returns-in_err-check_fields
-read_call-returns-in_err-check_fields t c =
-    let p = err_from_is_err_and c.from_residual.result c.from_residual.ensures.1 in
-    rw (p.1, p.2) (λ other. call_other (value_view c.args.value.now) c.in_err-check_fields.ensures.0, c.in_err-check_fields.ensures.1)
-
--- a value describes no call where its field `fn` spells no name of a function
+-- a value describes no call where it calls no function
 pub read_call-returns-in_err-function : goal.read_call-returns-in_err-function
 read_call-returns-in_err-function t c =
-    let p = err_from_is_err_and c.from_residual-in_err-function.result c.from_residual-in_err-function.ensures.1 in
+    let p = err_from_is_err_and c.from_residual.result c.from_residual.ensures.1 in
     rw (p.1, p.2) (λ other. call_no_function (value_view c.args.value.now) (c.in_err-function.ensures.0 other), c.in_err-function.ensures.1)
 
 -- a value describes no call where it has no field `arg`
@@ -40,11 +36,13 @@ read_call-read_expr-requires t c =
     search rules
 
 -- the call described is the function and the one argument that were read
-pub read_call-returns-in_ok-vec-in-Ok : goal.read_call-returns-in_ok-vec-in-Ok
-read_call-returns-in_ok-vec-in-Ok t c =
-    call_read (value_view c.args.value.now) c.in_ok-function.function c.in_ok-vec-in-Ok.field-0 c.in-Ok.argument
-    c.in_ok-check_fields.ensures c.in_ok-function.ensures
-    (ap (option_and_then value_of) c.in_ok-field.ensures ∙ c.in-Ok.ensures) c.in_ok-vec-in-Ok.ensures.items
+pub read_call-returns-in-Ok : goal.read_call-returns-in-Ok
+read_call-returns-in-Ok t c =
+    let name = plain_name c.in_ok-function.function in
+    let it = tree_of c.in-Ok.argument in
+    let valued = ap (option_and_then value_of) c.in_ok-field.ensures ∙ c.in-Ok.ensures in
+    made c.call_on.result (value_view c.args.value.now) tree_of (call_value name (tree it no_tree))
+    (call_read (value_view c.args.value.now) name it c.in_ok-function.ensures valued) c.call_on.ensures
 
 -- a value describes no call where its argument describes no value, and the fault of the argument is
 -- found in the value under `arg`
@@ -107,18 +105,21 @@ read_set-read_expr-requires t c =
 
 -- where one item describes no value, all together describe none, and the fault of the item is found
 -- in the array at the index of the item
-pub read_set-returns-in-Err : goal.read_set-returns-in-Err
-read_set-returns-in-Err t c =
+pub read_set-returns-in_err-push_read : goal.read_set-returns-in_err-push_read
+read_set-returns-in_err-push_read t c =
     let x = c.item-item.result in
     let items = c.deref-item-items.result.now in
     let all = c.args.items.now.items in
     let i = c.loop-index.index in
     let same = c.deref-item-items.ensures.value in
     let here = items_from_index items all i x same c.loop-index-test.true c.item-item.is in
-    let found = get_item-is items all i x same c.loop-index-test.true c.item-item.is in (
-      λ other. ap (option_map set_value) (no_value all i x c.loop-index.exprs.items here c.loop-index.invariant
-          (c.in-Err.ensures.0 (c.in_item.ensures.memory other))),
-      c.in_item.ensures.place (array (items_view all)) (value_view x) found c.in-Err.ensures.1,
+    let found = get_item-is items all i x same c.loop-index-test.true c.item-item.is in
+    let p = err_from_is_err_and c.from_residual.result c.from_residual.ensures.1 in
+    let refused = refused_inside c.read_expr.result (value_view x) (value_of (value_view x)) tree_of (array (items_view all))
+    (λ j k. at i j ≡ Some k) c.in_err-push_read.field-0.0 c.read_expr.ensures c.in_err-push_read.ensures found in
+    rw (p.1, p.2) (
+      λ other. ap (option_map set_value) (no_value all i x c.loop-index.exprs.items here c.loop-index.invariant (refused.0 other)),
+      refused.1,
     )
 
 -- one more value is read and put behind those before it
@@ -127,8 +128,10 @@ read_set-loop-index-preserved t c =
     let x = c.item-item.result in
     let here = items_from_index c.deref-item-items.result.now c.args.items.now.items c.loop-index.index x c.deref-item-items.ensures.value
     c.loop-index-test.true c.item-item.is in
-    value_more c.args.items.now.items c.loop-index.index x c.loop-index.exprs.items here c.loop-index.invariant c.in-Ok.expr c.push.new.self.items
-    c.in-Ok.ensures (search rules)
+    let more = read_inside c.read_expr.result (value_view x) (value_of (value_view x)) tree_of
+    (λ it. c.push_read.new.all.items ≡ c.loop-index.exprs.items ++ it ∷ []) c.read_expr.ensures c.in_ok-push_read.ensures in
+    value_more c.args.items.now.items c.loop-index.index x c.loop-index.exprs.items here c.loop-index.invariant more.0 c.push_read.new.all.items
+    more.1 more.2
 
 -- where no item is left, all values were read
 pub read_set-returns : goal.read_set-returns
@@ -139,8 +142,8 @@ read_set-returns t c =
     ∙ ap Some (sym (tree_of-set c.loop-index.exprs))
 
 -- the value of one member has fewer tokens than all members, so the reading ends
-pub read_record-read_expr-requires : goal.read_record-read_expr-requires
-read_record-read_expr-requires t c =
+pub read_record-read_expr-read-requires : goal.read_record-read_expr-read-requires
+read_record-read_expr-read-requires t c =
     let xs = c.deref-member-items.result.now in
     let x = c.member-item.result in
     let below : length (json_tokens (value_view x.1)) < length (members_tokens (members_view c.args.members.now.items)) =
@@ -151,18 +154,21 @@ read_record-read_expr-requires t c =
 
 -- where one member describes no value, all together describe none, and the fault of the member's
 -- value is found in the object at the index of the member
-pub read_record-returns-in-Err : goal.read_record-returns-in-Err
-read_record-returns-in-Err t c =
+pub read_record-returns-in_err-put_read : goal.read_record-returns-in_err-put_read
+read_record-returns-in_err-put_read t c =
     let x = c.member-item.result in
     let items = c.deref-member-items.result.now in
     let all = c.args.members.now.items in
     let i = c.loop-index.index in
     let same = c.deref-member-items.ensures.value in
     let here = members_from_index items all i x same c.loop-index-test.true c.member-item.is in
-    let found = nth_member-is items all i x same c.loop-index-test.true c.member-item.is in (
-      λ other. ap (option_map record_of_pairs) (no_pair tree_of all i x c.loop-index.pairs.entries here c.loop-index.invariant
-          (c.in-Err.ensures.0 (c.in_member.ensures.memory other))),
-      c.in_member.ensures.place (object (members_view all)) (x.0.now, value_view x.1) found c.in-Err.ensures.1,
+    let found = nth_member-is items all i x same c.loop-index-test.true c.member-item.is in
+    let p = err_from_is_err_and c.from_residual.result c.from_residual.ensures.1 in
+    let refused = refused_inside c.read_expr-read.result (value_view x.1) (value_of (value_view x.1)) tree_of (object (members_view all))
+    (λ j k. member_at i j ≡ Some (x.0.now, k)) c.in_err-put_read.field-0.0 c.read_expr-read.ensures c.in_err-put_read.ensures found in
+    rw (p.1, p.2) (
+      λ other. ap (option_map record_of_pairs) (no_pair tree_of all i x c.loop-index.pairs.entries here c.loop-index.invariant (refused.0 other)),
+      refused.1,
     )
 
 -- one more value is read and put under its key
@@ -172,8 +178,10 @@ read_record-loop-index-preserved t c =
     let all = c.args.members.now.items in
     let here = members_from_index c.deref-member-items.result.now all c.loop-index.index x c.deref-member-items.ensures.value c.loop-index-test.true
     c.member-item.is in
-    pair_more tree_of all c.loop-index.index x c.loop-index.pairs.entries here c.loop-index.invariant c.in_ok-name.name c.in-Ok.expr
-    c.put.new.map.entries c.in-Ok.ensures c.in_ok-name.ensures.ok (search rules)
+    let more = read_inside c.read_expr-read.result (value_view x.1) (value_of (value_view x.1)) tree_of
+    (IsPutUnder x.0.now c.loop-index.pairs.entries c.put_read.new.all.entries) c.read_expr-read.ensures c.in_ok-put_read.ensures in
+    pair_more tree_of all c.loop-index.index x c.loop-index.pairs.entries here c.loop-index.invariant more.2.0 more.0
+    c.put_read.new.all.entries more.1 more.2.1 more.2.2
 
 -- where no member is left, all values were read
 pub read_record-returns : goal.read_record-returns

@@ -1,5 +1,5 @@
 use Rattle.std.proofs.Common.{length}
-use Rattle.cedar_json.proofs.place_table.ValuePlaces.of.Given as goal
+use Rattle.cedar_json.proofs.place_table.Listing.take_all.Given as goal
 
 abbrev pub decreases-loop-token : goal.decreases-loop-token
 decreases-loop-token l = length l.reader
