@@ -8,7 +8,7 @@ use Rattle.json.specs.Find.{get, get_member, later_or, as_object}
 use Rattle.json.specs.Tree.{json_tokens, members_tokens}
 use Rattle.json.specs.Value.{value_view, members_view}
 use Rattle.json.specs.declared.value.Value.{Value}
-use Rattle.cedar_json.specs.Words.{IsOther, Text, has_only, is_among, keys_among, member_at, nth_member}
+use Rattle.cedar_json.specs.Words.{IsOther, Text, has_only, if_so, is_among, keys_among, member_at, nth_member}
 
 or_assoc : (a b c : Bool) → ((a || b) || c) ≡ (a || (b || c))
 or_assoc true b c = refl
@@ -102,3 +102,14 @@ object_field-smaller name j ms e = object_in (length (json_tokens j)) (get name 
 pub object_held : (o : Option Json) (ms : Members) → option_and_then as_object o ≡ Some ms → o ≡ Some (object ms)
 object_held (Some (object os)) ms e = let same : os ≡ ms = cc in ap (λ m. Some (object m)) same
 object_held _ ms e = absurd (cc)
+
+-- what is described only where two tests hold
+pub where_both : {A : Type 0} (one other : Bool) (o : Option A) → (one && other) ≡ true → if_so one (if_so other o) ≡ o
+where_both true true o e = refl
+where_both true false o e = absurd (cc)
+where_both false other o e = absurd (cc)
+
+pub nowhere : {A : Type 0} (one other : Bool) (o : Option A) → (one && other) ≡ false → if_so one (if_so other o) ≡ None
+nowhere true true o e = absurd (cc)
+nowhere true false o e = refl
+nowhere false other o e = refl

@@ -3,7 +3,7 @@
 ghost use Rattle.std.specs.Prelude.{false};
 ghost use Rattle.cedar_json.specs.Words.{Requests, Tree, WrittenAction, WrittenParent, action_of, parent_of, requests_of, tree_of, value_expr, value_of, written_action, written_parent, written_requests};
 
-use crate::annotations::check_annotations;
+use crate::annotations::check_declaration;
 use crate::described::{Described, described_field, optional_field};
 use crate::entity_reading::shape_field;
 use crate::fault::{Fault, Row};
@@ -97,8 +97,7 @@ impl Taken for ActionType<RawName> {
         value: &mut Value<'_>,
         cursor: Cursor<'_>,
     ) -> Result<ActionType<RawName>, Fault> {
-        check_fields(alloc, value, Row::OfAction)?;
-        check_annotations(alloc, value)?;
+        check_declaration(alloc, value, Row::OfAction)?;
         let external = flag_field(alloc, value, "external", false)?;
         let attributes = taken_unless_null(alloc, value, "attributes", cursor)?;
         let member_of = optional_field(alloc, value, "memberOf", cursor)?;

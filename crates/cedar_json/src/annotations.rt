@@ -1,13 +1,13 @@
 //! Annotations, which are read and dropped.
 
-ghost use Rattle.std.specs.Prelude.{◌≡◌, Some, true, false, MatchResult, codes};
+ghost use Rattle.std.specs.Prelude.{◌≡◌, ◌&&◌, Some, true, false, MatchResult, codes};
 ghost use Rattle.json.specs.Find.{get};
 ghost use Rattle.json.specs.Json.{object};
 ghost use Rattle.json.specs.Value.{value_view, members_view};
-ghost use Rattle.cedar_json.specs.Words.{IsTrueOf, annotations_fit, are_annotations, is_text_or_null};
+ghost use Rattle.cedar_json.specs.Words.{IsTrueOf, annotations_fit, are_annotations, has_only, is_text_or_null, known_fields};
 
-use crate::fault::{Fault, FaultKind, Wanted};
-use crate::fields::members_of;
+use crate::fault::{Fault, FaultKind, Row, Wanted};
+use crate::fields::{check_fields, members_of};
 use crate::spelling::is_identifier;
 use json::Value;
 use std::alloc::Global;
@@ -65,4 +65,15 @@ pub(crate) fn check_annotations(alloc: Global, value: &Value<'_>) -> Result<(), 
         Ok(()) => Ok(()),
         Err(fault) => Err(fault.within(name)),
     }
+}
+
+/// Refuses what is no object of a kind, as one with other fields than it may have, or one whose
+/// annotations are none.
+pub(crate) fn check_declaration(alloc: Global, value: &Value<'_>, row: Row) -> Result<(), Fault>
+    ensures { let j = value_view value.now in
+        let fits = has_only (known_fields row j) j && annotations_fit (get (codes "annotations") j) in
+        MatchResult result (λ _. fits ≡ true) (λ fault. (fits ≡ false) × IsTrueOf fault j) }
+{
+    check_fields(alloc, value, row)?;
+    check_annotations(alloc, value)
 }

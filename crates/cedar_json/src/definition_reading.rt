@@ -6,9 +6,8 @@ ghost use Rattle.std.specs.Option.{option_cmp};
 ghost use Rattle.cedar_json.specs.Words.{Expr, PlainName, Text, WrittenDefinition, common_key, common_type_of, common_type_text, definition_of, id_key, name_cmp, namespace_key, plain_name, raw_expr, text_cmp, unreserved_id_text, written_definition};
 ghost use Rattle.cedar_below.proofs.Names.{name_ord-name_cmp};
 
-use crate::annotations::check_annotations;
+use crate::annotations::{check_annotations, check_declaration};
 use crate::fault::{Fault, FaultKind, Row};
-use crate::fields::check_fields;
 use crate::place_table::Cursor;
 use crate::taken::{Key, Taken, taken_field, taken_or_else};
 use crate::type_reading::read_type_of;
@@ -136,8 +135,7 @@ impl Taken for NamespaceDefinition<RawName> {
         value: &mut Value<'_>,
         cursor: Cursor<'_>,
     ) -> Result<NamespaceDefinition<RawName>, Fault> {
-        check_fields(alloc, value, Row::OfDefinition)?;
-        check_annotations(alloc, value)?;
+        check_declaration(alloc, value, Row::OfDefinition)?;
         let absent = BTreeMap::new(alloc);
         let common_types = taken_or_else(alloc, value, "commonTypes", absent, cursor)?;
         let entity_types = taken_field(alloc, value, "entityTypes", cursor)?;

@@ -2,32 +2,24 @@ use Rattle.std.proofs.Common.{false, codes, ap, refl, sym, ◌∙◌}
 use Rattle.std.proofs.lemmas.Result.{err_from_is_err_and}
 use Rattle.json.specs.Find.{get}
 use Rattle.json.specs.Value.{value_view}
-use Rattle.cedar_json.specs.Words.{action_by, annotations_fit, flag_or, if_so, optional, pairs_in, parents_of, requests_of}
+use Rattle.cedar_json.specs.Words.{action_by, annotations_fit, flag_or, has_only, known_fields, optional, pairs_in, parents_of, requests_of}
+use Rattle.cedar_json.specs.declared.fault.Row.TheVariants.{OfAction}
 use Rattle.cedar_json.proofs.ActionLemmas.{action_by-no_external, action_by-no_parents, action_by-no_requests, optional-pairs}
+use Rattle.cedar_json.proofs.FieldLemmas.{nowhere, where_both}
 use Rattle.cedar_json.proofs.action_reading.ActionTypeRawNameTaken.take.Goals as goal
 
--- a value with other fields than a declaration may have describes none
-pub returns-in_err-check_fields : goal.returns-in_err-check_fields
-returns-in_err-check_fields c =
+-- a value with other fields than a declaration may have describes none, nor does one whose annotations
+-- are none
+pub returns-in_err-check_declaration : goal.returns-in_err-check_declaration
+returns-in_err-check_declaration c =
     let j = value_view c.args.value.now in
     let p = err_from_is_err_and c.from_residual.result c.from_residual.ensures.1 in
     rw (p.1, p.2) (
-      λ other. (λ i. if_so (c.in_err-check_fields.ensures.0 i) (if_so (annotations_fit (get (codes "annotations") j))
-          (action_by (optional pairs_in (get (codes "attributes") j))
-          (optional requests_of (get (codes "appliesTo") j)) (optional parents_of (get (codes "memberOf") j)) (flag_or false (get (codes "external") j))))),
-      c.in_err-check_fields.ensures.1,
-    )
-
--- nor does one whose annotations are none
-pub returns-in_err-check_annotations : goal.returns-in_err-check_annotations
-returns-in_err-check_annotations c =
-    let j = value_view c.args.value.now in
-    let p = err_from_is_err_and c.from_residual-in_err-check_annotations.result c.from_residual-in_err-check_annotations.ensures.1 in
-    rw (p.1, p.2) (
-      λ other. (λ i. if_so (c.in_ok-check_fields.ensures i) (if_so (c.in_err-check_annotations.ensures.0 i)
-          (action_by (optional pairs_in (get (codes "attributes") j))
-          (optional requests_of (get (codes "appliesTo") j)) (optional parents_of (get (codes "memberOf") j)) (flag_or false (get (codes "external") j))))),
-      c.in_err-check_annotations.ensures.1,
+      λ other. nowhere (has_only (known_fields OfAction j) j) (annotations_fit (get (codes "annotations") j))
+          (action_by (optional pairs_in (get (codes "attributes") j)) (optional requests_of (get (codes "appliesTo") j))
+          (optional parents_of (get (codes "memberOf") j)) (flag_or false (get (codes "external") j)))
+          c.in_err-check_declaration.ensures.0,
+      c.in_err-check_declaration.ensures.1,
     )
 
 -- nor one whose field `external` is no flag
@@ -39,8 +31,9 @@ returns-in_err-external c =
     let parents = optional parents_of (get (codes "memberOf") j) in
     let p = err_from_is_err_and c.from_residual-in_err-external.result c.from_residual-in_err-external.ensures.1 in
     rw (p.1, p.2) (
-      λ other. (λ i. if_so (c.in_ok-check_fields.ensures i) (if_so (c.in_ok-check_annotations.ensures i) (action_by attributes requests parents (c.in_err-external.ensures.0 i))))
-          ∙ action_by-no_external attributes requests parents,
+      λ other. where_both (has_only (known_fields OfAction j) j) (annotations_fit (get (codes "annotations") j))
+          (action_by attributes requests parents (flag_or false (get (codes "external") j))) c.in_ok-check_declaration.ensures
+          ∙ ap (action_by attributes requests parents) c.in_err-external.ensures.0 ∙ action_by-no_external attributes requests parents,
       c.in_err-external.ensures.1,
     )
 
@@ -48,13 +41,16 @@ returns-in_err-external c =
 pub returns-in_err-attributes : goal.returns-in_err-attributes
 returns-in_err-attributes c =
     let j = value_view c.args.value.now in
+    let attributes = optional pairs_in (get (codes "attributes") j) in
+    let requests = optional requests_of (get (codes "appliesTo") j) in
+    let parents = optional parents_of (get (codes "memberOf") j) in
+    let external = flag_or false (get (codes "external") j) in
     let p = err_from_is_err_and c.from_residual-in_err-attributes.result c.from_residual-in_err-attributes.ensures.1 in
     rw (p.1, p.2) (
-      λ other.
-          let none = sym (optional-pairs (get (codes "attributes") j)) ∙ c.in_err-attributes.ensures.value.0 other in
-          (λ i. if_so (c.in_ok-check_fields.ensures i) (if_so (c.in_ok-check_annotations.ensures i)
-          (action_by (none i)
-          (optional requests_of (get (codes "appliesTo") j)) (optional parents_of (get (codes "memberOf") j)) (flag_or false (get (codes "external") j))))),
+      λ other. where_both (has_only (known_fields OfAction j) j) (annotations_fit (get (codes "annotations") j))
+          (action_by attributes requests parents external) c.in_ok-check_declaration.ensures
+          ∙ ap (λ a. action_by a requests parents external)
+          (sym (optional-pairs (get (codes "attributes") j)) ∙ c.in_err-attributes.ensures.value.0 other),
       c.in_err-attributes.ensures.value.1 j refl,
     )
 
@@ -65,13 +61,13 @@ returns-in_err-member_of c =
     let stays = c.in_ok-attributes.ensures.others (codes "memberOf") refl in
     let attributes = optional pairs_in (get (codes "attributes") j) in
     let requests = optional requests_of (get (codes "appliesTo") j) in
+    let parents = optional parents_of (get (codes "memberOf") j) in
     let external = flag_or false (get (codes "external") j) in
     let p = err_from_is_err_and c.from_residual-in_err-member_of.result c.from_residual-in_err-member_of.ensures.1 in
     rw (p.1, p.2) (
-      λ other.
-          let none = ap (optional parents_of) (sym stays) ∙ c.in_err-member_of.ensures.0 other in
-          (λ i. if_so (c.in_ok-check_fields.ensures i) (if_so (c.in_ok-check_annotations.ensures i)
-          (action_by attributes requests (none i) external)))
+      λ other. where_both (has_only (known_fields OfAction j) j) (annotations_fit (get (codes "annotations") j))
+          (action_by attributes requests parents external) c.in_ok-check_declaration.ensures
+          ∙ ap (λ m. action_by attributes requests m external) (ap (optional parents_of) (sym stays) ∙ c.in_err-member_of.ensures.0 other)
           ∙ action_by-no_parents attributes requests external,
       c.in_err-member_of.ensures.1 j (sym stays),
     )
@@ -82,14 +78,14 @@ returns-in_err-applies_to c =
     let j = value_view c.args.value.now in
     let stays = c.in_ok-attributes.ensures.others (codes "appliesTo") refl in
     let attributes = optional pairs_in (get (codes "attributes") j) in
+    let requests = optional requests_of (get (codes "appliesTo") j) in
     let parents = optional parents_of (get (codes "memberOf") j) in
     let external = flag_or false (get (codes "external") j) in
     let p = err_from_is_err_and c.from_residual-in_err-applies_to.result c.from_residual-in_err-applies_to.ensures.1 in
     rw (p.1, p.2) (
-      λ other.
-          let none = ap (optional requests_of) (sym stays) ∙ c.in_err-applies_to.ensures.0 other in
-          (λ i. if_so (c.in_ok-check_fields.ensures i) (if_so (c.in_ok-check_annotations.ensures i)
-          (action_by attributes (none i) parents external)))
+      λ other. where_both (has_only (known_fields OfAction j) j) (annotations_fit (get (codes "annotations") j))
+          (action_by attributes requests parents external) c.in_ok-check_declaration.ensures
+          ∙ ap (λ r. action_by attributes r parents external) (ap (optional requests_of) (sym stays) ∙ c.in_err-applies_to.ensures.0 other)
           ∙ action_by-no_requests attributes parents external,
       c.in_err-applies_to.ensures.1 j (sym stays),
     )
@@ -97,8 +93,11 @@ returns-in_err-applies_to c =
 -- what is declared are the parts that were read
 pub returns : goal.returns
 returns c =
-    let attributes = sym (optional-pairs (get (codes "attributes") (value_view c.args.value.now))) ∙ c.in_ok-attributes.ensures.value in
+    let j = value_view c.args.value.now in
+    let attributes = sym (optional-pairs (get (codes "attributes") j)) ∙ c.in_ok-attributes.ensures.value in
     let parents = ap (optional parents_of) (sym (c.in_ok-attributes.ensures.others (codes "memberOf") refl)) ∙ c.in_ok-member_of.ensures in
     let requests = ap (optional requests_of) (sym (c.in_ok-attributes.ensures.others (codes "appliesTo") refl)) ∙ c.in_ok-applies_to.ensures in
-    λ i. if_so (c.in_ok-check_fields.ensures i) (if_so (c.in_ok-check_annotations.ensures i)
-    (action_by (attributes i) (requests i) (parents i) (c.in_ok-external.ensures i)))
+    where_both (has_only (known_fields OfAction j) j) (annotations_fit (get (codes "annotations") j))
+    (action_by (optional pairs_in (get (codes "attributes") j)) (optional requests_of (get (codes "appliesTo") j))
+    (optional parents_of (get (codes "memberOf") j)) (flag_or false (get (codes "external") j))) c.in_ok-check_declaration.ensures
+    ∙ (λ i. action_by (attributes i) (requests i) (parents i) (c.in_ok-external.ensures i))
