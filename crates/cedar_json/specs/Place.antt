@@ -57,7 +57,11 @@ IsFault (KeyIsTypeWord index) j = IsSomeAnd (member_at index j) (λ m. IsReserve
 IsFault (KeyIsNoName index) j = IsSomeAnd (member_at index j) (λ m. ¬ IsNameText m.0)
 IsFault (KeyIsReservedName index) j = IsSomeAnd (member_at index j) (λ m. IsReservedNameText m.0)
 
--- the steps of a refusal lead to a value, and the fault is one of that value
+-- the steps, the last of them first, lead to a value, and the fault is one of that value
+unfoldable pub IsFaultAt : List Step → FaultKind → Json → Type 0
+IsFaultAt steps kind j = IsSomeAnd (found_at (reverse steps) j) (IsFault kind)
+
+-- the steps of a refusal lead to a value of which the fault is one
 abbrev pub IsTrueOf : Fault → Json → Type 0
-IsTrueOf (At steps kind) j = IsSomeAnd (found_at (reverse steps.items) j) (IsFault kind)
+IsTrueOf (At steps kind) j = IsFaultAt steps.items kind j
 IsTrueOf Memory j = ⊤

@@ -27,6 +27,7 @@ pub use Rattle.cedar_json.specs.Lists.{all_of, field_or}
 pub use Rattle.cedar_json.specs.Listing.{IsListed, action_mark, common_type_mark, entity_type_mark, marks_under}
 pub use Rattle.cedar_json.specs.Mark.{Mark, Marked, Marks, extension_type, mark_of, marked, open_record}
 pub use Rattle.cedar_json.specs.Place.{IsFault, IsTrueOf, member_at, step_into}
+unfoldable pub use Rattle.cedar_json.specs.Place.{IsFaultAt}
 pub use Rattle.cedar_json.specs.Reading.{IsPutUnder, IsReadFrom, IsReadWhere, IsSeenFrom}
 pub use Rattle.cedar_json.specs.RefusalPlace.{IsAttributedAction, IsAttributedPlace, IsExtensionType, IsFirstPlace, IsPlaceOf, IsSecondPlaceOf, IsShadowedPlace, IsSought}
 pub use Rattle.cedar_json.specs.Repeats.{IsRepeatIn, IsRepeated}

@@ -1,0 +1,7 @@
+use Rattle.std.proofs.Common.{rules}
+use Rattle.cedar_json.specs.Words.{IsFaultAt}
+use Rattle.cedar_json.proofs.fault.Fault.here.Goals as goal
+
+pub returns-clause-place : goal.returns-clause-place
+unfolding IsFaultAt
+returns-clause-place c = search rules
