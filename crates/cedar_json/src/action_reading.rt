@@ -7,11 +7,11 @@ use crate::annotations::check_declaration;
 use crate::described::{Described, described_field, optional_field};
 use crate::entity_reading::shape_field;
 use crate::fault::{Fault, Row};
-use crate::fields::{check_fields, flag_field, text_field};
+use crate::fields::{check_fields, flag_field};
 use crate::place_table::Cursor;
 use crate::taken::{Taken, taken_unless_null};
 use crate::value_reading::read_expr;
-use cedar_below::Value as CedarValue;
+use cedar_below::{Eid, Value as CedarValue};
 use cedar_names::json_schema::{ActionEntityUID, ActionType, ApplySpec, RawName};
 use json::Value;
 use std::alloc::Global;
@@ -31,10 +31,10 @@ impl Described for ActionEntityUID<RawName> {
         cursor: Cursor<'_>,
     ) -> Result<ActionEntityUID<RawName>, Fault> {
         check_fields(alloc, value, Row::OfParent)?;
-        let text = text_field(alloc, value, "id")?;
+        let Eid(id) = described_field(alloc, value, "id", cursor)?;
         let ty = optional_field(alloc, value, "type", cursor)?;
         Ok(ActionEntityUID {
-            id: String::from_str(alloc, text)?,
+            id,
             ty,
             loc: cursor.loc(),
         })

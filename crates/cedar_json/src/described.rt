@@ -76,8 +76,24 @@ impl<T: Described + Drop> Described for Option<T> {
     }
 }
 
+/// What a field describes that holds a value.
+fn read_held<T: Described>(
+    alloc: Global,
+    held: &Value<'_>,
+    name: &'static str,
+    cursor: Cursor<'_>,
+) -> Result<T, Fault>
+    ensures { IsReadWhere (λ j. get name.now j ≡ Some (value_view held.now))
+        (T.describes (value_view held.now)) T.shown result }
+{
+    match T::read(alloc, held, cursor) {
+        Ok(it) => Ok(it),
+        Err(fault) => Err(fault.within(name)),
+    }
+}
+
 /// What a field describes.
-pub(crate) fn described_field<T: Described + Drop>(
+pub(crate) fn described_field<T: Described>(
     alloc: Global,
     value: &Value<'_>,
     name: &'static str,
@@ -87,10 +103,7 @@ pub(crate) fn described_field<T: Described + Drop>(
         (option_and_then T.describes (get name.now (value_view value.now))) T.shown result }
 {
     match value.get(name) {
-        Some(held) => match T::read(alloc, held, cursor.field(value, name)) {
-            Ok(it) => Ok(it),
-            Err(fault) => Err(fault.within(name)),
-        },
+        Some(held) => read_held(alloc, held, name, cursor.field(value, name)),
         None => Err(lack(alloc, value, name)),
     }
 }
@@ -136,9 +149,9 @@ pub(crate) fn optional_field<T: Described + Drop>(
 {
     match written(value, name) {
         None => Ok(None),
-        Some(held) => match T::read(alloc, held, cursor.field(value, name)) {
+        Some(held) => match read_held(alloc, held, name, cursor.field(value, name)) {
             Ok(it) => Ok(Some(it)),
-            Err(fault) => Err(fault.within(name)),
+            Err(fault) => Err(fault),
         },
     }
 }

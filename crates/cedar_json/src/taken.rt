@@ -59,6 +59,18 @@ pub(crate) trait Key: Ord {
     ghost same_order: { (a b : Self) → Self.cmp a b ≡ order (shown_key a) (shown_key b) };
 }
 
+/// What a value describes, which is gone then.
+pub(crate) fn take_whole<T: Taken>(
+    alloc: Global,
+    mut value: Value<'_>,
+    cursor: Cursor<'_>,
+) -> Result<T, Fault>
+    ensures { IsReadFrom (value_view value.entry)
+        (T.describes (value_view value.entry)) T.shown result }
+{
+    T::take(alloc, &mut value, cursor)
+}
+
 /// Puts what the member at an index describes to the others, under what its key stands for.
 fn take_entry<K: Key + Drop, T: Taken + Drop>(
     alloc: Global,
@@ -76,11 +88,9 @@ fn take_entry<K: Key + Drop, T: Taken + Drop>(
         ≡ Some (member.entry.0.now, value_view member.entry.1)
         → IsTrueOf fault j)) }
 {
-    let (name, mut value) = member;
+    let (name, value) = member;
     let key = K::read_key(alloc, name, index, cursor)?;
-    let taken = T::take(alloc, &mut value, cursor);
-    drop(value);
-    match taken {
+    match take_whole(alloc, value, cursor) {
         Ok(it) => Ok(all.put(key, it)?),
         Err(fault) => Err(fault.in_member(index)),
     }
@@ -175,7 +185,7 @@ pub(crate) fn taken_field<T: Taken + Drop>(
 {
     let at = cursor.field(value, name);
     match take_held(value, name) {
-        Some(mut held) => match T::take(alloc, &mut held, at) {
+        Some(held) => match take_whole(alloc, held, at) {
             Ok(it) => Ok(it),
             Err(fault) => Err(fault.within(name)),
         },

@@ -10,7 +10,7 @@ use crate::fault::{Fault, FaultKind, Step};
 use crate::place_table::ValuePlaces;
 use crate::repeated_keys::{Repeat, check_keys};
 use crate::stop::stop_of;
-use crate::taken::Taken;
+use crate::taken::take_whole;
 use crate::value_place::{Place, faulty_key, place_at};
 use cedar_names::json_schema::{Fragment, RawName};
 use json::{Error, Scratch, Value};
@@ -134,7 +134,7 @@ fn fragment_in(
     alloc: Global,
     text: &str,
     source: u32,
-    mut value: Value<'_>,
+    value: Value<'_>,
 ) -> Result<Fragment<RawName>, JsonSchemaFault>
     requires { document text.now ≡ Some (value_view value) }
     ensures { MatchResult result
@@ -145,9 +145,7 @@ fn fragment_in(
     let Ok(places) = ValuePlaces::of(alloc, text, source) else {
         return Err(JsonSchemaFault::Memory);
     };
-    let taken = Taken::take(alloc, &mut value, places.cursor());
-    drop(value);
-    match taken {
+    match take_whole(alloc, value, places.cursor()) {
         Ok(namespaces) => Ok(Fragment(namespaces)),
         Err(Fault::At(steps, fault)) => Err(out_of_shape(alloc, text, &places, steps, fault)),
         Err(Fault::Memory) => Err(JsonSchemaFault::Memory),

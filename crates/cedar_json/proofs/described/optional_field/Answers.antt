@@ -11,6 +11,6 @@ returns-in-Err g c =
     let held = get c.args.name.now (value_view c.args.value.now) in
     let k = value_view c.in-Some.held.now in (
       λ other. ap (field_or None (λ j. option_map Some (describes j))) (sym c.in-Some.ensures)
-          ∙ ap (option_map Some) (c.in-Err.ensures.0 (c.within.ensures.memory other)),
-      λ j same. c.within.ensures.place j k (same ∙ unless_null-held held k (sym c.in-Some.ensures)) c.in-Err.ensures.1,
+          ∙ ap (option_map Some) (c.in-Err.ensures.0 other),
+      λ j same. c.in-Err.ensures.1 j (same ∙ unless_null-held held k (sym c.in-Some.ensures)),
     )
