@@ -27,6 +27,25 @@ struct Choice {
     is_positional: bool,
 }
 
+/// What a command takes.
+#[derive(Clone, Copy, Drop)]
+enum Taken {
+    /// Files alone, and how refusals are told.
+    Files,
+    /// What the command that builds does.
+    Build,
+    /// What the command that shows types does.
+    Type,
+    /// What the command that shows environments does.
+    Envs,
+    /// What the command that links does.
+    Link,
+    /// What the command that lays out does.
+    Format,
+    /// What the command that compares does.
+    Compare,
+}
+
 /// A command.
 #[derive(Clone, Copy, Drop)]
 struct Row {
@@ -36,8 +55,8 @@ struct Row {
     about: &'static str,
     /// An example of its use.
     example: &'static str,
-    /// The files that it reads, unless options name them, and its options.
-    choices: &'static [Choice],
+    /// What it takes.
+    takes: Taken,
 }
 
 /// Objects of JSON are asked for.
@@ -273,57 +292,72 @@ const ROWS: &[Row] = &[
         name: "check",
         about: "Reads each file as a fragment, without building",
         example: "Example: cedar_check check photos.json",
-        choices: PLAIN,
+        takes: Taken::Files,
     },
     Row {
         name: "build",
         about: "Builds one schema of all files, and counts what it declares",
         example: "Example: cedar_check build photos.json",
-        choices: BUILD,
+        takes: Taken::Build,
     },
     Row {
         name: "show",
         about: "Shows what the schema declares, in sorted lines",
         example: "Example: cedar_check show photos.json",
-        choices: PLAIN,
+        takes: Taken::Files,
     },
     Row {
         name: "type",
         about: "Shows the type of an entity type's attributes or tags, or of an action's context",
         example: "Example: cedar_check type photos.json --entity PhotoApp::Photo --attribute size",
-        choices: TYPE,
+        takes: Taken::Type,
     },
     Row {
         name: "envs",
         about: "Shows the environments of requests: principal, action and resource",
         example: "Example: cedar_check envs photos.json --principal PhotoApp::User",
-        choices: ENVS,
+        takes: Taken::Envs,
     },
     Row {
         name: "graph",
         about: "Draws the hierarchies as a graph in Graphviz DOT",
         example: "Example: cedar_check graph photos.json | dot -Tsvg > photos.svg",
-        choices: PLAIN,
+        takes: Taken::Files,
     },
     Row {
         name: "link",
         about: "Writes what all files declare together as one fragment",
         example: "Example: cedar_check link photos.json printing.json -o whole.json",
-        choices: LINK,
+        takes: Taken::Link,
     },
     Row {
         name: "format",
         about: "Lays a file out in the order of the format, with all that it says",
         example: "Example: cedar_check format photos.json --check",
-        choices: FORMAT,
+        takes: Taken::Format,
     },
     Row {
         name: "compare",
         about: "Compares two versions of a schema: what the new one takes away, and what it adds",
         example: "Example: cedar_check compare --old photos.json --new photos_next.json",
-        choices: COMPARE,
+        takes: Taken::Compare,
     },
 ];
+
+impl Taken {
+    /// The files that are read, unless options name them, and the options.
+    fn choices(self) -> &'static [Choice] {
+        match self {
+            Taken::Files => PLAIN,
+            Taken::Build => BUILD,
+            Taken::Type => TYPE,
+            Taken::Envs => ENVS,
+            Taken::Link => LINK,
+            Taken::Format => FORMAT,
+            Taken::Compare => COMPARE,
+        }
+    }
+}
 
 /// A row of a table, which says something of the program's words.
 trait Says<T> {
@@ -382,7 +416,7 @@ fn command<'a>(alloc: Global, row: &Row, args: Vec<Arg<'a>>) -> Result<Command<'
 
 impl<'a> Says<Command<'a>> for Row {
     fn said(&self, alloc: Global) -> Result<Command<'a>, AllocError> {
-        command(alloc, self, all(alloc, self.choices)?)
+        command(alloc, self, all(alloc, self.takes.choices())?)
     }
 }
 
