@@ -13,7 +13,7 @@ use crate::finding::{Finding, Source};
 use crate::graph::graph;
 use crate::laying_out::format;
 use crate::linking::{is_read, link, would_overwrite};
-use crate::outcome::{Given, Manner, Outcome, Stop, refused};
+use crate::outcome::{Manner, Outcome, refused};
 use crate::reading::well_formed;
 use crate::status::Status;
 use crate::text::Text;
@@ -54,13 +54,18 @@ fn well_formed_lines(alloc: Global, sources: &[Source]) -> M<String> {
 }
 
 /// Reads each file, and says that each is well formed.
-fn check<F: FileAccess>(alloc: Global, files: &mut F, names: &[&str], manner: Manner) -> Given {
+fn check<F: FileAccess>(
+    alloc: Global,
+    files: &mut F,
+    names: &[&str],
+    manner: Manner,
+) -> M<Outcome> {
     match well_formed(alloc, files, names, manner) {
         Ok(read) => {
             let lines = well_formed_lines(alloc, &read.sources)?;
             Ok(Outcome::done(alloc, lines))
         }
-        Err(stop) => Err(stop),
+        Err(told) => told,
     }
 }
 
@@ -190,10 +195,10 @@ fn over_schema<F: FileAccess>(
     command: &str,
     matches: &ArgMatches<'_>,
     names: &[&str],
-) -> Given {
+) -> M<Outcome> {
     match built(alloc, files, names, manner(matches)) {
-        Ok(it) => over_built(alloc, command, matches, &it).or(Err(Stop::Memory)),
-        Err(stop) => Err(stop),
+        Ok(it) => over_built(alloc, command, matches, &it),
+        Err(told) => told,
     }
 }
 
@@ -210,12 +215,12 @@ fn linked<F: FileAccess>(
     files: &mut F,
     matches: &ArgMatches<'_>,
     names: &[&str],
-) -> Given {
+) -> M<Outcome> {
     let manner = manner(matches);
     match matches.get_str("output") {
         Some(output) if output != "-" => {
             if is_read(files, output, names) {
-                return overwrites(alloc, output).or(Err(Stop::Memory));
+                return overwrites(alloc, output);
             }
             link(alloc, files, names, manner, Some(output))
         }
@@ -242,11 +247,11 @@ fn reads_input_twice(alloc: Global) -> M<Outcome>
 }
 
 /// What the command that compares gives.
-fn compared<F: FileAccess>(alloc: Global, files: &mut F, matches: &ArgMatches<'_>) -> Given {
+fn compared<F: FileAccess>(alloc: Global, files: &mut F, matches: &ArgMatches<'_>) -> M<Outcome> {
     let old = words_of(alloc, matches, "old")?;
     let new = words_of(alloc, matches, "new")?;
     if input_count(&old).saturating_add(input_count(&new)) > 1 {
-        return reads_input_twice(alloc).or(Err(Stop::Memory));
+        return reads_input_twice(alloc);
     }
     let telling = Telling {
         manner: manner(matches),
@@ -256,7 +261,7 @@ fn compared<F: FileAccess>(alloc: Global, files: &mut F, matches: &ArgMatches<'_
 }
 
 /// What the command that lays out gives.
-fn laid_out<F: FileAccess>(alloc: Global, files: &mut F, matches: &ArgMatches<'_>) -> Given {
+fn laid_out<F: FileAccess>(alloc: Global, files: &mut F, matches: &ArgMatches<'_>) -> M<Outcome> {
     let name = matches.get_str("FILE").unwrap_or("-");
     let is_test = matches.get_flag("check");
     format(alloc, files, name, manner(matches), is_test)
@@ -268,10 +273,10 @@ fn over_files<F: FileAccess>(
     files: &mut F,
     command: &str,
     matches: &ArgMatches<'_>,
-) -> Given {
+) -> M<Outcome> {
     let names = words_of(alloc, matches, "FILE")?;
     if input_count(&names) > 1 {
-        return reads_input_twice(alloc).or(Err(Stop::Memory));
+        return reads_input_twice(alloc);
     }
     match command {
         "check" => check(alloc, files, &names, manner(matches)),
@@ -286,7 +291,7 @@ pub(crate) fn outcome_of<F: FileAccess>(
     files: &mut F,
     command: &str,
     matches: &ArgMatches<'_>,
-) -> Given {
+) -> M<Outcome> {
     match command {
         "format" => laid_out(alloc, files, matches),
         "compare" => compared(alloc, files, matches),

@@ -2,7 +2,7 @@
 
 use crate::files::FileAccess;
 use crate::finding::{Finding, Source, file_of};
-use crate::outcome::{Manner, Outcome, Stop, refused};
+use crate::outcome::{Manner, Outcome, refused};
 use crate::reading::{ReadFiles, source_number, well_formed};
 use cedar_below::{Loc, M, Memory};
 use cedar_json::{
@@ -96,8 +96,8 @@ fn not_built(alloc: Global, manner: Manner, sources: &[Source], error: &SchemaEr
 }
 
 /// The same of a refusal that is done with then.
-fn refusal(alloc: Global, manner: Manner, sources: &[Source], error: SchemaError) -> Stop {
-    Stop::of(not_built(alloc, manner, sources, &error))
+fn refusal(alloc: Global, manner: Manner, sources: &[Source], error: SchemaError) -> M<Outcome> {
+    not_built(alloc, manner, sources, &error)
 }
 
 /// The schema that fragments declare, over the extensions of Cedar.
@@ -115,7 +115,7 @@ pub(crate) fn built<F: FileAccess>(
     files: &mut F,
     names: &[&str],
     manner: Manner,
-) -> Result<BuiltFiles, Stop> {
+) -> Result<BuiltFiles, M<Outcome>> {
     let ReadFiles {
         sources,
         fragments,

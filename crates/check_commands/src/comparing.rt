@@ -9,7 +9,7 @@ use crate::difference_json::push_objects;
 use crate::difference_lines::push_lines;
 use crate::files::FileAccess;
 use crate::finding::Finding;
-use crate::outcome::{Given, Manner, Outcome, Stop, refused};
+use crate::outcome::{Manner, Outcome, refused};
 use crate::sides::Sides;
 use crate::status::Status;
 use crate::text::Text;
@@ -160,11 +160,11 @@ fn with_new_faults<F: FileAccess>(
     told: Outcome,
     new: &[&str],
     manner: Manner,
-) -> Given {
+) -> M<Outcome> {
     match built(alloc, files, new, manner) {
         Ok(_) => Ok(told),
-        Err(Stop::Told(other)) => told.with(&other).or(Err(Stop::Memory)),
-        Err(Stop::Memory) => Err(Stop::Memory),
+        Err(Ok(other)) => told.with(&other),
+        Err(Err(refused)) => Err(refused),
     }
 }
 
@@ -175,10 +175,10 @@ fn compare_built<F: FileAccess>(
     old: &ValidatorSchema,
     new: &[&str],
     telling: Telling,
-) -> Given {
+) -> M<Outcome> {
     match built(alloc, files, new, telling.manner) {
-        Ok(new) => compare_schemas(alloc, telling, old, &new.schema).or(Err(Stop::Memory)),
-        Err(stop) => Err(stop),
+        Ok(new) => compare_schemas(alloc, telling, old, &new.schema),
+        Err(told) => told,
     }
 }
 
@@ -190,10 +190,10 @@ pub(crate) fn compare_files<F: FileAccess>(
     old: &[&str],
     new: &[&str],
     telling: Telling,
-) -> Given {
+) -> M<Outcome> {
     match built(alloc, files, old, telling.manner) {
         Ok(old) => compare_built(alloc, files, &old.schema, new, telling),
-        Err(Stop::Told(told)) => with_new_faults(alloc, files, told, new, telling.manner),
-        Err(Stop::Memory) => Err(Stop::Memory),
+        Err(Ok(told)) => with_new_faults(alloc, files, told, new, telling.manner),
+        Err(Err(refused)) => Err(refused),
     }
 }

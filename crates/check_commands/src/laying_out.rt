@@ -5,7 +5,7 @@ ghost use Rattle.std.specs.Prelude.{◌≡◌, IfOk};
 use crate::files::FileAccess;
 use crate::finding::{Finding, Source};
 use crate::layout::laid_out;
-use crate::outcome::{Given, Manner, Outcome, Stop, refused};
+use crate::outcome::{Manner, Outcome, refused};
 use crate::reading::well_formed;
 use crate::status::Status;
 use cedar_below::{M, Memory};
@@ -55,9 +55,9 @@ pub(crate) fn format<F: FileAccess>(
     name: &str,
     manner: Manner,
     is_test: bool,
-) -> Given {
+) -> M<Outcome> {
     match well_formed(alloc, files, &[name], manner) {
-        Ok(read) => first_layout(alloc, manner, &read.sources, is_test).or(Err(Stop::Memory)),
-        Err(stop) => Err(stop),
+        Ok(read) => first_layout(alloc, manner, &read.sources, is_test),
+        Err(told) => told,
     }
 }

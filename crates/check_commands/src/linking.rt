@@ -7,7 +7,7 @@ use crate::building::{BuiltFiles, built};
 use crate::files::{FileAccess, FileFault};
 use crate::finding::{Finding, Source};
 use crate::left_out::{LeftOut, left_out};
-use crate::outcome::{Given, Manner, Outcome, Stop, refused};
+use crate::outcome::{Manner, Outcome, refused};
 use crate::status::Status;
 use crate::text::Text;
 use cedar_below::{M, Memory};
@@ -158,9 +158,9 @@ pub(crate) fn link<F: FileAccess>(
     names: &[&str],
     manner: Manner,
     output: Option<&str>,
-) -> Given {
+) -> M<Outcome> {
     match built(alloc, files, names, manner) {
-        Ok(it) => link_built(alloc, files, &it, manner, output).or(Err(Stop::Memory)),
-        Err(stop) => Err(stop),
+        Ok(it) => link_built(alloc, files, &it, manner, output),
+        Err(told) => told,
     }
 }

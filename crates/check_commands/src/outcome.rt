@@ -6,7 +6,7 @@ use crate::finding::{Finding, FindingIn, Source, push_finding};
 use crate::json_lines::push_object;
 use crate::status::Status;
 use crate::text::Text;
-use cedar_below::{M, Memory};
+use cedar_below::M;
 use std::alloc::Global;
 
 /// What is printed, and the status that goes with it.
@@ -63,34 +63,6 @@ impl Outcome {
             self.status = Status::Unread;
         }
         Ok(self)
-    }
-}
-
-/// Why a command goes no further.
-#[derive(Drop)]
-pub(crate) enum Stop {
-    /// This is told in place of what was asked for.
-    Told(Outcome),
-    /// Out of memory.
-    Memory,
-}
-
-impl Stop {
-    /// Because of what is told, or since memory ran out for it.
-    pub(crate) fn of(told: M<Outcome>) -> Self {
-        match told {
-            Ok(outcome) => Stop::Told(outcome),
-            Err(Memory) => Stop::Memory,
-        }
-    }
-}
-
-/// What a command gives, or why it goes no further.
-pub(crate) type Given = Result<Outcome, Stop>;
-
-impl From<Memory> for Stop {
-    fn from(_refused: Memory) -> Self {
-        Stop::Memory
     }
 }
 

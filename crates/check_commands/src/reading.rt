@@ -6,7 +6,7 @@ use crate::fault_text::{fault_loc, fault_text, kind_word};
 use crate::files::{FileAccess, FileFault};
 use crate::finding::{Finding, Source};
 use crate::first_key::first_key;
-use crate::outcome::{Manner, Outcome, Stop, at_fault};
+use crate::outcome::{Manner, Outcome, at_fault};
 use crate::status::Status;
 use cedar_below::{M, Memory};
 use cedar_json::{JsonSchemaFault, fragment_from_json};
@@ -180,11 +180,11 @@ fn told_faults(alloc: Global, manner: Manner, read: &ReadFiles) -> M<Outcome>
 }
 
 /// The files, where none of them is at fault.
-fn faultless(alloc: Global, manner: Manner, read: ReadFiles) -> Result<ReadFiles, Stop> {
+fn faultless(alloc: Global, manner: Manner, read: ReadFiles) -> Result<ReadFiles, M<Outcome>> {
     if read.findings.is_empty() {
         return Ok(read);
     }
-    Err(Stop::of(told_faults(alloc, manner, &read)))
+    Err(told_faults(alloc, manner, &read))
 }
 
 /// The files, each read as a fragment; where some can't be read or are at fault, what is told of
@@ -194,9 +194,9 @@ pub(crate) fn well_formed<F: FileAccess>(
     files: &mut F,
     names: &[&str],
     manner: Manner,
-) -> Result<ReadFiles, Stop> {
+) -> Result<ReadFiles, M<Outcome>> {
     match read_files(alloc, files, names) {
         Ok(read) => faultless(alloc, manner, read),
-        Err(Memory) => Err(Stop::Memory),
+        Err(refused) => Err(Err(refused)),
     }
 }

@@ -4,7 +4,7 @@ ghost use Rattle.std.specs.Prelude.{◌≡◌, ◌<◌, ◌⊎◌, IfOk, OnErr};
 
 use crate::asked::outcome_of;
 use crate::files::FileAccess;
-use crate::outcome::{Outcome, Stop};
+use crate::outcome::Outcome;
 use crate::status::Status;
 use crate::words::program;
 use cedar_below::{M, Memory};
@@ -22,11 +22,7 @@ fn matches_of<'a>(alloc: Global, words: &'a [String]) -> Result<ArgMatches<'a>, 
 /// What the command gives that the words ask for.
 fn asked<F: FileAccess>(alloc: Global, files: &mut F, matches: &ArgMatches<'_>) -> M<Outcome> {
     match matches.subcommand() {
-        Some((command, matches)) => match outcome_of(alloc, files, command, matches) {
-            Ok(outcome) => Ok(outcome),
-            Err(Stop::Told(outcome)) => Ok(outcome),
-            Err(Stop::Memory) => Err(Memory),
-        },
+        Some((command, matches)) => outcome_of(alloc, files, command, matches),
         None => Ok(Outcome::done(alloc, String::new(alloc))),
     }
 }
