@@ -4,7 +4,7 @@ use crate::finding::{Finding, file_of};
 use crate::text::Text;
 use cedar_below::{EntityType, EntityUID, M, Memory, NameFault};
 use cedar_schema::{CompleteError, IncompleteSchemaError, RequestEnv, ValidatorSchema};
-use std::alloc::{AllocError, Global};
+use std::alloc::Global;
 
 /// How many things of a kind there are, and how many of them are external.
 #[derive(Clone, Copy, Drop)]
@@ -87,45 +87,52 @@ pub(crate) fn incomplete(alloc: Global, schema: &ValidatorSchema) -> M<Option<Fi
     }
 }
 
-/// Why a question of a schema has no answer.
+/// What the text of an answer says.
+#[derive(Clone, Copy, Drop)]
+pub(crate) enum AnswerKind {
+    /// What was asked for, in lines.
+    Lines,
+    /// That the schema has nothing of that kind.
+    Nothing,
+    /// Why the question itself is none.
+    BadWord,
+}
+
+/// What is answered to a question of a schema.
 #[derive(Drop)]
-pub(crate) enum NoAnswer {
-    /// The schema has nothing of that kind, in words.
-    Nothing(String),
-    /// The question itself is none, in words.
-    BadWord(String),
-    /// Out of memory.
-    Memory,
+pub(crate) struct Answer {
+    /// What its text says.
+    pub(crate) kind: AnswerKind,
+    /// Its text, where memory sufficed for it.
+    pub(crate) text: M<String>,
 }
 
-impl From<AllocError> for NoAnswer {
-    fn from(_refused: AllocError) -> Self {
-        NoAnswer::Memory
+impl Answer {
+    /// The lines that were asked for.
+    pub(crate) fn lines(text: M<String>) -> Self {
+        let kind = AnswerKind::Lines;
+        Answer { kind, text }
+    }
+
+    /// That a schema has nothing of a kind.
+    pub(crate) fn nothing(text: M<String>) -> Self {
+        let kind = AnswerKind::Nothing;
+        Answer { kind, text }
     }
 }
-
-impl From<Memory> for NoAnswer {
-    fn from(_refused: Memory) -> Self {
-        NoAnswer::Memory
-    }
-}
-
-/// The lines that answer a question.
-pub(crate) type Answer = Result<String, NoAnswer>;
 
 /// Why a word is no name or no uid.
-fn bad_word(alloc: Global, word: &str, fault: NameFault) -> NoAnswer {
-    if let NameFault::Memory(_) = fault {
-        return NoAnswer::Memory;
-    }
-    match format!(in alloc; "{word}: {fault}") {
-        Ok(why) => NoAnswer::BadWord(why),
-        Err(_) => NoAnswer::Memory,
-    }
+fn bad_word(alloc: Global, word: &str, fault: NameFault) -> Answer {
+    let text = match fault {
+        NameFault::Memory(refused) => Err(refused),
+        fault => format!(in alloc; "{word}: {fault}").or(Err(Memory)),
+    };
+    let kind = AnswerKind::BadWord;
+    Answer { kind, text }
 }
 
 /// The entity type that a word names.
-pub(crate) fn type_named(alloc: Global, word: &str) -> Result<EntityType, NoAnswer> {
+pub(crate) fn type_named(alloc: Global, word: &str) -> Result<EntityType, Answer> {
     match EntityType::from_str(alloc, word) {
         Ok(ty) => Ok(ty),
         Err(fault) => Err(bad_word(alloc, word, fault)),
@@ -133,7 +140,7 @@ pub(crate) fn type_named(alloc: Global, word: &str) -> Result<EntityType, NoAnsw
 }
 
 /// The uid that a word spells.
-pub(crate) fn uid_named(alloc: Global, word: &str) -> Result<EntityUID, NoAnswer> {
+pub(crate) fn uid_named(alloc: Global, word: &str) -> Result<EntityUID, Answer> {
     match EntityUID::from_str(alloc, word) {
         Ok(uid) => Ok(uid),
         Err(fault) => Err(bad_word(alloc, word, fault)),

@@ -3,7 +3,7 @@
 ghost use Rattle.std.specs.Prelude.{◌≡◌, IfOk};
 
 use crate::answers::{
-    Answer, NoAnswer, Wanted, counts, environment_lines, incomplete, type_named, uid_named,
+    Answer, AnswerKind, Wanted, counts, environment_lines, incomplete, type_named, uid_named,
 };
 use crate::attribute_types::{action_answer, entity_answer};
 use crate::building::{BuiltFiles, built};
@@ -22,17 +22,6 @@ use cedar_schema::ValidatorSchema;
 use clap::ArgMatches;
 use schema_lines::escaped_lines_of;
 use std::alloc::Global;
-
-/// The words behind an option or an argument.
-fn words_of<'a>(alloc: Global, matches: &ArgMatches<'a>, id: &str) -> M<Vec<&'a str>> {
-    let mut words = Vec::new(alloc);
-    if let Some(given) = matches.get_strs(id) {
-        for word in given {
-            words.push(*word)?;
-        }
-    }
-    Ok(words)
-}
 
 /// How findings are asked to be told.
 fn manner(matches: &ArgMatches<'_>) -> Manner {
@@ -82,13 +71,18 @@ fn usage(alloc: Global, why: &str) -> M<Outcome>
 
 /// The outcome of a question.
 fn answered(alloc: Global, manner: Manner, sources: &[Source], answer: Answer) -> M<Outcome> {
-    match answer {
-        Ok(text) => Ok(Outcome::done(alloc, text)),
-        Err(NoAnswer::BadWord(why)) => usage(alloc, why.as_str()),
-        Err(NoAnswer::Nothing(why)) => {
-            refused(alloc, manner, sources, Finding::general("NotDeclared", why))
+    let text = answer.text?;
+    match answer.kind {
+        AnswerKind::Lines => Ok(Outcome::done(alloc, text)),
+        AnswerKind::BadWord => usage(alloc, text.as_str()),
+        AnswerKind::Nothing => {
+            refused(
+                alloc,
+                manner,
+                sources,
+                Finding::general("NotDeclared", text),
+            )
         }
-        Err(NoAnswer::Memory) => Err(Memory),
     }
 }
 
@@ -111,12 +105,12 @@ fn build(alloc: Global, manner: Manner, matches: &ArgMatches<'_>, it: &BuiltFile
 
 /// The type that is asked for.
 fn type_answer(alloc: Global, matches: &ArgMatches<'_>, schema: &ValidatorSchema) -> Answer {
-    let attributes = words_of(alloc, matches, "attribute")?;
+    let attributes = matches.get_strs("attribute").unwrap_or(&[]);
     if let Some(name) = matches.get_str("entity") {
-        return entity_answer(alloc, schema, name, &attributes, matches.get_flag("tags"));
+        return entity_answer(alloc, schema, name, attributes, matches.get_flag("tags"));
     }
     let action = matches.get_str("action").unwrap_or("");
-    action_answer(alloc, schema, action, &attributes)
+    action_answer(alloc, schema, action, attributes)
 }
 
 /// The entity type that an option names, if it is given.
@@ -124,7 +118,7 @@ fn type_given(
     alloc: Global,
     matches: &ArgMatches<'_>,
     id: &str,
-) -> Result<Option<EntityType>, NoAnswer> {
+) -> Result<Option<EntityType>, Answer> {
     match matches.get_str(id) {
         Some(word) => Ok(Some(type_named(alloc, word)?)),
         None => Ok(None),
@@ -132,7 +126,7 @@ fn type_given(
 }
 
 /// The action that an option names, if it is given.
-fn action_given(alloc: Global, matches: &ArgMatches<'_>) -> Result<Option<EntityUID>, NoAnswer> {
+fn action_given(alloc: Global, matches: &ArgMatches<'_>) -> Result<Option<EntityUID>, Answer> {
     match matches.get_str("action") {
         Some(word) => Ok(Some(uid_named(alloc, word)?)),
         None => Ok(None),
@@ -140,7 +134,7 @@ fn action_given(alloc: Global, matches: &ArgMatches<'_>) -> Result<Option<Entity
 }
 
 /// What environments are asked for.
-fn wanted(alloc: Global, matches: &ArgMatches<'_>) -> Result<Wanted, NoAnswer> {
+fn wanted(alloc: Global, matches: &ArgMatches<'_>) -> Result<Wanted, Answer> {
     let principal = type_given(alloc, matches, "principal")?;
     let resource = type_given(alloc, matches, "resource")?;
     Ok(Wanted {
@@ -153,8 +147,8 @@ fn wanted(alloc: Global, matches: &ArgMatches<'_>) -> Result<Wanted, NoAnswer> {
 /// The environments that are asked for.
 fn environments(alloc: Global, matches: &ArgMatches<'_>, schema: &ValidatorSchema) -> Answer {
     match wanted(alloc, matches) {
-        Ok(wanted) => environment_lines(alloc, schema, &wanted).or(Err(NoAnswer::Memory)),
-        Err(why) => Err(why),
+        Ok(wanted) => Answer::lines(environment_lines(alloc, schema, &wanted)),
+        Err(why) => why,
     }
 }
 
@@ -168,8 +162,8 @@ fn answer_of(
     match command {
         "type" => type_answer(alloc, matches, schema),
         "envs" => environments(alloc, matches, schema),
-        "graph" => graph(alloc, schema).or(Err(NoAnswer::Memory)),
-        _ => escaped_lines_of(alloc, schema).or(Err(NoAnswer::Memory)),
+        "graph" => Answer::lines(graph(alloc, schema)),
+        _ => Answer::lines(escaped_lines_of(alloc, schema)),
     }
 }
 
@@ -248,16 +242,16 @@ fn reads_input_twice(alloc: Global) -> M<Outcome>
 
 /// What the command that compares gives.
 fn compared<F: FileAccess>(alloc: Global, files: &mut F, matches: &ArgMatches<'_>) -> M<Outcome> {
-    let old = words_of(alloc, matches, "old")?;
-    let new = words_of(alloc, matches, "new")?;
-    if input_count(&old).saturating_add(input_count(&new)) > 1 {
+    let old = matches.get_strs("old").unwrap_or(&[]);
+    let new = matches.get_strs("new").unwrap_or(&[]);
+    if input_count(old).saturating_add(input_count(new)) > 1 {
         return reads_input_twice(alloc);
     }
     let telling = Telling {
         manner: manner(matches),
         is_all: matches.get_flag("all"),
     };
-    compare_files(alloc, files, &old, &new, telling)
+    compare_files(alloc, files, old, new, telling)
 }
 
 /// What the command that lays out gives.
@@ -274,14 +268,14 @@ fn over_files<F: FileAccess>(
     command: &str,
     matches: &ArgMatches<'_>,
 ) -> M<Outcome> {
-    let names = words_of(alloc, matches, "FILE")?;
-    if input_count(&names) > 1 {
+    let names = matches.get_strs("FILE").unwrap_or(&[]);
+    if input_count(names) > 1 {
         return reads_input_twice(alloc);
     }
     match command {
-        "check" => check(alloc, files, &names, manner(matches)),
-        "link" => linked(alloc, files, matches, &names),
-        _ => over_schema(alloc, files, command, matches, &names),
+        "check" => check(alloc, files, names, manner(matches)),
+        "link" => linked(alloc, files, matches, names),
+        _ => over_schema(alloc, files, command, matches, names),
     }
 }
 

@@ -1,26 +1,24 @@
 //! The types of attributes, of tags and of contexts.
 
-use crate::answers::{Answer, NoAnswer, type_named, uid_named};
+use crate::answers::{Answer, type_named, uid_named};
 use crate::text::Text;
 use cedar_below::{EntityType, EntityUID, Memory};
 use cedar_schema::lookup::SchemaLookup;
 use cedar_schema::{Type, ValidatorEntityType, ValidatorSchema};
-use std::alloc::{AllocError, Global};
+use std::alloc::Global;
+use std::fmt::Display;
 
 /// One line with the text of a type.
 fn type_line(alloc: Global, ty: &Type) -> Answer {
     let mut line = Text::new(alloc);
     line.write_escaped(ty);
     line.push('\n');
-    line.whole().or(Err(NoAnswer::Memory))
+    Answer::lines(line.whole())
 }
 
-/// That a schema has nothing of a kind, where memory sufficed to say so.
-fn nothing(why: Result<String, AllocError>) -> Answer {
-    match why {
-        Ok(why) => Err(NoAnswer::Nothing(why)),
-        Err(_) => Err(NoAnswer::Memory),
-    }
+/// That a schema has nothing of a kind.
+fn nothing<T: Display + Drop>(alloc: Global, why: T) -> Answer {
+    Answer::nothing(String::format(alloc, why).or(Err(Memory)))
 }
 
 /// A type, or the type at the end of a chain of attributes that begins with one of it.
@@ -30,8 +28,8 @@ fn type_below(alloc: Global, schema: &ValidatorSchema, ty: &Type, names: &[&str]
     };
     match Type::lookup_attribute_type(alloc, schema, ty, name) {
         Ok(Some(attribute)) => type_below(alloc, schema, &attribute.attr_type, others),
-        Ok(None) => nothing(format!(in alloc; "{ty} has no attribute \"{name}\"")),
-        Err(Memory) => Err(NoAnswer::Memory),
+        Ok(None) => nothing(alloc, format_args!("{ty} has no attribute \"{name}\"")),
+        Err(refused) => Answer::lines(Err(refused)),
     }
 }
 
@@ -39,7 +37,7 @@ fn type_below(alloc: Global, schema: &ValidatorSchema, ty: &Type, names: &[&str]
 fn tags_answer(alloc: Global, declared: &ValidatorEntityType) -> Answer {
     match declared.tag_type() {
         Some(tags) => type_line(alloc, tags),
-        None => nothing(format!(in alloc; "{} has no tags", declared.name())),
+        None => nothing(alloc, format_args!("{} has no tags", declared.name())),
     }
 }
 
@@ -50,11 +48,17 @@ fn attributes_answer(
     declared: &ValidatorEntityType,
     names: &[&str],
 ) -> Answer {
-    let all = Type::Record {
-        attrs: declared.attributes().clone()?,
-        open_attributes: declared.open_attributes(),
-    };
-    type_below(alloc, schema, &all, names)
+    let open_attributes = declared.open_attributes();
+    match declared.attributes().clone() {
+        Ok(attrs) => {
+            let all = Type::Record {
+                attrs,
+                open_attributes,
+            };
+            type_below(alloc, schema, &all, names)
+        }
+        Err(_) => Answer::lines(Err(Memory)),
+    }
 }
 
 /// The type of the attributes of an entity type, or that at the end of a chain of them; or else the
@@ -69,7 +73,7 @@ fn type_answer(
     match schema.get_entity_type(ty) {
         Some(declared) if is_of_tags => tags_answer(alloc, declared),
         Some(declared) => attributes_answer(alloc, schema, declared, names),
-        None => nothing(format!(in alloc; "the schema has no entity type {ty}")),
+        None => nothing(alloc, format_args!("the schema has no entity type {ty}")),
     }
 }
 
@@ -83,7 +87,7 @@ pub(crate) fn entity_answer(
 ) -> Answer {
     match type_named(alloc, name) {
         Ok(ty) => type_answer(alloc, schema, &ty, names, is_of_tags),
-        Err(why) => Err(why),
+        Err(why) => why,
     }
 }
 
@@ -96,7 +100,7 @@ fn context_answer(
 ) -> Answer {
     match schema.context_type(action) {
         Some(context) => type_below(alloc, schema, context, names),
-        None => nothing(format!(in alloc; "the schema defines no action {action}")),
+        None => nothing(alloc, format_args!("the schema defines no action {action}")),
     }
 }
 
@@ -109,6 +113,6 @@ pub(crate) fn action_answer(
 ) -> Answer {
     match uid_named(alloc, uid) {
         Ok(action) => context_answer(alloc, schema, &action, names),
-        Err(why) => Err(why),
+        Err(why) => why,
     }
 }
