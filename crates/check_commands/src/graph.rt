@@ -2,10 +2,10 @@
 
 use crate::hierarchy::{Hierarchy, actions, entity_types, text_of, texts};
 use crate::text::Text;
-use cedar_below::{M, Memory};
+use cedar_below::{EntityType, M, Memory};
 use cedar_schema::{ValidatorActionId, ValidatorSchema};
 use std::alloc::Global;
-use std::collections::BTreeSet;
+use std::collections::{BTreeSet, hash_set};
 
 /// Adds a name as DOT has it in quotes.
 fn push_quoted(text: &mut Text, name: &str) {
@@ -60,43 +60,32 @@ fn push_hierarchy(text: &mut Text, hierarchy: &Hierarchy, shape: &str) {
     }
 }
 
-/// Adds the hierarchy of entity types, as boxes.
-fn push_entity_types(text: &mut Text, schema: &ValidatorSchema) {
-    match entity_types(text.alloc(), schema) {
-        Ok(hierarchy) => push_hierarchy(text, &hierarchy, "box"),
+/// Adds a dashed edge between an action and each of some names: from it, or else to it.
+fn push_dashed(text: &mut Text, uid: &str, names: &BTreeSet<String>, is_from: bool) {
+    for name in names {
+        let name = name.as_str();
+        let (from, to) = if is_from { (uid, name) } else { (name, uid) };
+        push_edge(text, from, to, " [style=dashed]");
+    }
+}
+
+/// Adds the dashed edges between an action and the entity types of some names.
+fn push_types(text: &mut Text, uid: &str, types: hash_set::Iter<'_, EntityType>, is_from: bool) {
+    match texts(text.alloc(), types) {
+        Ok(names) => push_dashed(text, uid, &names, is_from),
         Err(Memory) => text.refuse(),
-    }
-}
-
-/// Adds the hierarchy of actions, as ellipses.
-fn push_actions(text: &mut Text, schema: &ValidatorSchema) {
-    match actions(text.alloc(), schema) {
-        Ok(hierarchy) => push_hierarchy(text, &hierarchy, "ellipse"),
-        Err(Memory) => text.refuse(),
-    }
-}
-
-/// Adds a dashed edge from each type of principal to an action.
-fn push_principals(text: &mut Text, principals: &BTreeSet<String>, uid: &str) {
-    for name in principals {
-        push_edge(text, name.as_str(), uid, " [style=dashed]");
-    }
-}
-
-/// Adds a dashed edge from an action to each type of resource.
-fn push_resources(text: &mut Text, uid: &str, resources: &BTreeSet<String>) {
-    for name in resources {
-        push_edge(text, uid, name.as_str(), " [style=dashed]");
     }
 }
 
 /// Adds the edges from the principals of an action to it, and from it to its resources.
-fn push_action(text: &mut Text, action: &ValidatorActionId) -> M<()> {
-    let alloc = text.alloc();
-    let uid = text_of(alloc, action.name())?;
-    push_principals(text, &texts(alloc, action.principals())?, uid.as_str());
-    push_resources(text, uid.as_str(), &texts(alloc, action.resources())?);
-    Ok(())
+fn push_action(text: &mut Text, action: &ValidatorActionId) {
+    match text_of(text.alloc(), action.name()) {
+        Ok(uid) => {
+            push_types(text, uid.as_str(), action.principals(), false);
+            push_types(text, uid.as_str(), action.resources(), true);
+        }
+        Err(Memory) => text.refuse(),
+    }
 }
 
 /// The graph of a schema: a box for each entity type and an ellipse for each action, a line from
@@ -105,10 +94,10 @@ fn push_action(text: &mut Text, action: &ValidatorActionId) -> M<()> {
 pub(crate) fn graph(alloc: Global, schema: &ValidatorSchema) -> M<String> {
     let mut text = Text::new(alloc);
     text.push_str("digraph schema {\n  rankdir=BT;\n");
-    push_entity_types(&mut text, schema);
-    push_actions(&mut text, schema);
+    push_hierarchy(&mut text, &entity_types(alloc, schema), "box");
+    push_hierarchy(&mut text, &actions(alloc, schema), "ellipse");
     for action in schema.action_ids() {
-        push_action(&mut text, action)?;
+        push_action(&mut text, action);
     }
     text.push_str("}\n");
     text.whole()

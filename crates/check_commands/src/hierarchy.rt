@@ -15,23 +15,38 @@ pub(crate) fn text_of<T: Display>(alloc: Global, name: &T) -> M<String> {
     format!(in alloc; "{name}").or(Err(Memory))
 }
 
+/// Adds the text of a name.
+fn put_text<T: Display>(alloc: Global, texts: &mut BTreeSet<String>, name: &T) -> M<()> {
+    match texts.insert(text_of(alloc, name)?) {
+        Ok(_) => Ok(()),
+        Err(_) => Err(Memory),
+    }
+}
+
 /// The texts of some names.
 pub(crate) fn texts<T: Display>(
     alloc: Global,
     names: hash_set::Iter<'_, T>,
 ) -> M<BTreeSet<String>> {
     let mut texts = BTreeSet::new(alloc);
+    let mut is_refused = false;
     for name in names {
-        texts.insert(text_of(alloc, name)?)?;
+        is_refused |= put_text(alloc, &mut texts, name).is_err();
+    }
+    if is_refused {
+        return Err(Memory);
     }
     Ok(texts)
 }
 
-/// What stands below each of some names, in steps of any number.
+/// What stands below each of some names, in steps of any number. Where memory runs out, that is
+/// remembered, and told where edges are asked for.
 #[derive(Drop)]
 pub(crate) struct Hierarchy {
     /// The names, each with those below it.
     pub(crate) below: BTreeMap<String, BTreeSet<String>>,
+    /// Whether memory ran out.
+    is_refused: bool,
 }
 
 /// How many names a name and those below it are: the same number for names on one cycle, and a
@@ -122,9 +137,9 @@ impl<'a> Edges<'a> {
         }
     }
 
-    /// The upper and the lower name of each edge, where memory sufficed for it.
-    fn whole(self) -> M<Vec<(&'a str, &'a str)>> {
-        if self.is_refused {
+    /// The upper and the lower name of each edge, in order, where memory sufficed for it.
+    fn whole(mut self) -> M<Vec<(&'a str, &'a str)>> {
+        if self.is_refused || self.found.sort().is_err() {
             return Err(Memory);
         }
         Ok(self.found)
@@ -143,26 +158,29 @@ impl Hierarchy {
     fn new(alloc: Global) -> Self {
         Hierarchy {
             below: BTreeMap::new(alloc),
+            is_refused: false,
         }
     }
 
     /// Adds a name with those below it.
-    fn push<T: Display>(&mut self, alloc: Global, name: &T, below: hash_set::Iter<'_, T>) -> M<()> {
-        let name = text_of(alloc, name)?;
-        self.push_text(name, texts(alloc, below)?)
+    fn push<T: Display>(&mut self, alloc: Global, name: &T, below: hash_set::Iter<'_, T>) {
+        match text_of(alloc, name) {
+            Ok(name) => self.push_text(name, texts(alloc, below)),
+            Err(Memory) => self.is_refused = true,
+        }
     }
 
     /// Adds the text of a name with those below it.
-    fn push_text(&mut self, name: String, below: BTreeSet<String>) -> M<()> {
-        match self.below.insert(name, below) {
-            Ok(_) => Ok(()),
-            Err(_) => Err(Memory),
+    fn push_text(&mut self, name: String, below: M<BTreeSet<String>>) {
+        match below {
+            Ok(below) => self.is_refused |= self.below.insert(name, below).is_err(),
+            Err(Memory) => self.is_refused = true,
         }
     }
 
     /// The names, each with its weight, the lightest first.
     fn by_weight(&self, alloc: Global) -> M<Vec<(usize, &str)>> {
-        let mut names = Vec::with_capacity(alloc, self.below.len())?;
+        let mut names = Vec::new(alloc);
         for (name, below) in &self.below {
             names.push((weight_of(name.as_str(), below), name.as_str()))?;
         }
@@ -184,27 +202,28 @@ impl Hierarchy {
     /// The upper and the lower name of each edge that no two others make, in order. On a cycle each
     /// name has an edge to each.
     pub(crate) fn edges(&self, alloc: Global) -> M<Vec<(&str, &str)>> {
+        if self.is_refused {
+            return Err(Memory);
+        }
         let names = self.by_weight(alloc)?;
-        let mut edges = self.between(alloc, &names).whole()?;
-        edges.sort()?;
-        Ok(edges)
+        self.between(alloc, &names).whole()
     }
 }
 
 /// The hierarchy of entity types, each under its name.
-pub(crate) fn entity_types(alloc: Global, schema: &ValidatorSchema) -> M<Hierarchy> {
+pub(crate) fn entity_types(alloc: Global, schema: &ValidatorSchema) -> Hierarchy {
     let mut hierarchy = Hierarchy::new(alloc);
     for ty in schema.entity_types() {
-        hierarchy.push(alloc, ty.name(), ty.descendants.iter())?;
+        hierarchy.push(alloc, ty.name(), ty.descendants.iter());
     }
-    Ok(hierarchy)
+    hierarchy
 }
 
 /// The hierarchy of actions, each under its uid.
-pub(crate) fn actions(alloc: Global, schema: &ValidatorSchema) -> M<Hierarchy> {
+pub(crate) fn actions(alloc: Global, schema: &ValidatorSchema) -> Hierarchy {
     let mut hierarchy = Hierarchy::new(alloc);
     for action in schema.action_ids() {
-        hierarchy.push(alloc, action.name(), action.descendants())?;
+        hierarchy.push(alloc, action.name(), action.descendants());
     }
-    Ok(hierarchy)
+    hierarchy
 }
