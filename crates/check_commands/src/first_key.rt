@@ -1,10 +1,11 @@
 //! The first of two equal keys of an object.
 
-use cedar_below::{Loc, M};
+use cedar_below::{Loc, M, Memory};
 use cedar_json::JsonSchemaFault;
 use std::alloc::Global;
 
-/// A text of JSON, as far as it was gone through.
+/// A text of JSON, as far as it was gone through. Where memory runs out, that is remembered, and
+/// told at the end.
 #[derive(Drop)]
 struct Walk {
     /// For each object or array that is open where the key began in it first, if it did.
@@ -15,6 +16,8 @@ struct Walk {
     is_escaped: bool,
     /// Where the last whole string began, and where it ended.
     last: (usize, usize),
+    /// Whether memory ran out.
+    is_refused: bool,
 }
 
 impl Walk {
@@ -43,33 +46,34 @@ impl Walk {
     }
 
     /// Goes on by a byte that stands in no string.
-    fn between_strings(&mut self, text: &str, key: &str, at: usize, byte: u8) -> M<()> {
+    fn between_strings(&mut self, text: &str, key: &str, at: usize, byte: u8) {
         match byte {
             b'"' => self.string = Some(at),
-            b'{' | b'[' => self.open.push(None)?,
+            b'{' | b'[' => self.is_refused |= self.open.push(None).is_err(),
             b'}' | b']' => {
                 let _ = self.open.pop();
             }
             b':' => self.note_key(text, key),
             _ => {}
         }
-        Ok(())
     }
 
     /// Goes on by a byte.
-    fn step(&mut self, text: &str, key: &str, at: usize, byte: u8) -> M<()> {
-        if let Some(start) = self.string {
-            self.in_string(start, at, byte);
-            return Ok(());
+    fn step(&mut self, text: &str, key: &str, at: usize, byte: u8) {
+        match self.string {
+            Some(start) => self.in_string(start, at, byte),
+            None => self.between_strings(text, key, at, byte),
         }
-        self.between_strings(text, key, at, byte)
     }
 
-    /// Where the key began first in what is open last.
-    fn first(&self) -> Option<usize> {
+    /// Where the key began first in what is open last, where memory sufficed for the walk.
+    fn first(&self) -> M<Option<usize>> {
+        if self.is_refused {
+            return Err(Memory);
+        }
         match self.open.last() {
-            Some(first) => *first,
-            None => None,
+            Some(first) => Ok(*first),
+            None => Ok(None),
         }
     }
 }
@@ -81,14 +85,15 @@ fn first_before(alloc: Global, text: &str, key: &str, up_to: usize) -> M<Option<
         string: None,
         is_escaped: false,
         last: (0, 0),
+        is_refused: false,
     };
     for (at, byte) in text.as_bytes().iter().enumerate() {
         if at >= up_to {
             break;
         }
-        walk.step(text, key, at, *byte)?;
+        walk.step(text, key, at, *byte);
     }
-    Ok(walk.first())
+    walk.first()
 }
 
 /// Where an object has the key first that it has again at a place, if it is spelled alike there.

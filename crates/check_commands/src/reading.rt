@@ -40,16 +40,21 @@ impl ReadFiles {
         }
     }
 
+    /// Adds a file.
+    fn push_source(&mut self, source: Source) {
+        self.is_refused |= self.sources.push(source).is_err();
+    }
+
     /// Adds a file that is well formed.
     fn push(&mut self, source: Source, fragment: Fragment<RawName>) {
+        self.push_source(source);
         self.is_refused |= self.fragments.push(fragment).is_err();
-        self.is_refused |= self.sources.push(source).is_err();
     }
 
     /// Adds a file that is at fault.
     fn push_fault(&mut self, source: Source, finding: Finding) {
+        self.push_source(source);
         self.is_refused |= self.findings.push(finding).is_err();
-        self.is_refused |= self.sources.push(source).is_err();
     }
 
     /// Adds a file without its text, and says why.
@@ -152,39 +157,37 @@ fn push_read(alloc: Global, read: &mut ReadFiles, name: String, given: Result<Ve
     }
 }
 
-/// Reads each of some files as a fragment. Each that is at fault is told, and out of memory is the
-/// only refusal.
-fn read_files<F: FileAccess>(alloc: Global, files: &mut F, names: &[&str]) -> M<ReadFiles> {
-    let mut read = ReadFiles::new(alloc);
-    for name in names {
-        let owned = String::from_str(alloc, name)?;
-        push_read(alloc, &mut read, owned, files.read(alloc, name));
+/// Reads a file as a fragment, and adds it.
+fn read_file<F: FileAccess>(alloc: Global, read: &mut ReadFiles, files: &mut F, name: &str) {
+    match String::from_str(alloc, name) {
+        Ok(owned) => push_read(alloc, read, owned, files.read(alloc, name)),
+        Err(_) => read.is_refused = true,
     }
-    if read.is_refused {
-        return Err(Memory);
-    }
-    Ok(read)
 }
 
-/// What is told of files that can't be read, or are at fault.
+/// Reads each of some files as a fragment. Each that is at fault is told.
+fn read_files<F: FileAccess>(alloc: Global, files: &mut F, names: &[&str]) -> ReadFiles {
+    let mut read = ReadFiles::new(alloc);
+    for name in names {
+        read_file(alloc, &mut read, files, name);
+    }
+    read
+}
+
+/// What is told of files that can't be read, or are at fault, where memory sufficed for them.
 fn told_faults(alloc: Global, manner: Manner, read: &ReadFiles) -> M<Outcome>
     ensures { IfOk result (λ outcome. MatchBool read.now.is_unread
         (outcome.status ≡ Status.Unread) (outcome.status ≡ Status.Refused)) }
 {
+    if read.is_refused {
+        return Err(Memory);
+    }
     let status = if read.is_unread {
         Status::Unread
     } else {
         Status::Refused
     };
     at_fault(alloc, manner, &read.sources, &read.findings, status)
-}
-
-/// The files, where none of them is at fault.
-fn faultless(alloc: Global, manner: Manner, read: ReadFiles) -> Result<ReadFiles, M<Outcome>> {
-    if read.findings.is_empty() {
-        return Ok(read);
-    }
-    Err(told_faults(alloc, manner, &read))
 }
 
 /// The files, each read as a fragment; where some can't be read or are at fault, what is told of
@@ -195,8 +198,9 @@ pub(crate) fn well_formed<F: FileAccess>(
     names: &[&str],
     manner: Manner,
 ) -> Result<ReadFiles, M<Outcome>> {
-    match read_files(alloc, files, names) {
-        Ok(read) => faultless(alloc, manner, read),
-        Err(refused) => Err(Err(refused)),
+    let read = read_files(alloc, files, names);
+    if read.is_refused || !read.findings.is_empty() {
+        return Err(told_faults(alloc, manner, &read));
     }
+    Ok(read)
 }
