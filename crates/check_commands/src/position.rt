@@ -47,20 +47,26 @@ fn shown(character: char) -> char {
     }
 }
 
-/// Adds the part of a line behind some characters, as it can be shown.
-fn push_shown(text: &mut Text, line: &str, skipped: usize) {
-    for character in line.chars().skip(skipped).take(SHOWN) {
-        text.push(shown(character));
-    }
-    text.push('\n');
+/// The blank below a character: a tab below a tab.
+fn blank(character: char) -> char {
+    if character == '\t' { '\t' } else { ' ' }
 }
 
-/// Adds blanks for some characters of the part of a line, a tab for each tab, and a `^`.
-fn push_caret(text: &mut Text, line: &str, skipped: usize, before: usize) {
-    for character in line.chars().skip(skipped).take(before) {
-        text.push(if character == '\t' { '\t' } else { ' ' });
+/// Adds the characters of a line from one number up to another, each as it can be shown, or the
+/// blank below each.
+fn push_part(text: &mut Text, line: &str, start: usize, stop: usize, is_shown: bool) {
+    for (number, character) in line.chars().enumerate() {
+        if number >= stop {
+            return;
+        }
+        if number >= start {
+            text.push(if is_shown {
+                shown(character)
+            } else {
+                blank(character)
+            });
+        }
     }
-    text.push_str("^\n");
 }
 
 /// The line of a number, from 1 on.
@@ -73,8 +79,10 @@ fn line_at(text: &str, number: usize) -> &str {
 /// column.
 pub(crate) fn push_line_with_caret(text: &mut Text, source: &str, position: Position) {
     let line = line_at(source, position.line);
-    let all_before = position.column.saturating_sub(1);
-    let skipped = all_before.saturating_sub(SHOWN_BEFORE);
-    push_shown(text, line, skipped);
-    push_caret(text, line, skipped, all_before.saturating_sub(skipped));
+    let before = position.column.saturating_sub(1);
+    let start = before.saturating_sub(SHOWN_BEFORE);
+    push_part(text, line, start, start.saturating_add(SHOWN), true);
+    text.push('\n');
+    push_part(text, line, start, before, false);
+    text.push_str("^\n");
 }
