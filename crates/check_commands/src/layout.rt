@@ -54,7 +54,7 @@ fn in_order<'a>(shape: Shape, members: &Vec<Member<'a>>) -> Result<Vec<Place<'a>
     ensures within { IfOk result (λ places.
         All (λ place. place.1 < length members.now.items) places.items) }
 {
-    let mut places = Vec::with_capacity(*members.allocator(), members.len())?;
+    let mut places = Vec::new(*members.allocator());
     for (index, member) in members.iter().enumerate() {
         places.push((shape.sorted_by(member.0), index))?;
     }
