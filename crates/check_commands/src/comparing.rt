@@ -30,7 +30,9 @@ const CALLS: &[(&str, &str)] = &[
 /// The arguments of a function that is given a text.
 fn args_of(alloc: Global, text: &str) -> M<Vec<RestrictedExpr>> {
     let text = String::from_str(alloc, text)?;
-    vec![in alloc; RestrictedExpr::String(text)].or(Err(Memory))
+    let mut args = Vec::new(alloc);
+    args.push(RestrictedExpr::String(text))?;
+    Ok(args)
 }
 
 /// Adds the value that a function gives.

@@ -1,6 +1,6 @@
 //! What is found to be at fault in files, and how it is told.
 
-use crate::json_lines::{Members, Object};
+use crate::json_lines::Object;
 use crate::position::{Position, position_of, push_line_with_caret};
 use crate::text::Text;
 use cedar_below::Loc;
@@ -160,26 +160,22 @@ fn write_other(object: &mut Object, sources: &[Source], other: Option<Loc>) {
     }
 }
 
-/// A finding, with the files that are told of.
-#[derive(Clone, Copy, Drop)]
-pub(crate) struct FindingIn<'a> {
-    /// The files.
-    pub(crate) sources: &'a [Source],
-    /// The finding.
-    pub(crate) finding: &'a Finding,
+/// Writes the members that tell a finding.
+fn write_finding(object: &mut Object, sources: &[Source], finding: &Finding) {
+    if let Some(source) = source_at(sources, finding.file) {
+        write_place(object, source, finding.loc);
+    }
+    object.text("kind", finding.kind);
+    object.text("message", finding.message.as_str());
+    object.key("related");
+    object.begin_array();
+    write_other(object, sources, finding.other);
+    object.end_array();
 }
 
-impl Members for FindingIn<'_> {
-    fn write(&self, object: &mut Object) {
-        let finding = self.finding;
-        if let Some(source) = source_at(self.sources, finding.file) {
-            write_place(object, source, finding.loc);
-        }
-        object.text("kind", finding.kind);
-        object.text("message", finding.message.as_str());
-        object.key("related");
-        object.begin_array();
-        write_other(object, self.sources, finding.other);
-        object.end_array();
-    }
+/// Adds the object of JSON that tells a finding, as a line.
+pub(crate) fn push_finding_object(text: &mut Text, sources: &[Source], finding: &Finding) {
+    let mut object = Object::begin(text.alloc());
+    write_finding(&mut object, sources, finding);
+    object.push_to(text);
 }

@@ -1,10 +1,8 @@
 //! Lines of JSON, safe to be shown.
 
-ghost use Rattle.check_commands.specs.Words.{HasNumbers, value_view};
-
 use crate::text::Text;
 use cedar_below::{M, Memory};
-use json::{Value, Writer};
+use json::{Error, Scratch, Value, Writer};
 use std::alloc::Global;
 
 /// An object of JSON that is being written. Where memory runs out, that is remembered, and told at
@@ -18,6 +16,16 @@ pub(crate) struct Object {
 }
 
 impl Object {
+    /// An object without members yet.
+    pub(crate) fn begin(alloc: Global) -> Self {
+        let mut object = Object {
+            writer: Writer::new(Vec::new(alloc)),
+            is_refused: false,
+        };
+        object.begin_object();
+        object
+    }
+
     /// Adds a key.
     pub(crate) fn key(&mut self, key: &str) {
         self.is_refused |= self.writer.key(key).is_err();
@@ -35,19 +43,21 @@ impl Object {
         self.is_refused |= self.writer.u64(number as u64).is_err();
     }
 
-    /// Adds a member whose value is a text that had to be made first.
-    pub(crate) fn made(&mut self, key: &str, made: M<String>) {
-        match made {
-            Ok(text) => self.text(key, text.as_str()),
-            Err(Memory) => self.refuse(),
-        }
+    /// Adds a member whose value is a text that was written first.
+    pub(crate) fn written(&mut self, key: &str, text: &Text) {
+        self.is_refused |= text.is_refused();
+        self.text(key, text.as_str());
     }
 
-    /// Adds a value.
-    pub(crate) fn value(&mut self, value: &Value<'_>)
-        requires { HasNumbers (value_view value.now) }
-    {
-        self.is_refused |= self.writer.value(value).is_err();
+    /// Adds the value that a text of JSON is, or `null` where it is none.
+    pub(crate) fn parsed(&mut self, alloc: Global, text: &str) {
+        let mut scratch = Scratch::new(alloc);
+        let is_refused = match Value::parse(alloc, text, &mut scratch) {
+            Ok(value) => self.writer.value(&value).is_err(),
+            Err(Error::OutOfMemory) => true,
+            Err(_) => self.writer.null().is_err(),
+        };
+        self.is_refused |= is_refused;
     }
 
     /// Adds `null`.
@@ -87,6 +97,15 @@ impl Object {
         }
         String::from_utf8_lossy(alloc, self.writer.into_inner().as_slice()).or(Err(Memory))
     }
+
+    /// Ends the object, and adds it to a text as a line.
+    pub(crate) fn push_to(mut self, text: &mut Text) {
+        self.end_object();
+        match self.whole(text.alloc()) {
+            Ok(line) => push_line(text, line.as_str()),
+            Err(Memory) => text.refuse(),
+        }
+    }
 }
 
 /// Adds a line of JSON, with JSON's escape in the place of each character that would control a
@@ -100,25 +119,4 @@ pub(crate) fn push_line(text: &mut Text, line: &str) {
         }
     }
     text.push('\n');
-}
-
-/// What is told as one object of JSON.
-pub(crate) trait Members {
-    /// Writes the members of the object.
-    fn write(&self, object: &mut Object);
-}
-
-/// Adds the line that an object of JSON is.
-pub(crate) fn push_object<T: Members>(text: &mut Text, members: &T) {
-    let mut object = Object {
-        writer: Writer::new(Vec::new(text.alloc())),
-        is_refused: false,
-    };
-    object.begin_object();
-    members.write(&mut object);
-    object.end_object();
-    match object.whole(text.alloc()) {
-        Ok(line) => push_line(text, line.as_str()),
-        Err(Memory) => text.refuse(),
-    }
 }

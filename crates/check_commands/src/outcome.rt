@@ -2,12 +2,12 @@
 
 ghost use Rattle.std.specs.Prelude.{◌≡◌, ◌≢◌, ◌++◌, IfOk, string_bytes};
 
-use crate::finding::{Finding, FindingIn, Source, push_finding};
-use crate::json_lines::push_object;
+use crate::finding::{Finding, Source, push_finding, push_finding_object};
 use crate::status::Status;
 use crate::text::Text;
 use cedar_below::M;
 use std::alloc::Global;
+use std::slice;
 
 /// What is printed, and the status that goes with it.
 #[derive(Drop)]
@@ -81,7 +81,7 @@ fn told(alloc: Global, manner: Manner, sources: &[Source], findings: &[Finding])
     for finding in findings {
         match manner {
             Manner::Lines => push_finding(&mut text, sources, finding),
-            Manner::Json => push_object(&mut text, &FindingIn { sources, finding }),
+            Manner::Json => push_finding_object(&mut text, sources, finding),
         }
     }
     text.whole()
@@ -118,5 +118,6 @@ pub(crate) fn refused(
 ) -> M<Outcome>
     ensures { IfOk result (λ outcome. outcome.status ≡ Status.Refused) }
 {
-    at_fault(alloc, manner, sources, &[finding], Status::Refused)
+    let findings = slice::from_ref(&finding);
+    at_fault(alloc, manner, sources, findings, Status::Refused)
 }

@@ -43,6 +43,16 @@ impl Text {
         self.is_refused |= self.written.write(value).is_err();
     }
 
+    /// What was written of it.
+    pub(crate) fn as_str(&self) -> &str {
+        self.written.as_str()
+    }
+
+    /// Whether memory ran out.
+    pub(crate) fn is_refused(&self) -> bool {
+        self.is_refused
+    }
+
     /// Notes that memory ran out.
     pub(crate) fn refuse(&mut self) {
         self.is_refused = true;

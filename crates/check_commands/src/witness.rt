@@ -25,21 +25,12 @@ pub(crate) fn push_subject(text: &mut Text, difference: &Difference) {
     }
 }
 
-/// Adds a copy of a value under a copy of its name.
-fn put_copy(values: &mut BTreeMap<String, Value>, name: &String, value: &RestrictedExpr) -> M<()> {
-    let name = name.clone()?;
-    match values.insert(name, Value::new(value.clone()?)) {
-        Ok(_) => Ok(()),
-        Err(_) => Err(Memory),
-    }
-}
-
 /// The values of a context by name. It is a record wherever a difference has one.
 fn context_of(alloc: Global, context: &Value) -> M<BTreeMap<String, Value>> {
     let mut values = BTreeMap::new(alloc);
     if let RestrictedExpr::Record(entries) = context.expr() {
         for (name, value) in entries {
-            put_copy(&mut values, name, value)?;
+            values.insert(name.clone()?, Value::new(value.clone()?))?;
         }
     }
     Ok(values)
