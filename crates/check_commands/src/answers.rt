@@ -1,6 +1,7 @@
 //! What a schema answers: its counts, what it lacks, and its environments.
 
 use crate::finding::{Finding, file_of};
+use crate::outcome::Outcome;
 use crate::text::Text;
 use cedar_below::{EntityType, EntityUID, M, Memory, NameFault};
 use cedar_schema::{CompleteError, IncompleteSchemaError, RequestEnv, ValidatorSchema};
@@ -56,14 +57,14 @@ fn push_count(text: &mut Text, what: &str, count: Count) {
 }
 
 /// The counts of a schema, a line each.
-pub(crate) fn counts(alloc: Global, schema: &ValidatorSchema) -> M<String> {
+pub(crate) fn counts(alloc: Global, schema: &ValidatorSchema) -> M<Outcome> {
     let mut text = Text::new(alloc);
     text.push_str("ok\n");
     push_count(&mut text, "entity types", type_count(schema));
     push_count(&mut text, "actions", action_count(schema));
     let environments = schema.unlinked_envs_owned().len();
     write!(text, "environments: {environments}\n");
-    text.whole()
+    Ok(Outcome::done(alloc, text.whole()?))
 }
 
 /// What is external, at the first place where something is declared so.

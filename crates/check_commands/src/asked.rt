@@ -12,7 +12,7 @@ use crate::files::FileAccess;
 use crate::finding::{Finding, Source};
 use crate::graph::graph;
 use crate::laying_out::format;
-use crate::linking::{is_read, link, would_overwrite};
+use crate::linking::{is_read, link};
 use crate::outcome::{Manner, Outcome, refused};
 use crate::reading::well_formed;
 use crate::status::Status;
@@ -22,6 +22,7 @@ use cedar_schema::ValidatorSchema;
 use clap::ArgMatches;
 use schema_lines::escaped_lines_of;
 use std::alloc::Global;
+use std::fmt::Display;
 
 /// How findings are asked to be told.
 fn manner(matches: &ArgMatches<'_>) -> Manner {
@@ -33,13 +34,13 @@ fn manner(matches: &ArgMatches<'_>) -> Manner {
 }
 
 /// A line for each file, that it is well formed.
-fn well_formed_lines(alloc: Global, sources: &[Source]) -> M<String> {
+fn well_formed_lines(alloc: Global, sources: &[Source]) -> M<Outcome> {
     let mut text = Text::new(alloc);
     for source in sources {
         text.push_escaped(source.name.as_str());
         text.push_str(": ok\n");
     }
-    text.whole()
+    Ok(Outcome::done(alloc, text.whole()?))
 }
 
 /// Reads each file, and says that each is well formed.
@@ -50,21 +51,18 @@ fn check<F: FileAccess>(
     manner: Manner,
 ) -> M<Outcome> {
     match well_formed(alloc, files, names, manner) {
-        Ok(read) => {
-            let lines = well_formed_lines(alloc, &read.sources)?;
-            Ok(Outcome::done(alloc, lines))
-        }
+        Ok(read) => well_formed_lines(alloc, &read.sources),
         Err(told) => told,
     }
 }
 
 /// What is told of words that don't go together or aren't what they have to be.
-fn usage(alloc: Global, why: &str) -> M<Outcome>
+fn usage<T: Display + Drop>(alloc: Global, why: T) -> M<Outcome>
     ensures { IfOk result (λ outcome. outcome.status ≡ Status.Usage) }
 {
     let mut notes = Text::new(alloc);
     notes.push_str("error: ");
-    notes.push_escaped(why);
+    notes.write_escaped(why);
     notes.push('\n');
     Ok(Outcome::noted(alloc, notes.whole()?, Status::Usage))
 }
@@ -74,7 +72,7 @@ fn answered(alloc: Global, manner: Manner, sources: &[Source], answer: Answer) -
     let text = answer.text?;
     match answer.kind {
         AnswerKind::Lines => Ok(Outcome::done(alloc, text)),
-        AnswerKind::BadWord => usage(alloc, text.as_str()),
+        AnswerKind::BadWord => usage(alloc, text),
         AnswerKind::Nothing => {
             refused(
                 alloc,
@@ -86,19 +84,14 @@ fn answered(alloc: Global, manner: Manner, sources: &[Source], answer: Answer) -
     }
 }
 
-/// The counts of a schema.
-fn counted(alloc: Global, schema: &ValidatorSchema) -> M<Outcome> {
-    Ok(Outcome::done(alloc, counts(alloc, schema)?))
-}
-
 /// The counts of a schema, or what is external where that is refused.
 fn build(alloc: Global, manner: Manner, matches: &ArgMatches<'_>, it: &BuiltFiles) -> M<Outcome> {
     if !matches.get_flag("complete") {
-        return counted(alloc, &it.schema);
+        return counts(alloc, &it.schema);
     }
     match incomplete(alloc, &it.schema) {
         Ok(Some(finding)) => refused(alloc, manner, &it.sources, finding),
-        Ok(None) => counted(alloc, &it.schema),
+        Ok(None) => counts(alloc, &it.schema),
         Err(Memory) => Err(Memory),
     }
 }
@@ -200,7 +193,10 @@ fn over_schema<F: FileAccess>(
 fn overwrites(alloc: Global, output: &str) -> M<Outcome>
     ensures { IfOk result (λ outcome. outcome.status ≡ Status.Usage) }
 {
-    usage(alloc, would_overwrite(alloc, output)?.as_str())
+    usage(
+        alloc,
+        format_args!("{output}: the file to be written is one of those read"),
+    )
 }
 
 /// What the command that links gives.

@@ -15,26 +15,14 @@ pub(crate) fn text_of<T: Display>(alloc: Global, name: &T) -> M<String> {
     format!(in alloc; "{name}").or(Err(Memory))
 }
 
-/// Adds the text of a name.
-fn put_text<T: Display>(alloc: Global, texts: &mut BTreeSet<String>, name: &T) -> M<()> {
-    match texts.insert(text_of(alloc, name)?) {
-        Ok(_) => Ok(()),
-        Err(_) => Err(Memory),
-    }
-}
-
 /// The texts of some names.
 pub(crate) fn texts<T: Display>(
     alloc: Global,
     names: hash_set::Iter<'_, T>,
 ) -> M<BTreeSet<String>> {
     let mut texts = BTreeSet::new(alloc);
-    let mut is_refused = false;
     for name in names {
-        is_refused |= put_text(alloc, &mut texts, name).is_err();
-    }
-    if is_refused {
-        return Err(Memory);
+        texts.insert(text_of(alloc, name)?)?;
     }
     Ok(texts)
 }
@@ -181,10 +169,14 @@ impl Hierarchy {
     /// The names, each with its weight, the lightest first.
     fn by_weight(&self, alloc: Global) -> M<Vec<(usize, &str)>> {
         let mut names = Vec::new(alloc);
+        let mut is_refused = false;
         for (name, below) in &self.below {
-            names.push((weight_of(name.as_str(), below), name.as_str()))?;
+            let name = name.as_str();
+            is_refused |= names.push((weight_of(name, below), name)).is_err();
         }
-        names.sort()?;
+        if is_refused || names.sort().is_err() {
+            return Err(Memory);
+        }
         Ok(names)
     }
 

@@ -128,12 +128,6 @@ pub(crate) fn is_read<F: FileAccess>(files: &mut F, output: &str, names: &[&str]
     false
 }
 
-/// That a file would be read and written.
-pub(crate) fn would_overwrite(alloc: Global, output: &str) -> M<String> {
-    let words = format!(in alloc; "{output}: the file to be written is one of those read");
-    words.or(Err(Memory))
-}
-
 /// Writes what a schema declares as one fragment.
 fn link_built<F: FileAccess>(
     alloc: Global,

@@ -28,7 +28,7 @@ fn asked<F: FileAccess>(alloc: Global, files: &mut F, matches: &ArgMatches<'_>) 
 }
 
 /// The outcome where the words give no command: help or the version, or why they give none.
-fn no_command(alloc: Global, error: Error) -> M<Outcome>
+fn no_command(alloc: Global, error: &Error) -> M<Outcome>
     ensures { IfOk result (λ outcome. (outcome.status ≡ Status.Usage)
         ⊎ (outcome.status ≡ Status.Done)) }
 {
@@ -89,7 +89,7 @@ pub fn run<F: FileAccess, O: Write, E: Write>(
 {
     let outcome = match matches_of(alloc, words) {
         Ok(matches) => asked(alloc, files, &matches),
-        Err(error) => no_command(alloc, error),
+        Err(error) => no_command(alloc, &error),
     };
     finish(outcome, out, err).code()
 }
