@@ -1,6 +1,6 @@
 -- What is listed entry by entry.
-use Rattle.std.proofs.Common.{◌≡◌, List, [], ◌∷◌, ◌++◌, map, ap, sym, ◌∙◌, append_assoc}
-use Rattle.std.proofs.lemmas.List.{append-nil, map-append}
+use Rattle.std.proofs.Common.{◌≡◌, List, [], ◌∷◌, ◌++◌, ap, sym, ◌∙◌, append_assoc}
+use Rattle.std.proofs.lemmas.List.{append-nil}
 use Rattle.std.specs.List.{flat_map}
 
 module _ {X A : Type 0} (f : X → List A) where
@@ -20,11 +20,3 @@ module _ {X A : Type 0} (f : X → List A) where
   pub IsListing-done : (so_far whole : List A) (left : List X) → left ≡ [] → IsListing so_far left whole → so_far ≡ whole
   IsListing-done so_far whole left none listing =
       sym (append-nil so_far) ∙ (sym (ap (λ it. so_far ++ flat_map f it) none) ∙ listing)
-
--- what is listed of an entry: itself, and then what is in it
-pub listed_behind : {W A : Type 0} (shown : W → A) (list pushed new : List W) (it : W) (mark : A) (inner : List A) → pushed ≡ list ++ it ∷ []
-    → shown it ≡ mark → map shown new ≡ map shown pushed ++ inner → map shown new ≡ map shown list ++ mark ∷ inner
-listed_behind shown list pushed new it mark inner grown is listed =
-    listed
-    ∙ ap (λ before. before ++ inner) (ap (map shown) grown ∙ (map-append shown list (it ∷ []) ∙ ap (λ m. map shown list ++ m ∷ []) is))
-    ∙ append_assoc (map shown list) (mark ∷ []) inner
