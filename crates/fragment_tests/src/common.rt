@@ -4,7 +4,7 @@ use crate::declarations::fragments_of;
 use crate::refusals::refusal_text;
 use cedar_below::InternalName;
 use cedar_declarations::SchemaError;
-use cedar_elaboration::common_types;
+use cedar_elaboration::{SharedTypes, common_types};
 use cedar_fragments::defs::AllDefs;
 use cedar_fragments::namespace::Written;
 use cedar_names::json_schema::{RawName, RecordType, Type, TypeOfAttribute, TypeVariant};
@@ -138,7 +138,8 @@ fn elaborated(
     let types = declared(alloc, rows)?;
     let all_defs = defined(alloc, rows)?;
     let extensions = sample_extensions(alloc)?;
-    Ok(common_types(alloc, &types, &all_defs, &extensions))
+    let shared = SharedTypes::new(alloc)?;
+    Ok(common_types(alloc, &types, &all_defs, &extensions, &shared))
 }
 
 /// The common types of some rows as they are elaborated, or why they are refused.
