@@ -14,8 +14,8 @@ use std::alloc::Global;
 use std::collections::BTreeMap;
 
 /// The common types that are defined where these are declared and these are the built-in types
-/// and their aliases, each elaborated under its full name. The names that are defined are given, and
-/// the primitive types that attributes share.
+/// and their aliases, each elaborated under its full name. The names that are defined are given,
+/// and the primitive types that attributes share.
 ///
 /// It errs where a common type is declared twice or is built in, or is on a cycle of references;
 /// where a record admits attributes that it doesn't list, a name names nothing, or an extension

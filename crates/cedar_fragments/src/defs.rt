@@ -1,6 +1,7 @@
 //! The names that are defined, and what references resolve to.
 
 pub use all_defs::AllDefs;
+pub use name_lists::NameLists;
 pub use resolve::{ResolveName, resolve_all};
 pub use written_name::WrittenName;
 pub(crate) use written_name::resolve_within;

@@ -117,8 +117,8 @@ impl AttributeType {
 }
 
 impl Attributes {
-    /// The attributes of these names, with their locations, in whatever order. Of repeated names the
-    /// last wins. The list becomes that of the attributes. Out of memory is the only refusal.
+    /// The attributes of these names, with their locations, in whatever order. Of repeated names
+    /// the last wins. The list becomes that of the attributes. Out of memory is the only refusal.
     pub fn from_entries(alloc: Global, entries: Vec<(String, AttributeType)>) -> M<Self>
         ensures attributes { IfOk result (λ all.
             HoldsLast (plain_attributes entries.items) (fields_of all)) }

@@ -12,9 +12,10 @@ use cedar_below::{EntityUID, InternalName, M};
 use std::alloc::Global;
 use std::collections::BTreeSet;
 
-/// The names that fragments declare, in lists: each as often as it is declared.
-#[derive(Drop)]
-struct NameLists {
+/// The names that fragments declare, in lists: each as often as it is declared. They are listed
+/// fragment by fragment, and made sets once all are listed.
+#[derive(Debug, Drop)]
+pub struct NameLists {
     /// The names of common types.
     common: Vec<InternalName>,
     /// The names of entity types.
@@ -69,7 +70,7 @@ fn set_of<K: Ord + Drop>(alloc: Global, mut items: Vec<K>) -> M<BTreeSet<K>>
 
 impl NameLists {
     /// No names.
-    fn none(alloc: Global) -> Self
+    pub fn none(alloc: Global) -> Self
         ensures common { (listed_names result).common ≡ [] }
         ensures entities { (listed_names result).entities ≡ [] }
         ensures actions { (listed_names result).actions ≡ [] }
@@ -92,8 +93,8 @@ impl NameLists {
         add_actions(&mut self.actions, &definition.actions)
     }
 
-    /// Adds what a fragment itself declares.
-    fn add_fragment<N, A>(&mut self, fragment: &ValidatorSchemaFragment<N, A>) -> M<()>
+    /// Adds what a fragment itself declares. Out of memory is the only refusal.
+    pub fn add_fragment<N, A>(&mut self, fragment: &ValidatorSchemaFragment<N, A>) -> M<()>
         ensures { OnOk result (HoldsAlso (listed_names self.new) (listed_names self.old)
             (fragment_names N A fragment.now)) }
     {
@@ -103,8 +104,8 @@ impl NameLists {
         Ok(())
     }
 
-    /// The sets of these names.
-    fn into_defs(self) -> M<AllDefs>
+    /// The sets of these names. Out of memory is the only refusal.
+    pub fn into_defs(self) -> M<AllDefs>
         ensures { IfOk result (λ defs. HoldsJust (held_names defs) (listed_names self)) }
     {
         let NameLists {

@@ -40,6 +40,11 @@ impl CommonTypeDefs<RawName> {
             located_common_names Raw (common_type_defs Raw it)
             ≡ written_common_names (namespace_name namespace.entry) written.entries) }
     {
+        if written.is_empty() {
+            return Ok(CommonTypeDefs {
+                defs: Vec::new(alloc),
+            });
+        }
         let mut defs = Vec::with_capacity(alloc, written.len())?;
         for (id, common) in written {
             let CommonType { ty, loc } = common;
@@ -70,6 +75,11 @@ impl EntityTypesDef<RawName> {
             written.entries) (fault_of error)) }
         ensures no_actions { IfErr result (λ error. NamesNoAttributes (fault_of error)) }
     {
+        if written.is_empty() {
+            return Ok(EntityTypesDef {
+                defs: Vec::new(alloc),
+            });
+        }
         let mut defs = Vec::with_capacity(alloc, written.len())?;
         for (id, declared) in written {
             let name = entity_type_name(alloc, namespace, id, declared.loc)?;
@@ -104,6 +114,11 @@ impl ActionsDef<RawName, RawName> {
             (namespace_name namespace.entry) written.entries)
             (namespace_name namespace.entry) (fault_of error)) }
     {
+        if written.is_empty() {
+            return Ok(ActionsDef {
+                defs: Vec::new(alloc),
+            });
+        }
         refuse_attributes(alloc, &written)?;
         let mut defs = Vec::with_capacity(alloc, written.len())?;
         let ty = action_type_name(alloc, namespace)?;
