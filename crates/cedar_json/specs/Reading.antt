@@ -27,7 +27,7 @@ IsSeenFrom Holds inner fault = (fault ≢ Memory → inner ≢ Memory)
     × ((j k : Json) → Holds j k → IsTrueOf inner k → IsTrueOf fault j)
 
 -- entries with one more, under a text
-abbrev pub IsPutUnder : {T : Type 0} → Text → List (String Global × T) → List (String Global × T) → T
-    → Type 0
+abbrev pub IsPutUnder : {T : Type 0} → Text → List (String Global × T) → List (String Global × T)
+    → T → Type 0
 IsPutUnder key before after it = (name : String Global) × (string_bytes name ≡ key)
     × (after ≡ insert_entry string_cmp before name it)

@@ -6,7 +6,7 @@ ghost use Rattle.json.specs.Json.{object};
 ghost use Rattle.json.specs.Value.{value_view, members_view};
 ghost use Rattle.cedar_json.specs.Words.{IsTrueOf, annotations_fit, are_annotations, has_only, is_text_or_null, known_fields};
 
-use crate::fault::{Fault, FaultKind, Row, Wanted};
+use crate::fault::{Fault, FaultKind, Row, Step, Wanted};
 use crate::fields::{check_fields, members_of};
 use crate::spelling::is_identifier;
 use json::Value;
@@ -31,7 +31,8 @@ fn check_annotation_members(alloc: Global, members: &Vec<(&str, Value<'_>)>) -> 
             return Err(Fault::here(alloc, FaultKind::KeyIsNoId(index)));
         }
         if !is_text_or_null(&member.1) {
-            return Err(Fault::here(alloc, FaultKind::Wants(Wanted::TextOrNull)).in_member(index));
+            let fault = Fault::here(alloc, FaultKind::Wants(Wanted::TextOrNull));
+            return Err(fault.behind(Step::Member(index)));
         }
     }
     Ok(())
@@ -67,11 +68,12 @@ pub(crate) fn check_annotations(alloc: Global, value: &Value<'_>) -> Result<(), 
     }
 }
 
-/// Refuses what is no object of a kind, as one with other fields than it may have, or one whose
-/// annotations are none.
+/// Refuses an object of a kind that has other fields than it may have, or annotations that are
+/// none.
 pub(crate) fn check_declaration(alloc: Global, value: &Value<'_>, row: Row) -> Result<(), Fault>
     ensures { let j = value_view value.now in
-        let fits = has_only (known_fields row j) j && annotations_fit (get (codes "annotations") j) in
+        let fits = has_only (known_fields row j) j
+        && annotations_fit (get (codes "annotations") j) in
         MatchResult result (λ _. fits ≡ true) (λ fault. (fits ≡ false) × IsTrueOf fault j) }
 {
     check_fields(alloc, value, row)?;

@@ -149,9 +149,6 @@ pub(crate) fn optional_field<T: Described + Drop>(
 {
     match written(value, name) {
         None => Ok(None),
-        Some(held) => match read_held(alloc, held, name, cursor.field(value, name)) {
-            Ok(it) => Ok(Some(it)),
-            Err(fault) => Err(fault),
-        },
+        Some(held) => read_held(alloc, held, name, cursor.field(value, name)),
     }
 }

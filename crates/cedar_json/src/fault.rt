@@ -2,8 +2,8 @@
 
 ghost use Rattle.std.specs.Prelude.{◌≡◌, ◌≢◌, Some};
 ghost use Rattle.json.specs.Json.{Json};
-ghost use Rattle.json.specs.Find.{at, get};
-ghost use Rattle.cedar_json.specs.Words.{IsFault, IsTrueOf, Text, member_at, step_into};
+ghost use Rattle.json.specs.Find.{get};
+ghost use Rattle.cedar_json.specs.Words.{IsFault, IsTrueOf, step_into};
 
 use cedar_below::Memory;
 use std::alloc::{AllocError, AllocFailed, Global};
@@ -115,8 +115,8 @@ impl Fault {
         Fault::At(Vec::new(alloc), kind)
     }
 
-    /// The same fault with a step more, or out of memory.
-    fn behind(self, step: Step) -> Fault
+    /// The same fault, seen from a value from which a step leads to it, or out of memory.
+    pub(crate) fn behind(self, step: Step) -> Fault
         ensures place { (j k : Json) → step_into step j ≡ Some k → IsTrueOf self k
             → IsTrueOf result j }
         ensures memory { result ≢ Fault.Memory → self ≢ Fault.Memory }
@@ -137,23 +137,6 @@ impl Fault {
         ensures memory { result ≢ Fault.Memory → self ≢ Fault.Memory }
     {
         self.behind(Step::Field(name))
-    }
-
-    /// The same fault, seen from the object that has the member.
-    pub(crate) fn in_member(self, index: usize) -> Fault
-        ensures place { (j : Json) (m : Text × Json) → member_at index j ≡ Some m
-            → IsTrueOf self m.1 → IsTrueOf result j }
-        ensures memory { result ≢ Fault.Memory → self ≢ Fault.Memory }
-    {
-        self.behind(Step::Member(index))
-    }
-
-    /// The same fault, seen from the array that has the item.
-    pub(crate) fn in_item(self, index: usize) -> Fault
-        ensures place { (j k : Json) → at index j ≡ Some k → IsTrueOf self k → IsTrueOf result j }
-        ensures memory { result ≢ Fault.Memory → self ≢ Fault.Memory }
-    {
-        self.behind(Step::Item(index))
     }
 }
 

@@ -149,9 +149,7 @@ fn own_fields(value: &Value<'_>, row: Row) -> &'static [&'static str]
     ensures { texts_of result.now ≡ own_fields row (value_view value.now) }
 {
     match row {
-        Row::OfType => type_fields(type_word(value)),
-        Row::OfCommonType => type_fields(type_word(value)),
-        Row::OfAttribute => type_fields(type_word(value)),
+        Row::OfType | Row::OfCommonType | Row::OfAttribute => type_fields(type_word(value)),
         Row::OfEntityType => &["memberOfTypes", "shape", "tags", "external", "annotations"],
         Row::OfEnumeratedType => &["enum", "external", "annotations"],
         Row::OfAction => &[
@@ -176,15 +174,15 @@ fn further_fields(row: Row) -> &'static [&'static str]
     match row {
         Row::OfCommonType => &["annotations"],
         Row::OfAttribute => &["required", "annotations"],
-        Row::OfType => &[],
-        Row::OfEntityType => &[],
-        Row::OfEnumeratedType => &[],
-        Row::OfAction => &[],
-        Row::OfAppliesTo => &[],
-        Row::OfParent => &[],
-        Row::OfEntityUid => &[],
-        Row::OfCall => &[],
-        Row::OfDefinition => &[],
+        Row::OfType
+        | Row::OfEntityType
+        | Row::OfEnumeratedType
+        | Row::OfAction
+        | Row::OfAppliesTo
+        | Row::OfParent
+        | Row::OfEntityUid
+        | Row::OfCall
+        | Row::OfDefinition => &[],
     }
 }
 

@@ -4,7 +4,7 @@ ghost use Rattle.std.specs.Prelude.{◌≡◌, ◌++◌, ◌∷◌, [], Some, Ma
 ghost use Rattle.json.specs.Find.{at};
 ghost use Rattle.cedar_json.specs.Words.{IsPutUnder, IsSeenFrom, member_at};
 
-use crate::fault::Fault;
+use crate::fault::{Fault, Step};
 use cedar_below::put;
 use std::alloc::Global;
 use std::collections::BTreeMap;
@@ -23,7 +23,7 @@ pub(crate) fn push_read<T: Drop>(
 {
     match read {
         Ok(it) => Ok(all.push(it)?),
-        Err(fault) => Err(fault.in_item(index)),
+        Err(fault) => Err(fault.behind(Step::Item(index))),
     }
 }
 
@@ -44,6 +44,6 @@ pub(crate) fn put_read<T: Drop>(
 {
     match read {
         Ok(it) => Ok(put(all, String::from_str(alloc, key)?, it)?),
-        Err(fault) => Err(fault.in_member(index)),
+        Err(fault) => Err(fault.behind(Step::Member(index))),
     }
 }

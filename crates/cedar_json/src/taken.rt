@@ -10,7 +10,7 @@ ghost use Rattle.json.specs.Value.{members_view, value_view};
 ghost use Rattle.cedar_json.specs.Words.{IsEntryPut, IsReadFrom, IsReadWhere, IsTrueOf, Text, entries_in, entries_of, field_or, member_at, optional};
 
 use crate::described::written;
-use crate::fault::{Fault, FaultKind, Wanted};
+use crate::fault::{Fault, FaultKind, Step, Wanted};
 use crate::filling::Filling;
 use crate::place_table::Cursor;
 use json::Value;
@@ -92,7 +92,7 @@ fn take_entry<K: Key + Drop, T: Taken + Drop>(
     let key = K::read_key(alloc, name, index, cursor)?;
     match take_whole(alloc, value, cursor) {
         Ok(it) => Ok(all.put(key, it)?),
-        Err(fault) => Err(fault.in_member(index)),
+        Err(fault) => Err(fault.behind(Step::Member(index))),
     }
 }
 

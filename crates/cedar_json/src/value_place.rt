@@ -28,23 +28,6 @@ fn member_at<'v, 'a>(value: &'v Value<'a>, index: usize) -> Option<&'v (&'a str,
     }
 }
 
-/// The value to which a step leads from a value.
-fn child<'v, 'a>(value: &'v Value<'a>, step: Step) -> Option<&'v Value<'a>> {
-    match step {
-        Step::Field(name) => value.get(name),
-        Step::Member(index) => Some(&member_at(value, index)?.1),
-        Step::Item(index) => value.at(index),
-    }
-}
-
-/// The cursor to which a step leads from that at a value.
-fn cursor_at<'p>(cursor: Cursor<'p>, value: &Value<'_>, step: Step) -> Cursor<'p> {
-    match step {
-        Step::Field(name) => cursor.field(value, name),
-        Step::Member(index) | Step::Item(index) => cursor.child(index),
-    }
-}
-
 /// A JSON pointer that is being written. Where memory runs out, that is remembered, and told at the
 /// end.
 #[derive(Drop)]
@@ -85,16 +68,28 @@ impl Pointer {
         self.is_refused |= self.written.write(index).is_err();
     }
 
-    /// Adds the part that is a step from a value.
-    fn push_step(&mut self, value: &Value<'_>, step: Step) {
+    /// Adds the part that is a step from a value, and gives the value and the cursor to which it
+    /// leads.
+    fn push_step<'v, 'a, 'p>(
+        &mut self,
+        value: &'v Value<'a>,
+        cursor: Cursor<'p>,
+        step: Step,
+    ) -> Option<(&'v Value<'a>, Cursor<'p>)> {
         match step {
-            Step::Field(name) => self.push_key(name),
-            Step::Member(index) => {
-                if let Some(member) = member_at(value, index) {
-                    self.push_key(member.0);
-                }
+            Step::Field(name) => {
+                self.push_key(name);
+                Some((value.get(name)?, cursor.field(value, name)))
             }
-            Step::Item(index) => self.push_index(index),
+            Step::Member(index) => {
+                let member = member_at(value, index)?;
+                self.push_key(member.0);
+                Some((&member.1, cursor.child(index)))
+            }
+            Step::Item(index) => {
+                self.push_index(index);
+                Some((value.at(index)?, cursor.child(index)))
+            }
         }
     }
 }
@@ -130,9 +125,8 @@ fn follow<'p>(
     let [rest @ .., step] = steps else {
         return cursor;
     };
-    pointer.push_step(value, *step);
-    match child(value, *step) {
-        Some(inner) => follow(pointer, inner, cursor_at(cursor, value, *step), rest),
+    match pointer.push_step(value, cursor, *step) {
+        Some((inner, at)) => follow(pointer, inner, at, rest),
         None => cursor,
     }
 }

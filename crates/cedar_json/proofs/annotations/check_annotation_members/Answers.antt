@@ -1,4 +1,4 @@
-use Rattle.std.proofs.Common.{◌≡◌, ◌+◌, true, false, ◌&&◌, IsSomeAnd, ap, ap₂, drop, subst, sym, ◌∙◌}
+use Rattle.std.proofs.Common.{◌≡◌, ◌+◌, true, false, ◌&&◌, IsSomeAnd, Some, ap, ap₂, drop, option_and_then, subst, sym, ◌∙◌}
 use Rattle.std.proofs.lemmas.Bool.{false≢true}
 use Rattle.json.specs.Json.{object}
 use Rattle.json.specs.Value.{members_view, value_view}
@@ -40,6 +40,6 @@ returns-then-not-is_text_or_null c =
     let some : is_identifier_text x.0.now ≡ true = (let test = c.if-not-is_identifier.false in let says = c.is_identifier.ensures in cc) in
     let none : is_text_or_null (value_view x.1) ≡ false = (let test = c.if-not-is_text_or_null.true in let says = c.is_text_or_null.ensures in cc) in (
       c.loop-index.invariant ∙ ap (λ ys. are_annotations (members_view ys)) here ∙ ap₂ (λ a b. (a && b) && rest) some none,
-      c.in_member.ensures.place (object (members_view all)) (x.0.now, value_view x.1) found
-          (c.here-then-not-is_text_or_null.ensures.place (value_view x.1) none),
+      c.behind.ensures.place (object (members_view all)) (value_view x.1) (ap (option_and_then (λ m. Some m.1)) found)
+          (c.here-fault.ensures.place (value_view x.1) none),
     )

@@ -1,3 +1,4 @@
+use Rattle.std.proofs.Common.{Some, ap, option_and_then}
 use Rattle.cedar_json.proofs.gathering.put_read.Goals as goal
 
 -- what was read is put under the key
@@ -8,4 +9,4 @@ returns-in_ok-put-in-Ok g c =
 -- the refusal is found in the object at the index
 pub returns-in-Err : goal.returns-in-Err
 returns-in-Err g c =
-    rw c.in-Err.is (c.in_member.ensures.memory, λ j k is. c.in_member.ensures.place j (c.args.key.now, k) is)
+    rw c.in-Err.is (c.behind.ensures.memory, λ j k is. c.behind.ensures.place j k (ap (option_and_then (λ m. Some m.1)) is))

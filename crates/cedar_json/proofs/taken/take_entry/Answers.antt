@@ -1,4 +1,4 @@
-use Rattle.std.proofs.Common.{inl, inr}
+use Rattle.std.proofs.Common.{Some, ap, inl, inr, option_and_then}
 use Rattle.std.proofs.lemmas.Result.{err_from_is_err_and}
 use Rattle.json.specs.Value.{value_view}
 use Rattle.cedar_json.proofs.taken.take_entry.Goals as goal
@@ -12,8 +12,8 @@ returns-in_err-key g c =
 -- the fault of the member's value is found in the object at the index
 pub returns-in-Err : goal.returns-in-Err
 returns-in-Err g c = (
-  λ other. inr (c.in-Err.ensures.0 (c.in_member.ensures.memory other)),
-  λ j is. c.in_member.ensures.place j (c.args.member.0.now, value_view c.args.member.1) is c.in-Err.ensures.1,
+  λ other. inr (c.in-Err.ensures.0 (c.behind.ensures.memory other)),
+  λ j is. c.behind.ensures.place j (value_view c.args.member.1) (ap (option_and_then (λ m. Some m.1)) is) c.in-Err.ensures.1,
 )
 
 -- the entry that was put is the key and the value that were read
