@@ -24,7 +24,7 @@ SameItems-append xs ys xs' ys' front back item = (
 )
 
 -- a list with some items and some more has the same ones as others with these after one another
-also_appended : {A : Type 0} (after before more xs ys : List A) → HasAlso after before more → SameItems before xs → SameItems more ys
+pub also_appended : {A : Type 0} (after before more xs ys : List A) → HasAlso after before more → SameItems before xs → SameItems more ys
     → SameItems after (xs ++ ys)
 also_appended after before more xs ys also front back item = (
   λ among. elim ((also item).0 among) [

@@ -24,6 +24,8 @@ pub use Rattle.cedar_fragments.specs.declared.namespace.fragment.ValidatorSchema
 pub use Rattle.cedar_resolution.specs.DeclaredJust.{DeclaresJust}
 pub use Rattle.cedar_resolution.specs.BuiltIn.{free_aliases, is_taken, named_types}
 pub use Rattle.cedar_resolution.specs.Collected.{CollectsAlso, resolved_bag}
+pub use Rattle.cedar_resolution.specs.Gathered.{AreGathered, Collects}
+pub use Rattle.cedar_resolution.specs.declared.gathering.Gathered.{Gathered}
 pub use Rattle.cedar_fragments.specs.WrittenDeclarations.{written_action_body, written_actions, written_common, written_entities, written_entity_body, written_expr, written_namespace}
 pub use Rattle.cedar_fragments.specs.declared.namespace.written.Written.{Written}
 pub use Rattle.std.specs.Prelude.{None}

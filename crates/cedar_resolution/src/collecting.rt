@@ -128,7 +128,7 @@ fn add_definition<N: WrittenName + Drop>(
 }
 
 /// What was collected, and then also what a fragment declares.
-fn add_fragment<N: WrittenName + Drop>(
+pub(crate) fn add_fragment<N: WrittenName + Drop>(
     declared: Declarations<N>,
     fragment: ValidatorSchemaFragment<N, N>,
 ) -> M<Declarations<N>>
@@ -142,23 +142,8 @@ fn add_fragment<N: WrittenName + Drop>(
     Ok(declared)
 }
 
-/// What was collected, and then also what these fragments declare.
-fn add_fragments<N: WrittenName + Drop>(
-    declared: Declarations<N>,
-    fragments: Vec<ValidatorSchemaFragment<N, N>>,
-) -> M<Declarations<N>>
-    ensures { IfOk result (CollectsAlso N N.refer declared
-        (written_bag N N.refer fragments.items)) }
-{
-    let mut declared = declared;
-    for fragment in fragments {
-        declared = add_fragment(declared, fragment)?;
-    }
-    Ok(declared)
-}
-
 /// No declarations.
-fn none<N>(alloc: Global) -> Declarations<N>
+pub(crate) fn none<N>(alloc: Global) -> Declarations<N>
     ensures common { result.common_types.items ≡ [] }
     ensures entities { result.entity_types.items ≡ [] }
     ensures actions { result.actions.items ≡ [] }
@@ -168,23 +153,4 @@ fn none<N>(alloc: Global) -> Declarations<N>
         entity_types: Vec::new(alloc),
         actions: Vec::new(alloc),
     }
-}
-
-/// What these fragments declare, in their order, moved out of them. It is refused where memory ran
-/// out alone: a name that is declared twice stands there twice.
-pub fn collect_declarations<N: WrittenName + Drop>(
-    alloc: Global,
-    fragments: Vec<ValidatorSchemaFragment<N, N>>,
-) -> M<Declarations<N>>
-    ensures common { IfOk result (λ declared.
-        written_common N N.refer declared.common_types.items
-        ≡ declared_common (written_bag N N.refer fragments.items)) }
-    ensures entities { IfOk result (λ declared.
-        written_entities N N.refer declared.entity_types.items
-        ≡ declared_entities (written_bag N N.refer fragments.items)) }
-    ensures actions { IfOk result (λ declared.
-        written_actions N N.refer declared.actions.items
-        ≡ declared_actions (written_bag N N.refer fragments.items)) }
-{
-    add_fragments(none(alloc), fragments)
 }

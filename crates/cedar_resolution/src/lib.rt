@@ -1,21 +1,19 @@
 //! What fragments define, before anything is elaborated.
 //!
-//! [`fragments_as_written`] takes over fragments as they are written. [`defined_names`] gives all
-//! names that references are looked up among: the declared ones, the built-in types with their
-//! aliases, and the types of actions; it refuses where a declared name shadows another.
-//! [`collect_declarations`] moves what is declared out of the fragments, kind by kind
-//! ([`Declarations`]), each declaration with the namespace that its names are written in.
-//! [`theorems`] has laws of these.
+//! [`Gathered`] takes what fragments declare out of one after another: the names, and the
+//! declarations, kind by kind ([`Declarations`]), each with the namespace that its names are
+//! written in. [`defined_names`] gives all names that references are looked up among: the declared
+//! ones, the built-in types with their aliases, and the types of actions; it refuses where a
+//! declared name shadows another. [`theorems`] has laws of these.
 #![tactic(auto)]
 
-pub use collecting::collect_declarations;
 pub use declarations::{Declarations, DeclaredAction, DeclaredCommonType, DeclaredEntityType};
 pub use defined::{DefinedNames, defined_names};
-pub use written::fragments_as_written;
+pub use gathering::Gathered;
 
 mod built_in;
 mod collecting;
 mod declarations;
 mod defined;
+mod gathering;
 pub mod theorems;
-mod written;

@@ -15,3 +15,4 @@ mod SchemaKeys
 mod SchemaNames
 pub mod ShownLemmas
 mod SurePieces
+mod WrittenSoFar

@@ -1,6 +1,6 @@
 -- Common types that are to be shown, one after another.
 use Rattle.std.proofs.Common.{◌≡◌, ◌++◌, Bool, true, false, cond, List, [], ◌∷◌, map, refl, ap, sym, ◌∙◌}
-use Rattle.std.proofs.lemmas.List.{map-append}
+use Rattle.std.proofs.lemmas.List.{flat_map_more, map-append}
 use Rattle.std.proofs.lemmas.List.Elements.{filter-append}
 use Rattle.std.proofs.lemmas.Simd.{map-map}
 use Rattle.std.specs.List.{filter, flat_map}
@@ -58,3 +58,13 @@ names_shown N A fragments shown is =
     ∙ ap (map with_base) (map-filter name is_shown defs
     ∙ ap (filter is_shown) (map-flat_map name (fragment_common_types N A) fragments
     ∙ ap (λ f. flat_map f fragments) (λ i x. named x i))))))
+
+-- what is to be shown of fragments and of one more is to be shown of all
+pub shown_more : (N A : Type 0) (fragments : List (ValidatorSchemaFragment N A)) (fragment : ValidatorSchemaFragment N A)
+    → common_types_to_show N (flat_map (fragment_common_types N A) fragments) ++ common_types_to_show N (fragment_common_types N A fragment)
+    ≡ common_types_to_show N (flat_map (fragment_common_types N A) (fragments ++ fragment ∷ []))
+shown_more N A fragments fragment =
+    let f = fragment_common_types N A in
+    ap (λ before. before ++ common_types_to_show N (f fragment)) (to_show-flat N f fragments)
+    ∙ (flat_map_more (λ each. common_types_to_show N (f each)) [] fragments fragment
+    ∙ sym (to_show-flat N f (fragments ++ fragment ∷ [])))

@@ -6,6 +6,7 @@ pub mod SchemaParts
 pub mod Shared
 pub mod ShownCommonTypes
 pub mod ShownNamespaces
+pub mod TakenOver
 pub mod TypeLocations
 pub mod ValidatorSchema
 pub mod Words

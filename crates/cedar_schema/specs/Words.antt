@@ -25,6 +25,7 @@ pub use Rattle.cedar_fragments.specs.declared.namespace.entity_types.EntityTypeF
 pub use Rattle.cedar_fragments.specs.declared.namespace.fragment.ValidatorSchemaFragment.{ValidatorSchemaFragment}
 pub use Rattle.cedar_fragments.specs.WrittenDeclarations.{written_actions, written_common, written_entities}
 pub use Rattle.cedar_fragments.specs.declared.namespace.written.Written.{Written}
+pub use Rattle.cedar_resolution.specs.Words.{AreGathered, Collects}
 pub use Rattle.cedar_schema_elements.specs.Words.{PlainEntityType, action_of, entity_type_of, kind_principals, kind_resources, name_type_loc, owned_environment, plain_action_entity, plain_action_entry, plain_entry, plain_kind, schema_listing, schema_with}
 pub use Rattle.cedar_schema_elements.specs.declared.action_id.ValidatorActionId.{ValidatorActionId}
 pub use Rattle.cedar_schema_elements.specs.declared.entity_type.ValidatorEntityType.{ValidatorEntityType}
@@ -42,6 +43,7 @@ pub use Rattle.cedar_schema.specs.SchemaKeys.{AreKeysLocated}
 pub use Rattle.cedar_schema.specs.SchemaParts.{parts_schema}
 pub use Rattle.cedar_schema.specs.ShownCommonTypes.{ShownCommonType, common_types_to_show, declared_common_type, fragment_common_types, is_shown, shown_common_type, shown_name, with_base}
 pub use Rattle.cedar_schema.specs.ShownNamespaces.{HoldsNamespaces, built_in_namespace, last_defined, printed_namespace, shown_entry, shown_namespace}
+pub use Rattle.cedar_schema.specs.TakenOver.{AreTakenOver}
 pub use Rattle.cedar_schema.specs.ValidatorSchema.{action_entries, action_of_uid, entity_type_named, located_of, schema_entries, schema_of}
 pub use Rattle.cedar_schema.specs.declared.collecting.Located.{Located}
 pub use Rattle.cedar_schema.specs.declared.located_common_type.LocatedCommonType.{LocatedCommonType}

@@ -1,20 +1,19 @@
 //! The steps of the builder, one after another.
 
-ghost use Rattle.std.specs.Prelude.{◌≡◌, ◌⊎◌, IfErr, IfOk, OnOk};
+ghost use Rattle.std.specs.Prelude.{◌≡◌, ◌⊎◌, IfErr, IfOk, List, OnOk};
 ghost use Rattle.std.specs.Result.{result_map_both};
-ghost use Rattle.cedar_schema.specs.Words.{AreKeysLocated, AreShown, IsBuiltFrom, IsDeclaredSchema, IsFault, IsIllFormed, IsNamedOver, TypeNamesFit, extension_types, fault_of, held_names, out_of_memory, parts_schema, written_bag, written_common};
+ghost use Rattle.cedar_schema.specs.Words.{AreKeysLocated, AreShown, AreTakenOver, Collects, IsBuiltFrom, IsDeclaredSchema, IsFault, IsIllFormed, IsNamedOver, TypeNamesFit, ValidatorSchemaFragment as Fragment, extension_types, fault_of, held_names, out_of_memory, parts_schema, written_bag, written_common};
 
-use crate::collecting::{Located, located_in};
+use crate::collecting::Located;
 use crate::shared::Shared;
+use crate::taking_over::TakenOver;
 use cedar_below::{EntityType, EntityUID, Extensions};
 use cedar_builder::{actions, entity_types};
 use cedar_declarations::SchemaError;
 use cedar_elaboration::{SharedTypes, TypeScope, defined_common_types};
 use cedar_fragments::defs::{AllDefs, WrittenName};
 use cedar_fragments::namespace::ValidatorSchemaFragment;
-use cedar_resolution::{
-    Declarations, DeclaredCommonType, DefinedNames, collect_declarations, defined_names,
-};
+use cedar_resolution::{Declarations, DeclaredCommonType, DefinedNames, Gathered, defined_names};
 use cedar_schema_elements::{ValidatorActionId, ValidatorEntityType};
 use cedar_table::Table;
 use std::alloc::Global;
@@ -30,39 +29,42 @@ pub(crate) struct SchemaParts {
     pub(crate) located: Shared<Located>,
 }
 
-/// What fragments declare, where these are the names that are defined, and these the built-in types
-/// and their aliases.
+/// What some declarations give, where these are the names that are defined, and these the built-in
+/// types and their aliases.
 fn build_named<N: WrittenName + Drop>(
     alloc: Global,
-    fragments: Vec<ValidatorSchemaFragment<N, N>>,
+    declarations: Declarations<N>,
     defs: &AllDefs,
     built_in: Vec<DeclaredCommonType<N>>,
     located: Shared<Located>,
     extensions: &Extensions,
 ) -> Result<SchemaParts, SchemaError>
-    ensures declared { IfOk result (λ parts.
-        IsNamedOver (written_bag N N.refer fragments.items) extensions.now (held_names defs.now)
+    ensures declared { IfOk result (λ parts. (fragments : List (Fragment N N))
+        → Collects N N.refer (written_bag N N.refer fragments) declarations
+        → IsNamedOver (written_bag N N.refer fragments) extensions.now (held_names defs.now)
         (written_common N N.refer built_in.items)
-        → IsDeclaredSchema (written_bag N N.refer fragments.items) extensions.now
+        → IsDeclaredSchema (written_bag N N.refer fragments) extensions.now
         (parts_schema parts)) }
     ensures located { IfOk result (λ parts. parts.located ≡ located) }
     ensures keys { IfOk result (λ parts.
         AreKeysLocated parts.entity_types.entries parts.actions.entries) }
-    ensures well_formed { OnOk result
-        (IsNamedOver (written_bag N N.refer fragments.items) extensions.now (held_names defs.now)
+    ensures well_formed { OnOk result ((fragments : List (Fragment N N))
+        → Collects N N.refer (written_bag N N.refer fragments) declarations
+        → IsNamedOver (written_bag N N.refer fragments) extensions.now (held_names defs.now)
         (written_common N N.refer built_in.items)
-        → ¬ IsIllFormed (written_bag N N.refer fragments.items) extensions.now) }
-    ensures fault { IfErr result (λ error.
-        IsNamedOver (written_bag N N.refer fragments.items) extensions.now (held_names defs.now)
+        → ¬ IsIllFormed (written_bag N N.refer fragments) extensions.now) }
+    ensures fault { IfErr result (λ error. (fragments : List (Fragment N N))
+        → Collects N N.refer (written_bag N N.refer fragments) declarations
+        → IsNamedOver (written_bag N N.refer fragments) extensions.now (held_names defs.now)
         (written_common N N.refer built_in.items)
         → (fault_of error ≡ out_of_memory)
-        ⊎ IsFault (written_bag N N.refer fragments.items) extensions.now (fault_of error)) }
+        ⊎ IsFault (written_bag N N.refer fragments) extensions.now (fault_of error)) }
 {
     let Declarations {
         common_types,
         entity_types: declared,
         actions: declared_actions,
-    } = collect_declarations(alloc, fragments)?;
+    } = declarations;
     let shared = SharedTypes::new(alloc)?;
     let common = defined_common_types(alloc, common_types, built_in, defs, extensions, &shared)?;
     let known = TypeScope {
@@ -80,6 +82,37 @@ fn build_named<N: WrittenName + Drop>(
         actions,
         located,
     })
+}
+
+/// What was taken over of fragments gives over some extensions, whose names of extension types have
+/// to fit, as [`Extensions::type_names_fit`] tests. Each name is looked up in the namespace that it
+/// is written in.
+///
+/// It is refused exactly where the bag of their declarations is ill-formed, with a fault of it by
+/// name, or where memory runs out.
+pub(crate) fn build_taken_over<N: WrittenName + Drop>(
+    alloc: Global,
+    taken: TakenOver<N>,
+    extensions: &Extensions,
+) -> Result<SchemaParts, SchemaError>
+    requires { TypeNamesFit (extension_types extensions.now) }
+    ensures built { (fragments : List (Fragment N N)) → AreTakenOver N N.refer fragments taken
+        → IsBuiltFrom (written_bag N N.refer fragments) extensions.now
+        (result_map_both parts_schema fault_of result) }
+    ensures located { IfOk result (λ parts. (fragments : List (Fragment N N))
+        → AreTakenOver N N.refer fragments taken → AreShown N N fragments parts.located) }
+    ensures keys { IfOk result (λ parts.
+        AreKeysLocated parts.entity_types.entries parts.actions.entries) }
+{
+    let TakenOver { located, gathered } = taken;
+    let Gathered {
+        names,
+        declarations,
+    } = gathered;
+    let located = Shared::new(alloc, located)?;
+    let declared = names.into_defs()?;
+    let DefinedNames { defs, built_in } = defined_names::<N>(alloc, declared, extensions)?;
+    build_named(alloc, declarations, &defs, built_in, located, extensions)
 }
 
 /// What fragments declare over some extensions, whose names of extension types have to fit, as
@@ -100,8 +133,9 @@ pub(crate) fn build<N: WrittenName + Drop>(
     ensures keys { IfOk result (λ parts.
         AreKeysLocated parts.entity_types.entries parts.actions.entries) }
 {
-    let located = Shared::new(alloc, located_in(alloc, &fragments)?)?;
-    let declared = AllDefs::new(alloc, &fragments)?;
-    let DefinedNames { defs, built_in } = defined_names::<N>(alloc, declared, extensions)?;
-    build_named(alloc, fragments, &defs, built_in, located, extensions)
+    let mut taken = TakenOver::nothing(alloc)?;
+    for fragment in fragments {
+        taken = taken.with(alloc, fragment)?;
+    }
+    build_taken_over(alloc, taken, extensions)
 }

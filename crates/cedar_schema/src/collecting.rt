@@ -1,14 +1,14 @@
 //! What a schema shows of its fragments, collected before it is built.
 
-ghost use Rattle.std.specs.Prelude.{◌≡◌, [], IfOk, map};
+ghost use Rattle.std.specs.Prelude.{◌≡◌, [], ◌∷◌, ◌++◌, IfOk, List, map};
 ghost use Rattle.std.specs.Slice.Iter.{iter_rest};
-ghost use Rattle.cedar_schema.specs.Words.{AreShown, common_entries, namespace_entries, shown_common_type, shown_entry};
+ghost use Rattle.cedar_schema.specs.Words.{AreShown, Shows, ValidatorSchemaFragment as Fragment, common_entries, namespace_entries, shown_common_type, shown_entry};
 
-use crate::common_types::located_common_types;
 use crate::iterators::Namespaces;
 use crate::located_common_type::LocatedCommonType;
 use crate::located_namespace::LocatedNamespace;
-use crate::namespaces::{NamespacesByName, located_namespaces};
+use crate::namespaces::{NamespacesByName, built_in_namespaces};
+use crate::{common_types, namespaces};
 use cedar_below::{InternalName, M, copied_entries, copied_items};
 use cedar_fragments::namespace::ValidatorSchemaFragment;
 use std::alloc::Global;
@@ -33,6 +33,39 @@ impl Located {
             common_types: Vec::new(alloc),
             namespaces: BTreeMap::new(alloc),
         }
+    }
+
+    /// What a schema shows before it has any fragment: the namespace `__cedar`, where the built-in
+    /// types are. Out of memory is the only refusal.
+    pub fn built_in(alloc: Global) -> M<Self>
+        ensures shown { IfOk result (Shows [] []) }
+        ensures types { IfOk result (λ it. common_entries it ≡ []) }
+    {
+        Ok(Located {
+            common_types: Vec::new(alloc),
+            namespaces: built_in_namespaces(alloc)?,
+        })
+    }
+
+    /// What a schema shows of some fragments and one more.
+    ///
+    /// Its common types are those whose declaration has a location and whose base name is none of
+    /// `Bool`, `Long` and `String`, in order. Its namespaces are those of the definitions, the
+    /// empty one left out, and `__cedar`. Out of memory is the only refusal.
+    pub fn with<N, A>(self, alloc: Global, fragment: &ValidatorSchemaFragment<N, A>) -> M<Self>
+        ensures { IfOk result (λ it. (fragments : List (Fragment N A))
+            → AreShown N A fragments self
+            → AreShown N A (fragments ++ fragment.now ∷ []) it) }
+    {
+        let Located {
+            common_types,
+            namespaces,
+        } = self;
+        let definitions = fragment.definitions();
+        Ok(Located {
+            common_types: common_types::with_definitions(alloc, common_types, definitions)?,
+            namespaces: namespaces::with_definitions(alloc, namespaces, definitions)?,
+        })
     }
 
     /// The common types that are shown, in the order of the fragments.
@@ -68,18 +101,4 @@ impl Located {
             )?,
         })
     }
-}
-
-/// What a schema shows of fragments.
-///
-/// Its common types are those whose declaration has a location and whose base name is none of
-/// `Bool`, `Long` and `String`, in order. Its namespaces are those of the definitions, the empty
-/// one left out, and `__cedar`, where the built-in types are. Out of memory is the only refusal.
-pub fn located_in<N, A>(alloc: Global, fragments: &[ValidatorSchemaFragment<N, A>]) -> M<Located>
-    ensures { IfOk result (AreShown N A fragments.now) }
-{
-    Ok(Located {
-        common_types: located_common_types(alloc, fragments)?,
-        namespaces: located_namespaces(alloc, fragments)?,
-    })
 }

@@ -3,12 +3,12 @@
 ghost use Rattle.std.specs.Prelude.{◌≡◌, ◌++◌, IfOk, map};
 ghost use Rattle.std.specs.List.{flat_map, list_any};
 ghost use Rattle.std.specs.Str.{bytes_eq};
-ghost use Rattle.cedar_schema.specs.Words.{common_types_to_show, definition_common_types, fragment_common_types, is_shown, located_name, primitive_words, shown_common_type};
+ghost use Rattle.cedar_schema.specs.Words.{common_types_to_show, definition_common_types, is_shown, located_name, primitive_words, shown_common_type};
 
 use crate::located_common_type::LocatedCommonType;
 use crate::type_locations::type_loc;
 use cedar_below::{InternalName, M};
-use cedar_fragments::namespace::{CommonTypeDef, ValidatorNamespaceDef, ValidatorSchemaFragment};
+use cedar_fragments::namespace::{CommonTypeDef, ValidatorNamespaceDef};
 use std::alloc::Global;
 
 /// Whether a text is the name of a primitive type.
@@ -45,7 +45,7 @@ fn with_common_types<N>(
 }
 
 /// The common types, and then also those of some definitions that are shown.
-fn with_definitions<N, A>(
+pub(crate) fn with_definitions<N, A>(
     alloc: Global,
     shown: Vec<LocatedCommonType>,
     definitions: &[ValidatorNamespaceDef<N, A>],
@@ -57,22 +57,6 @@ fn with_definitions<N, A>(
     let mut shown = shown;
     for definition in definitions {
         shown = with_common_types(alloc, shown, definition.common_types())?;
-    }
-    Ok(shown)
-}
-
-/// The common types of fragments that are shown, in order.
-pub(crate) fn located_common_types<N, A>(
-    alloc: Global,
-    fragments: &[ValidatorSchemaFragment<N, A>],
-) -> M<Vec<LocatedCommonType>>
-    ensures { IfOk result (λ it. map shown_common_type it.items
-        ≡ common_types_to_show N
-        (flat_map (fragment_common_types N A) fragments.now)) }
-{
-    let mut shown = Vec::new(alloc);
-    for fragment in fragments {
-        shown = with_definitions(alloc, shown, fragment.definitions())?;
     }
     Ok(shown)
 }

@@ -67,6 +67,7 @@ mod raw;
 pub mod schema;
 mod shared;
 pub mod show;
+mod taking_over;
 pub mod theorems;
 mod type_locations;
 pub mod types;

@@ -2,11 +2,11 @@
 
 ghost use Rattle.std.specs.Prelude.{◌≡◌, ◌∷◌, ◌++◌, [], IfOk, List, None};
 ghost use Rattle.std.specs.List.{flat_map};
-ghost use Rattle.cedar_schema.specs.Words.{DefinedNamespace, HoldsNamespaces, built_in_namespace, definition_namespaces, name_loc, name_of, name_text, named_namespaces, reserved_word, shown_namespace};
+ghost use Rattle.cedar_schema.specs.Words.{DefinedNamespace, HoldsNamespaces, built_in_namespace, definition_namespaces, name_loc, name_of, name_text, reserved_word, shown_namespace};
 
 use crate::located_namespace::LocatedNamespace;
 use cedar_below::{Id, InternalName, Loc, M};
-use cedar_fragments::namespace::{ValidatorNamespaceDef, ValidatorSchemaFragment};
+use cedar_fragments::namespace::ValidatorNamespaceDef;
 use std::alloc::Global;
 use std::collections::BTreeMap;
 
@@ -54,7 +54,7 @@ fn with_namespace<N, A>(
 }
 
 /// The namespaces, and those of some definitions in the place of earlier ones of their names.
-fn with_definitions<N, A>(
+pub(crate) fn with_definitions<N, A>(
     alloc: Global,
     namespaces: NamespacesByName,
     definitions: &[ValidatorNamespaceDef<N, A>],
@@ -83,27 +83,12 @@ fn built_in_name(alloc: Global) -> M<InternalName>
 }
 
 /// The namespace of the built-in types alone.
-fn built_in_namespaces(alloc: Global) -> M<NamespacesByName>
+pub(crate) fn built_in_namespaces(alloc: Global) -> M<NamespacesByName>
     ensures { IfOk result (HoldsNamespaces (built_in_namespace ∷ [])) }
 {
     let name = built_in_name(alloc)?;
     let namespace = located_namespace(alloc, &name, None)?;
     let mut namespaces = BTreeMap::new(alloc);
     namespaces.insert(name, namespace)?;
-    Ok(namespaces)
-}
-
-/// The namespaces of fragments that have a name, and that of the built-in types.
-pub(crate) fn located_namespaces<N, A>(
-    alloc: Global,
-    fragments: &[ValidatorSchemaFragment<N, A>],
-) -> M<NamespacesByName>
-    ensures { IfOk result (HoldsNamespaces
-        (built_in_namespace ∷ flat_map (named_namespaces N A) fragments.now)) }
-{
-    let mut namespaces = built_in_namespaces(alloc)?;
-    for fragment in fragments {
-        namespaces = with_definitions(alloc, namespaces, fragment.definitions())?;
-    }
     Ok(namespaces)
 }

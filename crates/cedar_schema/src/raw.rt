@@ -4,11 +4,12 @@ ghost use Rattle.std.specs.Prelude.{IfErr, IfOk};
 ghost use Rattle.std.specs.Result.{result_map_both};
 ghost use Rattle.cedar_schema.specs.Words.{AreKeysLocated, IsBuiltFrom, NamesAllOfADefinition, ShowsWritten, TypeNamesFit, extension_types, fault_of, parts_schema, raw_bag};
 
-use crate::building::{SchemaParts, build};
+use crate::building::{SchemaParts, build_taken_over};
+use crate::taking_over::TakenOver;
 use cedar_below::Extensions;
 use cedar_declarations::SchemaError;
+use cedar_fragments::namespace::ValidatorSchemaFragment;
 use cedar_names::json_schema::{Fragment, RawName};
-use cedar_resolution::fragments_as_written;
 use std::alloc::Global;
 
 /// What fragments declare over some extensions, whose names of extension types have to fit, as
@@ -31,6 +32,9 @@ pub(crate) fn build_raw(
     ensures keys { IfOk result (λ parts.
         AreKeysLocated parts.entity_types.entries parts.actions.entries) }
 {
-    let fragments = fragments_as_written(alloc, fragments)?;
-    build(alloc, fragments, extensions)
+    let mut taken = TakenOver::nothing(alloc)?;
+    for fragment in fragments {
+        taken = taken.with(alloc, ValidatorSchemaFragment::as_written(alloc, fragment)?)?;
+    }
+    build_taken_over(alloc, taken, extensions)
 }

@@ -6,7 +6,8 @@ use cedar_below::{EntityType, Extensions, InternalName};
 use cedar_declarations::SchemaError;
 use cedar_fragments::defs::{AllDefs, WrittenName};
 use cedar_fragments::namespace::ValidatorSchemaFragment;
-use cedar_resolution::{DefinedNames, collect_declarations, defined_names};
+use cedar_names::json_schema::ConditionalName;
+use cedar_resolution::{DefinedNames, Gathered, defined_names};
 use shorthand::checked::{holds, same};
 use shorthand::names::internal_name;
 use shorthand::sample_extensions;
@@ -201,19 +202,36 @@ fn what_names_nothing_or_shadows_is_refused(rt: HostRuntime) -> Result<(), Fail>
     Ok(())
 }
 
-/// How many common types, entity types and actions are collected from the fragment of a text.
-fn collected(alloc: Global, text: &str) -> Result<(usize, usize, usize), Fail> {
-    let declared = collect_declarations(alloc, fragments_of(alloc, &[text])?)?;
-    Ok((
-        declared.common_types.len(),
-        declared.entity_types.len(),
-        declared.actions.len(),
-    ))
+/// What the fragments of some texts declare, gathered from one after another.
+fn gathered(alloc: Global, texts: &[&str]) -> Result<Gathered<ConditionalName>, Fail> {
+    let mut gathered = Gathered::nothing(alloc);
+    for fragment in fragments_of(alloc, texts)? {
+        gathered = gathered.with(fragment)?;
+    }
+    Ok(gathered)
 }
 
 #[test]
-fn declarations_are_collected(rt: HostRuntime) -> Result<(), Fail> {
-    let text = "N: type C = Long; entity U; external entity T; action view";
-    let counts = collected(rt.alloc(), text)?;
-    holds(counts == (1, 2, 1), text)
+fn declarations_are_gathered(rt: HostRuntime) -> Result<(), Fail> {
+    let alloc = rt.alloc();
+    let texts = &[
+        "N: type C = Long; entity U",
+        ": external entity T; action view",
+    ];
+    let Gathered {
+        names,
+        declarations,
+    } = gathered(alloc, texts)?;
+    let counts = (
+        declarations.common_types.len(),
+        declarations.entity_types.len(),
+        declarations.actions.len(),
+    );
+    holds(counts == (1, 2, 1), "kinds of declarations")?;
+    let expected = AllDefs::new(alloc, &fragments_of(alloc, texts)?)?;
+    same(
+        "names",
+        format!(in alloc; "{:?}", names.into_defs()?)?.as_str(),
+        format!(in alloc; "{expected:?}")?.as_str(),
+    )
 }

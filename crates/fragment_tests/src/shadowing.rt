@@ -3,7 +3,7 @@
 use crate::declarations::fragments_of;
 use crate::refusals::refusal_text;
 use cedar_declarations::SchemaError;
-use cedar_fragments::defs::AllDefs;
+use cedar_fragments::defs::{AllDefs, NameLists};
 use shorthand::checked::{holds, same};
 use shorthand::names::internal_name;
 use std::alloc::Global;
@@ -16,6 +16,30 @@ fn defined(alloc: Global, texts: &[&str], common: &[&str]) -> Result<AllDefs, Fa
         all_defs.mark_as_defined_as_common_type(internal_name(alloc, name)?)?;
     }
     Ok(all_defs)
+}
+
+/// What the fragments of some texts define, whose names are listed by hand.
+fn listed(alloc: Global, texts: &[&str]) -> Result<AllDefs, Fail> {
+    let mut name_lists = NameLists::none(alloc);
+    for fragment in fragments_of(alloc, texts)? {
+        name_lists.add_fragment(&fragment)?;
+    }
+    Ok(name_lists.into_defs()?)
+}
+
+#[test]
+fn names_are_listed_fragment_by_fragment(rt: HostRuntime) -> Result<(), Fail> {
+    let alloc = rt.alloc();
+    for &(texts, _, name) in SHADOWED {
+        let expected = defined(alloc, texts, &[])?;
+        let listed = listed(alloc, texts)?;
+        same(
+            name,
+            format!(in alloc; "{listed:?}")?.as_str(),
+            format!(in alloc; "{expected:?}")?.as_str(),
+        )?;
+    }
+    Ok(())
 }
 
 /// What is printed of a refusal, or `none` where nothing is refused.

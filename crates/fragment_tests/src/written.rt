@@ -3,10 +3,10 @@
 use crate::copies::resolved_fragment;
 use crate::qualification::{REFUSED, SETTLED, outcome, resolved, shown_or_refused};
 use crate::shown::shown;
+use cedar_declarations::SchemaError;
 use cedar_fragments::defs::AllDefs;
 use cedar_fragments::namespace::ValidatorSchemaFragment;
 use cedar_names::json_schema::{Fragment, RawName};
-use cedar_resolution::fragments_as_written;
 use shorthand::checked::same;
 use shorthand::{fragment_of, sample_extensions};
 use std::alloc::Global;
@@ -41,10 +41,22 @@ fn written(alloc: Global, texts: &[&str]) -> Result<Vec<Fragment<RawName>>, Fail
     Ok(fragments)
 }
 
+/// The fragments over the names that are written.
+fn taken_over(
+    alloc: Global,
+    written: Vec<Fragment<RawName>>,
+) -> Result<Vec<ValidatorSchemaFragment<RawName, RawName>>, SchemaError> {
+    let mut fragments = Vec::new(alloc);
+    for fragment in written {
+        fragments.push(ValidatorSchemaFragment::as_written(alloc, fragment)?)?;
+    }
+    Ok(fragments)
+}
+
 /// What becomes of the fragments of some texts as they are written.
 fn written_outcome(alloc: Global, texts: &[&str]) -> Result<String, Fail> {
     let extensions = sample_extensions(alloc)?;
-    let outcome = match fragments_as_written(alloc, written(alloc, texts)?) {
+    let outcome = match taken_over(alloc, written(alloc, texts)?) {
         Ok(fragments) => resolved(alloc, fragments, &extensions),
         Err(error) => Err(error),
     };

@@ -1,40 +1,40 @@
-use Rattle.std.proofs.Common.{Err}
-use Rattle.std.proofs.lemmas.Result.{err_from_is_err_and}
-use Rattle.cedar_schema.specs.Words.{fault_of, held_names, written_bag, written_common}
-use Rattle.cedar_declaration_laws.proofs.BuiltFrom.{built_from}
-use Rattle.cedar_resolution.proofs.NamesDefined.{written_just}
-use Rattle.cedar_schema.proofs.BuiltOver.{built_over}
+use Rattle.std.proofs.Common.{◌≡◌, List, None, ap, length, refl, subst, sym, ◌∙◌}
+use Rattle.std.proofs.lemmas.Iterator.Adapters.{YieldsList-from_vec}
+use Rattle.std.proofs.lemmas.Iterator.Consumers.{YieldsList-end}
+use Rattle.std.proofs.lemmas.List.{map-id}
+use Rattle.std.proofs.lemmas.Result.{IfOk-weaker}
+use Rattle.cedar_schema.specs.Words.{AreTakenOver, ValidatorSchemaFragment}
 use Rattle.cedar_schema.proofs.building.build.Goals as goal
 
--- a refused name is a fault of the bag
-pub returns-in_err-defs-clause-built : goal.returns-in_err-defs-clause-built
-returns-in_err-defs-clause-built g c =
-    let N = g.row.N.Denot in
-    let refer = g.N.WrittenName.refer in
-    let fragments = c.args.fragments.items in
-    let just = written_just N refer fragments c.in_ok-declared.declared
-    (rw c.deref-2.ensures.value at c.in_ok-declared.ensures) in
-    let refused = built_from (written_bag N refer fragments) c.args.extensions.now c.requires (Err (fault_of c.in_err-defs.field-0.0))
-    (c.in_err-defs.ensures.fault (written_bag N refer fragments) just) tt tt in
-    let p = err_from_is_err_and c.from_residual-in_err-defs.result c.from_residual-in_err-defs.ensures.1 in
-    rw (p.1, p.2) refused
+-- at first nothing is taken over
+pub loop-fragment-init : goal.loop-fragment-init
+loop-fragment-init g c = c.in_ok-taken.ensures
 
--- what is built over the names is built from the bag
+-- one more fragment is
+pub loop-fragment-preserved : goal.loop-fragment-preserved
+loop-fragment-preserved g c = c.in_ok-taken-2.ensures c.loop-fragment.yielded c.loop-fragment.invariant
+
+-- at the end all are, and what is built of them is built of all
 pub returns-clause-built : goal.returns-clause-built
 returns-clause-built g c =
-    let N = g.row.N.Denot in
-    let refer = g.N.WrittenName.refer in
-    let fragments = c.args.fragments.items in
-    let bag = written_bag N refer fragments in
-    let just = written_just N refer fragments c.in_ok-declared.declared
-    (rw c.deref-2.ensures.value at c.in_ok-declared.ensures) in
-    let named = c.in_ok-defs.ensures in
-    built_over bag c.args.extensions.now (held_names c.in_ok-defs.field-0.defs) (written_common N refer c.in_ok-defs.field-0.built_in.items)
-    (record {
-      names = named.names bag just;
-      types_shadow = named.no_type_shadows bag just;
-      actions_shadow = named.no_action_shadows bag just;
-      built_in = named.built_in bag just;
-      fit = c.requires;
-    })
-    c.build_named.result c.build_named.ensures.fault c.build_named.ensures.well_formed c.build_named.ensures.declared
+    let all = c.args.fragments.items in
+    let begins = c.into_iter-fragment-iterator.ensures.into_iter_gives.0 in
+    let each : c.loop-fragment.yielded ≡ all = sym (map-id c.loop-fragment.yielded)
+    ∙ (YieldsList-end (YieldsList-from_vec {s = c.into_iter-fragment-iterator.result} all begins (c.into_iter-fragment-iterator.result.rest.ok.0 ∙ ap length begins)) c.loop-fragment.yielded c.loop-fragment.fragment-iterator
+    c.loop-fragment.yielded_by None c.next.new.self refl c.in-None.ensures.steps).0 in
+    let P : List (ValidatorSchemaFragment g.row.N.Denot g.row.N.Denot) → Type 0 = λ fragments.
+    AreTakenOver g.row.N.Denot g.N.WrittenName.refer fragments c.loop-fragment.taken in
+    c.build_taken_over.ensures.built all (subst P each c.loop-fragment.invariant)
+
+-- and shows all
+pub returns-clause-located : goal.returns-clause-located
+returns-clause-located g c =
+    let all = c.args.fragments.items in
+    let begins = c.into_iter-fragment-iterator.ensures.into_iter_gives.0 in
+    let each : c.loop-fragment.yielded ≡ all = sym (map-id c.loop-fragment.yielded)
+    ∙ (YieldsList-end (YieldsList-from_vec {s = c.into_iter-fragment-iterator.result} all begins (c.into_iter-fragment-iterator.result.rest.ok.0 ∙ ap length begins)) c.loop-fragment.yielded c.loop-fragment.fragment-iterator
+    c.loop-fragment.yielded_by None c.next.new.self refl c.in-None.ensures.steps).0 in
+    let P : List (ValidatorSchemaFragment g.row.N.Denot g.row.N.Denot) → Type 0 = λ fragments.
+    AreTakenOver g.row.N.Denot g.N.WrittenName.refer fragments c.loop-fragment.taken in
+    IfOk-weaker c.build_taken_over.result _ _ (λ parts shown. shown all (subst P each c.loop-fragment.invariant))
+    c.build_taken_over.ensures.located

@@ -14,38 +14,37 @@ use Rattle.cedar_schema.proofs.building.build_named.Goals as goal
 -- a refused common type is a fault of the bag
 pub returns-in_err-common-clause-fault : goal.returns-in_err-common-clause-fault
 returns-in_err-common-clause-fault g c =
+    exit_holds _ _ _ c.from_residual-in_err-common.ensures.1
+    (λ fragments is over.
     let N = g.row.N.Denot in
     let refer = g.N.WrittenName.refer in
-    let bag = written_bag N refer c.args.fragments.items in
+    let bag = written_bag N refer fragments in
     let given = c.args.extensions.now in
     let held = held_names c.args.defs.now in
     let built_in = written_common N refer c.args.built_in.items in
-    let collected = c.in_ok-common_types.field-0 in
-    let is = c.in_ok-common_types.ensures in
+    let collected = c.args.declarations in
     let common = written_common N refer collected.common_types.items in
     let entities = written_entities N refer collected.entity_types.items in
     let uids = written_actions N refer collected.actions.items in
     let unreserved = collected_unreserved N refer bag given collected.entity_types.items collected.actions.items is.entities is.actions in
-    exit_holds _ _ _ c.from_residual-in_err-common.ensures.1
-    (λ over. c.in_err-common.ensures.fault bag (types_of bag given held built_in over common entities uids is.common is.entities is.actions unreserved))
+    c.in_err-common.ensures.fault bag (types_of bag given held built_in over common entities uids is.common is.entities is.actions unreserved))
 
 -- so is a refused entity type
 pub returns-in_err-entity_types-clause-fault : goal.returns-in_err-entity_types-clause-fault
 returns-in_err-entity_types-clause-fault g c =
+    exit_holds _ _ _ c.from_residual-in_err-entity_types.ensures.1
+    (λ fragments is over.
     let N = g.row.N.Denot in
     let refer = g.N.WrittenName.refer in
-    let bag = written_bag N refer c.args.fragments.items in
+    let bag = written_bag N refer fragments in
     let given = c.args.extensions.now in
     let held = held_names c.args.defs.now in
     let built_in = written_common N refer c.args.built_in.items in
-    let collected = c.in_ok-common_types.field-0 in
-    let is = c.in_ok-common_types.ensures in
+    let collected = c.args.declarations in
     let common = written_common N refer collected.common_types.items in
     let entities = written_entities N refer collected.entity_types.items in
     let uids = written_actions N refer collected.actions.items in
     let unreserved = collected_unreserved N refer bag given collected.entity_types.items collected.actions.items is.entities is.actions in
-    exit_holds _ _ _ c.from_residual-in_err-entity_types.ensures.1
-    (λ over.
     let types = types_of bag given held built_in over common entities uids is.common is.entities is.actions unreserved in
     c.in_err-entity_types.ensures.fault bag given
     (ready bag given held built_in over common entities uids is.common is.entities is.actions unreserved _ refl refl
@@ -54,20 +53,19 @@ returns-in_err-entity_types-clause-fault g c =
 -- and a refused action
 pub returns-in_err-actions-clause-fault : goal.returns-in_err-actions-clause-fault
 returns-in_err-actions-clause-fault g c =
+    exit_holds _ _ _ c.from_residual-in_err-actions.ensures.1
+    (λ fragments is over.
     let N = g.row.N.Denot in
     let refer = g.N.WrittenName.refer in
-    let bag = written_bag N refer c.args.fragments.items in
+    let bag = written_bag N refer fragments in
     let given = c.args.extensions.now in
     let held = held_names c.args.defs.now in
     let built_in = written_common N refer c.args.built_in.items in
-    let collected = c.in_ok-common_types.field-0 in
-    let is = c.in_ok-common_types.ensures in
+    let collected = c.args.declarations in
     let common = written_common N refer collected.common_types.items in
     let entities = written_entities N refer collected.entity_types.items in
     let uids = written_actions N refer collected.actions.items in
     let unreserved = collected_unreserved N refer bag given collected.entity_types.items collected.actions.items is.entities is.actions in
-    exit_holds _ _ _ c.from_residual-in_err-actions.ensures.1
-    (λ over.
     let types = types_of bag given held built_in over common entities uids is.common is.entities is.actions unreserved in
     let written = c.in_ok-common.ensures.elaborates bag types in
     let sound = c.in_ok-common.ensures.sound bag types in
@@ -78,15 +76,14 @@ returns-in_err-actions-clause-fault g c =
 
 -- nothing in the bag is at fault
 pub returns-clause-well_formed : goal.returns-clause-well_formed
-returns-clause-well_formed g c over =
+returns-clause-well_formed g c fragments is over =
     let N = g.row.N.Denot in
     let refer = g.N.WrittenName.refer in
-    let bag = written_bag N refer c.args.fragments.items in
+    let bag = written_bag N refer fragments in
     let given = c.args.extensions.now in
     let held = held_names c.args.defs.now in
     let built_in = written_common N refer c.args.built_in.items in
-    let collected = c.in_ok-common_types.field-0 in
-    let is = c.in_ok-common_types.ensures in
+    let collected = c.args.declarations in
     let common = written_common N refer collected.common_types.items in
     let entities = written_entities N refer collected.entity_types.items in
     let uids = written_actions N refer collected.actions.items in
@@ -97,20 +94,19 @@ returns-clause-well_formed g c over =
     let is_ready = ready bag given held built_in over common entities uids is.common is.entities is.actions unreserved _ refl refl written sound in
     let acting = actions_of bag given held built_in over common entities uids is.common is.entities is.actions unreserved _ refl refl written sound
     c.in_ok-entity_types.entity_types (c.in_ok-entity_types.ensures.declared bag given is_ready) in
-    pieces_well bag given held built_in over (written_have_no_fault N refer c.args.fragments.items) sound
+    pieces_well bag given held built_in over (written_have_no_fault N refer fragments) sound
     (c.in_ok-entity_types.ensures.sound bag given is_ready) (c.in_ok-actions.ensures.sound bag given acting)
 
 -- and what is built is what it declares
 pub returns-clause-declared : goal.returns-clause-declared
-returns-clause-declared g c over =
+returns-clause-declared g c fragments is over =
     let N = g.row.N.Denot in
     let refer = g.N.WrittenName.refer in
-    let bag = written_bag N refer c.args.fragments.items in
+    let bag = written_bag N refer fragments in
     let given = c.args.extensions.now in
     let held = held_names c.args.defs.now in
     let built_in = written_common N refer c.args.built_in.items in
-    let collected = c.in_ok-common_types.field-0 in
-    let is = c.in_ok-common_types.ensures in
+    let collected = c.args.declarations in
     let common = written_common N refer collected.common_types.items in
     let entities = written_entities N refer collected.entity_types.items in
     let uids = written_actions N refer collected.actions.items in

@@ -1,0 +1,52 @@
+//! What fragments declare, gathered from one after another.
+
+ghost use Rattle.std.specs.Prelude.{[], ◌∷◌, ◌++◌, IfOk, List};
+ghost use Rattle.cedar_resolution.specs.Words.{AreGathered, ValidatorSchemaFragment as Fragment};
+
+use crate::collecting::{add_fragment, none};
+use crate::declarations::Declarations;
+use cedar_below::M;
+use cedar_fragments::defs::{NameLists, WrittenName};
+use cedar_fragments::namespace::ValidatorSchemaFragment;
+use std::alloc::Global;
+
+/// What some fragments declare, gathered from one after another, so that each is gone over while
+/// it is at hand. A name that is declared twice stands there twice.
+#[derive(Debug, Drop)]
+pub struct Gathered<N> {
+    /// The names, in lists.
+    pub names: NameLists,
+    /// The declarations, in the order of the fragments.
+    pub declarations: Declarations<N>,
+}
+
+impl<N: WrittenName + Drop> Gathered<N> {
+    /// What no fragments declare.
+    pub fn nothing(alloc: Global) -> Self
+        ensures { AreGathered N N.refer [] result }
+    {
+        Gathered {
+            names: NameLists::none(alloc),
+            declarations: none(alloc),
+        }
+    }
+
+    /// What was gathered, and then also what a fragment declares, moved out of it. Out of memory
+    /// is the only refusal.
+    pub fn with(self, fragment: ValidatorSchemaFragment<N, N>) -> M<Self>
+        ensures { IfOk result (λ it. (fragments : List (Fragment N N))
+            → AreGathered N N.refer fragments self
+            → AreGathered N N.refer (fragments ++ fragment ∷ []) it) }
+    {
+        let Gathered {
+            names,
+            declarations,
+        } = self;
+        let mut names = names;
+        names.add_fragment(&fragment)?;
+        Ok(Gathered {
+            names,
+            declarations: add_fragment(declarations, fragment)?,
+        })
+    }
+}

@@ -1,0 +1,47 @@
+//! Fragments that are taken over, one after another, to be built.
+
+ghost use Rattle.std.specs.Prelude.{[], ◌∷◌, ◌++◌, IfOk, List};
+ghost use Rattle.cedar_schema.specs.Words.{AreTakenOver, ValidatorSchemaFragment as Fragment};
+
+use crate::collecting::Located;
+use cedar_below::M;
+use cedar_fragments::defs::WrittenName;
+use cedar_fragments::namespace::ValidatorSchemaFragment;
+use cedar_resolution::Gathered;
+use std::alloc::Global;
+
+/// What is taken over of some fragments. All that is wanted of one is taken at once, while it is at
+/// hand.
+#[derive(Debug, Drop)]
+pub(crate) struct TakenOver<N> {
+    /// What a schema shows of them.
+    pub(crate) located: Located,
+    /// What they declare.
+    pub(crate) gathered: Gathered<N>,
+}
+
+impl<N: WrittenName + Drop> TakenOver<N> {
+    /// What there is of no fragments. Out of memory is the only refusal.
+    pub(crate) fn nothing(alloc: Global) -> M<Self>
+        ensures { IfOk result (AreTakenOver N N.refer []) }
+    {
+        Ok(TakenOver {
+            located: Located::built_in(alloc)?,
+            gathered: Gathered::nothing(alloc),
+        })
+    }
+
+    /// What was taken over, and then also what there is of a fragment. Out of memory is the only
+    /// refusal.
+    pub(crate) fn with(self, alloc: Global, fragment: ValidatorSchemaFragment<N, N>) -> M<Self>
+        ensures { IfOk result (λ it. (fragments : List (Fragment N N))
+            → AreTakenOver N N.refer fragments self
+            → AreTakenOver N N.refer (fragments ++ fragment ∷ []) it) }
+    {
+        let TakenOver { located, gathered } = self;
+        Ok(TakenOver {
+            located: located.with(alloc, &fragment)?,
+            gathered: gathered.with(fragment)?,
+        })
+    }
+}
