@@ -1,4 +1,8 @@
 //! The work of each piece, done once.
+//!
+//! What takes long is kept apart (`inline(never)`) from the function that finds out which piece is
+//! asked for: a function makes room for all its variables at each call, and that would be measured
+//! with the pieces that take some nanoseconds.
 
 use crate::graphs::Graph;
 use crate::prepared::{Borrowed, Given, OfOne, OfSchema, OfText, OfTwo, built, no_extensions};
@@ -61,6 +65,7 @@ fn has_type(alloc: Global, ty: &Type, value: &Value) -> usize {
 }
 
 /// 1 or 0 for whether some value has the one type and not the other, which have to be stated.
+#[inline(never)]
 fn separated(alloc: Global, one: &Type, other: &Type) -> Result<usize, Stop> {
     let extensions = no_extensions(alloc);
     if !(one.is_stated(&extensions, &[]) && other.is_stated(&extensions, &[])) {
@@ -71,6 +76,7 @@ fn separated(alloc: Global, one: &Type, other: &Type) -> Result<usize, Stop> {
 }
 
 /// How many differences there are between two versions of a schema, lost and gained together.
+#[inline(never)]
 fn differences(alloc: Global, old: &ValidatorSchema, new: &ValidatorSchema) -> Result<usize, Stop> {
     let Comparison { lost, gained } = compare(alloc, old, new, &no_extensions(alloc), &[])?;
     Ok(lost.len().saturating_add(gained.len()))
@@ -94,9 +100,28 @@ fn declarations(fragment: &Fragment<RawName>) -> usize {
 }
 
 /// How many attributes or entity types the join of some types lists.
+#[inline(never)]
 fn joined(alloc: Global, types: &[Type]) -> Result<usize, Stop> {
     let ty = Type::reduce_to_least_upper_bound(alloc, types, ValidationMode::Permissive)?;
     Ok(listed(&ty))
+}
+
+/// How many attributes or entity types the join of two types lists.
+#[inline(never)]
+fn join(alloc: Global, one: &Type, other: &Type, mode: ValidationMode) -> Result<usize, Stop> {
+    Ok(listed(&Type::least_upper_bound(alloc, one, other, mode)?))
+}
+
+/// How many attributes a schema knows of a type.
+#[inline(never)]
+fn known(alloc: Global, schema: &ValidatorSchema, ty: &Type) -> Result<usize, Stop> {
+    Ok(ty.all_attributes(alloc, schema)?.keys().count())
+}
+
+/// The length of the text of a fragment.
+#[inline(never)]
+fn written(alloc: Global, fragment: &Fragment<RawName>) -> Result<usize, Stop> {
+    Ok(fragment_to_json(alloc, fragment)?.len())
 }
 
 /// 1 or 0 for whether a text is JSON in which no key comes twice in an object.
@@ -107,6 +132,7 @@ fn is_parsed(alloc: Global, text: &str) -> usize {
 
 impl OfText {
     /// 1 or 0 for whether the text is JSON, or how many declarations the fragment has.
+    #[inline(never)]
     fn work(self, alloc: Global, text: &str) -> Result<usize, Stop> {
         match self {
             OfText::Parse => Ok(is_parsed(alloc, text)),
@@ -132,7 +158,7 @@ impl OfTwo {
             OfTwo::Subtype(mode) => Ok(usize::from(Type::is_subtype(one, other, mode))),
             OfTwo::Equality => Ok(usize::from(one == other)),
             OfTwo::Disjointness => Ok(usize::from(Type::are_types_disjoint(one, other))),
-            OfTwo::Join(mode) => Ok(listed(&Type::least_upper_bound(alloc, one, other, mode)?)),
+            OfTwo::Join(mode) => join(alloc, one, other, mode),
             OfTwo::Separation => separated(alloc, one, other),
         }
     }
@@ -141,6 +167,7 @@ impl OfTwo {
 impl OfSchema {
     /// How many environments or declarations there are, or how many attributes and descendants the
     /// entity types of a copy have.
+    #[inline(never)]
     fn work(self, alloc: Global, schema: &ValidatorSchema) -> Result<usize, Stop> {
         match self {
             OfSchema::Environments => Ok(environments(schema)),
@@ -167,11 +194,9 @@ impl Borrowed {
             Borrowed::Hashed(types, actions, ty, uid) => {
                 Ok(usize::from(types.contains_key(ty)) + usize::from(actions.contains_key(uid)))
             }
-            Borrowed::KnownAttributes(schema, ty) => {
-                Ok(ty.all_attributes(alloc, schema)?.keys().count())
-            }
+            Borrowed::KnownAttributes(schema, ty) => known(alloc, schema, ty),
             Borrowed::Text(question, text) => question.work(alloc, text),
-            Borrowed::Fragment(fragment) => Ok(fragment_to_json(alloc, fragment)?.len()),
+            Borrowed::Fragment(fragment) => written(alloc, fragment),
         }
     }
 }

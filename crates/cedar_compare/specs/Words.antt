@@ -29,7 +29,7 @@ pub use Rattle.cedar_schema.specs.Words.{action_entries, action_of_uid, entity_t
 pub use Rattle.cedar_schema.specs.declared.schema.ValidatorSchema.{ValidatorSchema}
 pub use Rattle.cedar_compare.specs.Choices.{IsIdOutside, MayHave, choice_texts, kind_choices}
 pub use Rattle.cedar_compare.specs.CompareFault.{IsComparable, IsCompareFault, IsCompleteSchema, IsUnsampledType, IsVersionFault}
-pub use Rattle.cedar_compare.specs.Difference.{AreAnswers, AreLosses, AreTagsOutside, IsActionCause, IsAlike, IsAnswer, IsCauseOfKinds, IsEnvironmentFor, IsLoss, IsTypeCause, KeepsOf, LacksChoice, LosesOf, PlainCause, PlainDifference, Subject, action_above, action_lost, action_subject, attributes_outside, choice_gone, context_outside, entity_lost, environment_subject, gone, request_lost, subject_cmp, subject_of, tags_outside, type_above, type_subject}
+pub use Rattle.cedar_compare.specs.Difference.{AreAnswers, AreLosses, AreTagsOutside, IsActionCause, IsAlike, IsAnswer, IsCauseOfKinds, IsEnvironmentFor, IsLoss, IsTypeCause, KeepsOf, LacksChoice, LosesOf, PlainCause, PlainDifference, Subject, action_above, action_lost, action_subject, attributes_outside, choice_gone, context_outside, entity_lost, environment_subject, gone, request_lost, subject_cmp, subject_of, tags_outside, type_subject}
 pub use Rattle.cedar_compare.specs.Entities.{AreTagsOf, IsEntityIn, IsEntityOfKind, IsEntityOfType, IsIdOf, IsReal, MayStandAbove}
 pub use Rattle.cedar_compare.specs.Fresh.{IsFreshIn, NoLongerChoice}
 pub use Rattle.cedar_compare.specs.Keeps.{IsLostAction, IsLostEntity, IsLostRequest, Keeps, KeepsAction, KeepsEntityType, KeepsRequest, LosesAction, LosesEntityType, LosesRequest}

@@ -1,5 +1,5 @@
 -- The words of clauses, from one place.
-pub use Rattle.cedar_below.specs.Words.{Chain, EachTree, Entries, EntryFits, Gives, HoldsPairwise, IsActionType, IsUnqualified, PlainName, PlainUid, SameItems, Text, Tree, Trees, Twice, TypeNamesFit, action_word, call_value, entry, entry_at, extension_types, map_value, name_cmp, no_entry, no_tree, number_value, one, plain_name, reserved_word, set_value, text_cmp, text_value, tree, truth_value, uid_cmp, uid_value}
+pub use Rattle.cedar_below.specs.Words.{Chain, EachTree, Entries, EntryFits, Gives, HoldsPairwise, IsActionType, IsUnqualified, PlainName, PlainUid, SameItems, Text, Tree, Trees, Twice, TypeNamesFit, action_word, call_value, entry_at, extension_types, map_value, name_cmp, no_entry, no_tree, number_value, one, plain_name, reserved_word, set_value, text_cmp, text_value, tree, truth_value, uid_cmp, uid_value}
 pub use Rattle.cedar_below.specs.declared.extension.Extensions.{Extensions}
 pub use Rattle.cedar_below.specs.declared.name.Name.{Name}
 pub use Rattle.cedar_type_rules.specs.Words.{AreClean, Fields, Has, HasFieldsBy, IsClean, Ty, any_entity, any_set, end, extension_of, field, field_names, long, never, record_of, set_of, text, truth, union_of}

@@ -7,7 +7,7 @@ pub use Rattle.cedar_below.specs.declared.internal_name.InternalName.{InternalNa
 pub use Rattle.cedar_below.specs.declared.loc.Loc.{Loc}
 pub use Rattle.cedar_below.specs.declared.name.Name.{Name}
 pub use Rattle.cedar_below.specs.declared.unreserved_id.UnreservedId.{UnreservedId}
-pub use Rattle.cedar_names.specs.Words.{ActionBody, ActionReference, AlikeConditional, AlikeEntity, AlikeFull, Body, Declaration, EntityBody, Expr, LocatesAlike, Locs, Reference, RefersAlike, ShowsSame, action, action_body, action_declarations, applies_to, attribute_locs, attribute_locs_step, common_declarations, common_type, common_type_text, conditional_reference, entity_declarations, entity_type, external, flag_and_expr, member, members_from, name_within, named, names_of, namespace_name, own_reference, parent_action, parent_actions, path_within, positional_attribute, positional_expr, positional_record, positional_reference, positional_variant, possibilities_of, raw_bag, raw_declarations, raw_entity_body, raw_expr, raw_fragment, raw_reference, record_expr, record_locs, record_locs_step, record_type_expr, requests_by, set_expr, standard, type_expr, type_locs, type_locs_step, variant_expr, variant_locs, variant_locs_step}
+pub use Rattle.cedar_names.specs.Words.{ActionBody, ActionReference, AlikeConditional, AlikeEntity, AlikeFull, Body, Declaration, EntityBody, Expr, LocatesAlike, Locs, Reference, RefersAlike, action, action_body, action_declarations, applies_to, attribute_locs, attribute_locs_step, common_declarations, common_type, common_type_text, conditional_reference, entity_declarations, entity_type, external, flag_and_expr, member, members_from, name_within, named, names_of, namespace_name, own_reference, parent_action, parent_actions, path_within, positional_expr, positional_reference, possibilities_of, raw_declarations, raw_entity_body, raw_expr, raw_fragment, raw_reference, record_expr, record_locs, record_locs_step, record_type_expr, set_expr, standard, type_expr, type_locs, type_locs_step, variant_expr, variant_locs, variant_locs_step}
 pub use Rattle.cedar_names.specs.declared.json_schema.action_type.ActionType.{ActionType}
 pub use Rattle.cedar_names.specs.declared.json_schema.common_type_id.CommonTypeId.{CommonTypeId}
 pub use Rattle.cedar_names.specs.declared.json_schema.conditional_name.ConditionalName.{ConditionalName}
@@ -26,11 +26,11 @@ pub use Rattle.cedar_declarations.specs.Words.{Bag, Fault, HasAttributes, HasToR
 pub use Rattle.cedar_fragments.specs.ActionDeclarations.{action_fragment_body, action_fragment_declaration, action_fragment_declarations, fragment_parent, fragment_requests}
 pub use Rattle.cedar_fragments.specs.DeclaredAs.{declared_action, declared_as, name_of_parts, namespace_of, within_part}
 pub use Rattle.cedar_fragments.specs.DefinitionFault.{GivesNoCause, HasNoDefinitionFault, IsDefinitionFault, IsEntityTypeNameFault, IsSound, NamesAllWithAttributes, NamesNoAttributes}
-pub use Rattle.cedar_fragments.specs.DefinitionsPairwise.{conditional_pairwise, declarations_pairwise, entry_declarations, entry_namespace, located_namespace, located_namespaces, locs_pairwise, raw_located_namespaces, raw_pairwise, resolved_in_turn, written_pairwise}
+pub use Rattle.cedar_fragments.specs.DefinitionsPairwise.{conditional_pairwise, entry_declarations, entry_namespace, located_namespace, located_namespaces, locs_pairwise, raw_located_namespaces, raw_pairwise, resolved_in_turn, written_pairwise}
 pub use Rattle.cedar_fragments.specs.FragmentCopies.{IsActionDefCopy, IsActionFragmentCopy, IsActionParentCopy, IsActionsDefCopy, IsCommonTypeDefCopy, IsCommonTypeDefsCopy, IsEntityTypeDefCopy, IsEntityTypeFragmentCopy, IsEntityTypesDefCopy, IsNamespaceDefCopy, IsRequestsCopy, IsSchemaFragmentCopy, IsTagsCopy, SameDeclarations}
 pub use Rattle.cedar_fragments.specs.FragmentDeclarations.{conditional_bag, conditional_definition, conditional_fragment, definition_declarations, definition_namespace, fragment_declarations, resolved_action_type, resolved_definition, resolved_fragment, written_bag, written_definition, written_fragment}
 pub use Rattle.cedar_fragments.specs.FragmentFault.{NamesAllOfADefinition}
-pub use Rattle.cedar_fragments.specs.FragmentLocs.{action_def_locs, action_fragment_locs, actions_locs, common_type_locs, common_types_locs, definition_locs, entity_fragment_locs, entity_type_locs, entity_types_locs, fragment_locs, no_locs, parent_locs, requests_locs, tags_locs}
+pub use Rattle.cedar_fragments.specs.FragmentLocs.{action_def_locs, action_fragment_locs, actions_locs, common_type_locs, common_types_locs, definition_locs, entity_fragment_locs, entity_type_locs, entity_types_locs, no_locs, parent_locs, requests_locs, tags_locs}
 pub use Rattle.cedar_fragments.specs.FragmentNamespaces.{fragment_namespaces}
 pub use Rattle.cedar_fragments.specs.GivenCommonTypes.{given_common_type, given_common_types}
 pub use Rattle.cedar_fragments.specs.HeldNames.{AreTheDeclaredNames, HasAlso, HoldsAlso, HoldsJust, StandsWhere, common_type_names, declared_names, definition_names, entity_type_names, fragment_names, held_names, listed_names, names_given, names_of_definitions, uids_of_actions}

@@ -1,3 +1,4 @@
+mod AllYielded
 mod BuiltOver
 mod ClosedTwice
 mod CollectedBags

@@ -1,6 +1,5 @@
 -- The words of clauses, from one place.
 pub use Rattle.cedar_below.specs.Words.{HoldsOfAll, HoldsPairwise, Included, IsActionType, IsReserved, PlainName, PlainUid, SameItems, Text, TypeNamesFit, entities_of, extension_types, name_cmp, name_loc, name_of, name_text, plain_name, primitive_words, reserved_word, type_loc, type_name, uid_cmp, uid_loc, uid_of, uid_type_loc}
-pub use Rattle.cedar_below.specs.declared.entity.Entity.{Entity}
 pub use Rattle.cedar_below.specs.declared.entity_type.EntityType.{EntityType}
 pub use Rattle.cedar_below.specs.declared.entity_uid.EntityUID.{EntityUID}
 pub use Rattle.cedar_below.specs.declared.extension.Extensions.{Extensions}
@@ -8,16 +7,15 @@ pub use Rattle.cedar_below.specs.declared.internal_name.InternalName.{InternalNa
 pub use Rattle.cedar_below.specs.declared.loc.Loc.{Loc}
 pub use Rattle.cedar_below.specs.declared.validation_mode.ValidationMode.TheVariants.{Permissive}
 pub use Rattle.cedar_type_rules.specs.Words.{AreClean, Fields, FieldsBelow, IsClean, IsSortedByName, Ty, end, field_at, record_of, union_of}
-pub use Rattle.cedar_names.specs.Words.{ActionBody, EntityBody, Expr, Reference, positional_reference, raw_bag, raw_declarations, raw_fragment}
-pub use Rattle.cedar_names.specs.declared.json_schema.conditional_name.ConditionalName.{ConditionalName}
+pub use Rattle.cedar_names.specs.Words.{ActionBody, EntityBody, Expr, Reference, raw_bag, raw_declarations, raw_fragment}
 pub use Rattle.cedar_names.specs.declared.json_schema.fragment.Fragment.{Fragment}
 pub use Rattle.cedar_names.specs.declared.json_schema.raw_name.RawName.{RawName}
 pub use Rattle.cedar_names.specs.declared.json_schema.reference_type.ReferenceType.{ReferenceType}
 pub use Rattle.cedar_table.specs.Words.{Entries}
 pub use Rattle.cedar_types.specs.Words.{IsSortedByName-fields, attribute_of, fields_of, kind_ty, ty_of}
-pub use Rattle.cedar_declarations.specs.Words.{ActionEntity, ActionKind, AreActionEntities, AreEnvironmentsOf, Bag, ClosesAction, ClosesSchema, ClosesType, DefinesAction, EntityTypeKind, Fault, HasOpenRecord, IsConvertedBack, IsDeclaredAction, IsDeclaredEntityType, IsDeclaredSchema, IsFault, IsIllFormed, IsSchemaFault, IsTypeOfKind, IsValidSchema, IsWritable, ListsDescendantAction, Names, PlainSchema, PositionsFit, Refers, ResolvesTo, SameAction, SameActionEntity, SameActionKind, SameBag, SameEntityType, SameSchema, SchemaAction, SchemaEntityType, action_attributes, action_entity_type, action_uids, declared_actions, declared_common, declared_entities, defined_action, defined_names, definitions, external_action, fault_of, kind_fields, out_of_memory, reserved_name, standard_kind}
+pub use Rattle.cedar_declarations.specs.Words.{ActionEntity, ActionKind, AreActionEntities, AreEnvironmentsOf, Bag, ClosesAction, ClosesSchema, ClosesType, EntityTypeKind, Fault, HasOpenRecord, IsConvertedBack, IsDeclaredAction, IsDeclaredEntityType, IsDeclaredSchema, IsFault, IsIllFormed, IsSchemaFault, IsTypeOfKind, IsValidSchema, IsWritable, Names, PlainSchema, PositionsFit, Refers, ResolvesTo, SameAction, SameActionEntity, SameActionKind, SameBag, SameEntityType, SameSchema, SchemaAction, SchemaEntityType, action_attributes, action_entity_type, action_uids, declared_actions, declared_common, declared_entities, defined_action, defined_names, definitions, external_action, fault_of, kind_fields, out_of_memory, reserved_name, standard_kind}
 pub use Rattle.cedar_declaration_laws.specs.Words.{HasNoReservedName, HasRecordContexts, IsBuiltFrom, IsInOrder, StandsUnderItsNames}
-pub use Rattle.cedar_fragments.specs.Words.{DefinedNamespace, HasNoDefinitionFault, HoldsJust, IsDefinitionFault, LocatedName, NamesAllOfADefinition, NamesAllWithAttributes, conditional_bag, conditional_fragment, definition_common_types, definition_namespaces, entry_common_names, entry_namespaces, fragment_common_names, fragment_definitions, held_names, located_name, named_namespace, named_namespaces, raw_common_names, raw_namespaces, written_bag, written_common_names}
+pub use Rattle.cedar_fragments.specs.Words.{DefinedNamespace, HasNoDefinitionFault, HoldsJust, LocatedName, NamesAllOfADefinition, NamesAllWithAttributes, conditional_bag, definition_common_types, definition_namespaces, entry_common_names, entry_namespaces, fragment_common_names, fragment_definitions, held_names, located_name, named_namespace, named_namespaces, written_bag, written_common_names}
 pub use Rattle.cedar_fragments.specs.declared.namespace.actions.ActionFragment.{ActionFragment}
 pub use Rattle.cedar_fragments.specs.declared.namespace.common_types.CommonTypeDef.{CommonTypeDef}
 pub use Rattle.cedar_fragments.specs.declared.namespace.definition.ValidatorNamespaceDef.{ValidatorNamespaceDef}
@@ -25,7 +23,7 @@ pub use Rattle.cedar_fragments.specs.declared.namespace.entity_types.EntityTypeF
 pub use Rattle.cedar_fragments.specs.declared.namespace.fragment.ValidatorSchemaFragment.{ValidatorSchemaFragment}
 pub use Rattle.cedar_fragments.specs.WrittenDeclarations.{written_actions, written_common, written_entities}
 pub use Rattle.cedar_fragments.specs.declared.namespace.written.Written.{Written}
-pub use Rattle.cedar_resolution.specs.Words.{AreGathered, Collects}
+pub use Rattle.cedar_resolution.specs.Words.{Collects}
 pub use Rattle.cedar_schema_elements.specs.Words.{PlainEntityType, action_of, entity_type_of, kind_principals, kind_resources, name_type_loc, owned_environment, plain_action_entity, plain_action_entry, plain_entry, plain_kind, schema_listing, schema_with}
 pub use Rattle.cedar_schema_elements.specs.declared.action_id.ValidatorActionId.{ValidatorActionId}
 pub use Rattle.cedar_schema_elements.specs.declared.entity_type.ValidatorEntityType.{ValidatorEntityType}

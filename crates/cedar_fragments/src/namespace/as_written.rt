@@ -1,4 +1,5 @@
-//! What is written becomes what is declared, by the names that are written.
+//! What is written becomes what is declared, by the names that are written. Where nothing is
+//! written, no iterator is made: that of an ordered map is large.
 
 ghost use Rattle.std.specs.Prelude.{◌≡◌, ◌⊎◌, ◌∷◌, [], IfErr, IfOk, OnOk};
 ghost use Rattle.std.specs.List.{AllByRecursion};

@@ -1,7 +1,5 @@
-use Rattle.std.proofs.Common.{◌≡◌, [], ◌∷◌, ◌++◌, Err, IfOk, List, None, ap, arith, inl, inr, length, refl, subst, sym, ◌∙◌}
-use Rattle.std.proofs.lemmas.Iterator.Consumers.{YieldsList-end}
-use Rattle.std.proofs.lemmas.Iterator.Adapters.{YieldsList-from_vec}
-use Rattle.std.proofs.lemmas.List.{map-id, nil_from_length}
+use Rattle.std.proofs.Common.{◌≡◌, [], ◌∷◌, ◌++◌, Err, IfOk, List, ap, arith, inl, inr, refl, subst, sym, ◌∙◌}
+use Rattle.std.proofs.lemmas.List.{nil_from_length}
 use Rattle.std.specs.List.{flat_map}
 use Rattle.std.proofs.lemmas.Result.{err_from_is_err_and, IfErr-weaker, IfOk-weaker}
 use Rattle.std.specs.Result.{result_map_both}
@@ -14,6 +12,7 @@ use Rattle.cedar_fragments.specs.Words.{IsSound, raw_common_names, raw_namespace
 use Rattle.cedar_names.specs.Words.{raw_reference}
 use Rattle.cedar_declaration_laws.proofs.BuiltFrom.{built_from}
 use Rattle.cedar_schema.specs.Words.{Bag, DefinedNamespace, IsBuiltFrom, LocatedName, RawName, Shows, fault_of, parts_schema, raw_bag, raw_fragment, written_bag}
+use Rattle.cedar_schema.proofs.AllYielded.{all_yielded}
 use Rattle.cedar_schema.proofs.Mapped.{IfErr-unmapped}
 use Rattle.cedar_schema.proofs.WrittenSoFar.{next_fragment}
 use Rattle.cedar_schema.proofs.raw.build_raw.Goals as goal
@@ -97,10 +96,9 @@ pub returns-clause-located : goal.returns-clause-located
 returns-clause-located c =
     let so_far = c.loop-fragment.invariant in
     let all = c.args.fragments.items in
-    let begins = c.into_iter-fragment-iterator.ensures.into_iter_gives.0 in
-    let each : c.loop-fragment.yielded ≡ all = sym (map-id c.loop-fragment.yielded)
-    ∙ (YieldsList-end (YieldsList-from_vec {s = c.into_iter-fragment-iterator.result} all begins (c.into_iter-fragment-iterator.result.rest.ok.0 ∙ ap length begins)) c.loop-fragment.yielded c.loop-fragment.fragment-iterator
-    c.loop-fragment.yielded_by None c.next.new.self refl c.in-None.ensures.steps).0 in
+    let begun = c.into_iter-fragment-iterator in
+    let each = all_yielded begun.result c.loop-fragment.fragment-iterator c.next.new.self all c.loop-fragment.yielded
+    begun.ensures.into_iter_gives.0 begun.result.rest.ok.0 c.loop-fragment.yielded_by c.in-None.ensures.steps in
     let P : List LocatedName × List DefinedNamespace → Type 0 = λ it. IfOk c.build_taken_over.result (λ parts. Shows it.0 it.1 parts.located) in
     subst P (λ i. ((so_far.2 ∙ ap (flat_map raw_common_names) each) i, (so_far.3 ∙ ap (flat_map raw_namespaces) each) i))
     (IfOk-weaker c.build_taken_over.result _ _ (λ parts shown. (shown so_far.0 so_far.4).shown) c.build_taken_over.ensures.located)
