@@ -29,7 +29,7 @@ pub use Rattle.cedar_fragments.specs.declared.namespace.entity_types.EntityTypeF
 pub use Rattle.cedar_graph.specs.Words.{AreAlike, HasEntry, IsCycle, IsEdgeIn, IsEndIn, IsFaultOf, IsLinkedTo}
 pub use Rattle.cedar_graph.specs.declared.table_fault.TableFault.{TableFault}
 pub use Rattle.cedar_graph.specs.declared.table_fault.TableFault.TheVariants.{HasCycle, Lacks, Memory}
-pub use Rattle.cedar_schema_elements.specs.Words.{AreLocatedAsKeys, PlainEntityType, action_loc, action_of, descendant_names, entity_type_of, kind_context, kind_principals, kind_resources, plain_action_entry, plain_entry, plain_kind}
+pub use Rattle.cedar_schema_elements.specs.Words.{AreLocatedAsKeys, PlainEntityType, action_loc, action_of, descendant_names, entity_type_of, kind_context, kind_principals, kind_resources, plain_action_entry, plain_entry, plain_kind, set_names}
 pub use Rattle.cedar_schema_elements.specs.declared.action_id.ValidatorActionId.{ValidatorActionId}
 pub use Rattle.cedar_schema_elements.specs.declared.entity_type.ValidatorEntityType.{ValidatorEntityType}
 pub use Rattle.cedar_elaboration.specs.Words.{Covers, CoversExtensions, ElaboratesAs, IsExprFault, ResolvesEach, extensions_in_scope}

@@ -11,7 +11,7 @@ use cedar_elaboration::{TypeScope, elaborate};
 use cedar_fragments::defs::WrittenName;
 use cedar_fragments::namespace::{ActionFragment, ActionRequests, Written};
 use cedar_names::json_schema;
-use cedar_schema_elements::{ValidatorActionId, ValidatorApplySpec, ValidatorEntityType};
+use cedar_schema_elements::{ValidatorActionId, ValidatorEntityType};
 use cedar_table::Table;
 use cedar_types::Type;
 use std::alloc::Global;
@@ -82,9 +82,8 @@ fn elaborated_definition<N: WrittenName>(
     let defs = scope.defs;
     let principals = declared_types(alloc, &requests.principals, namespace, entity_types, defs)?;
     let resources = declared_types(alloc, &requests.resources, namespace, entity_types, defs)?;
-    let requests = ValidatorApplySpec::new(principals, resources);
-    let descendants: Vec<EntityUID> = Vec::new(alloc);
-    Ok(ValidatorActionId::for_requests(alloc, uid, requests, descendants, context, loc)?)
+    let below: Vec<EntityUID> = Vec::new(alloc);
+    Ok(ValidatorActionId::for_requests(alloc, uid, principals, resources, below, context, loc)?)
 }
 
 /// The action that a declaration of the uid gives alone, as yet without descendants.

@@ -91,7 +91,7 @@ pub(crate) fn parent_edges<K: Drop, D: HasParents<K>>(
         IsParentFault (D.Refuses (held_names defs.now))
         (parents_in (map (named D.key_name D.parents_of) declared.now)) (fault_of error)) }
 {
-    let mut edges = Vec::new(alloc);
+    let mut edges = Vec::with_capacity(alloc, declared.len())?;
     for item in declared {
         let (lower, declaration) = &**item;
         add_parents(alloc, &mut edges, lower, declaration, defs)?;

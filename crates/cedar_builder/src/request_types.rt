@@ -1,16 +1,15 @@
 //! The entity types that the principals and the resources of actions name.
 
 ghost use Rattle.std.specs.Prelude.{Contains, IfErr, IfOk, OnOk, map};
-ghost use Rattle.cedar_builder.specs.Words.{AreNamed, Entity, IsPlaceFault, IsRequestTypeFault, NamesType, PlainName, Reference, ResolvesTo, fault_of, held_names, namespace_name, names_in, type_name};
+ghost use Rattle.cedar_builder.specs.Words.{AreNamed, Entity, IsPlaceFault, IsRequestTypeFault, NamesType, PlainName, Reference, ResolvesTo, fault_of, held_names, namespace_name, names_in, set_names, type_name};
 
 use crate::named_type::named_type;
 use cedar_below::{EntityType, InternalName, NonEmpty};
 use cedar_declarations::SchemaError;
 use cedar_fragments::defs::{AllDefs, WrittenName};
-use cedar_schema_elements::ValidatorEntityType;
+use cedar_schema_elements::{TypeSet, ValidatorEntityType};
 use cedar_table::Table;
 use std::alloc::Global;
-use std::collections::HashSet;
 
 /// The entity type that a name stands for where it is written in a namespace, which must be one of
 /// these.
@@ -46,10 +45,10 @@ pub(crate) fn declared_types<N: WrittenName>(
     namespace: Option<&InternalName>,
     entity_types: &Table<EntityType, ValidatorEntityType>,
     defs: &AllDefs,
-) -> Result<HashSet<EntityType>, SchemaError>
+) -> Result<TypeSet, SchemaError>
     ensures names { IfOk result (λ types. AreNamed (held_names defs.now)
         (map (N.refer (namespace_name namespace.entry) Entity) names.now)
-        (map type_name types.keys)) }
+        (set_names types)) }
     ensures declared { OnOk result ((reference : Reference)
         → Contains (map (N.refer (namespace_name namespace.entry) Entity) names.now) reference
         → (name : PlainName) × ResolvesTo (held_names defs.now) reference name
@@ -58,9 +57,9 @@ pub(crate) fn declared_types<N: WrittenName>(
         IsRequestTypeFault (held_names defs.now) (names_in entity_types.now)
         (map (N.refer (namespace_name namespace.entry) Entity) names.now) (fault_of error)) }
 {
-    let mut types = HashSet::new(alloc);
+    let mut types = Vec::with_capacity(alloc, names.len())?;
     for name in names {
-        types.insert(declared_type(alloc, name, namespace, entity_types, defs)?)?;
+        types.push(declared_type(alloc, name, namespace, entity_types, defs)?)?;
     }
-    Ok(types)
+    Ok(TypeSet::of(types))
 }

@@ -1,25 +1,19 @@
 -- What is told of the environments of an action, one after another.
-use Rattle.std.proofs.Common.{◌≡◌, ◌≢◌, ◌⊎◌, ℕ, ◌<◌, ◌≤◌, ◌+◌, Bool, true, false, cond, is_lt, List, [], ◌∷◌, ◌++◌, AllPairs, Option, Some, None, get_or, length, suc, take, inl, inr, refl, ap, subst, sym, ◌∙◌, ⊎_elim, map, Contains, arith}
-use Rattle.std.proofs.lemmas.Bool.{false≢true}
+use Rattle.std.proofs.Common.{◌≡◌, ◌⊎◌, ℕ, ◌<◌, ◌+◌, List, [], ◌∷◌, ◌++◌, Option, Some, None, get_or, length, take, inl, inr, refl, ap, subst, sym, ◌∙◌, ⊎_elim, map, Contains}
 use Rattle.std.proofs.lemmas.Grind.{flat_map-append}
 use Rattle.std.proofs.lemmas.List.{append-nil, take_more}
 use Rattle.std.proofs.lemmas.List.Elements.{Contains-append_right}
-use Rattle.std.proofs.lemmas.List.Sorted.{Contains-permutation, IsPermutation-sym, ranks_by, sorted_far, sum_by-IsPermutation}
-use Rattle.std.proofs.lemmas.List.Sums.{sum_by-cons}
-use Rattle.std.specs.List.{AllByRecursion, flat_map, sum_by}
-use Rattle.std.specs.List.Sorted.{IsPermutation, IsSorted, IsStrictlySortedBy}
+use Rattle.std.specs.List.{flat_map}
+use Rattle.std.specs.List.Sorted.{IsStrictlySortedBy}
 use Rattle.std.specs.Option.{option_map}
-use Rattle.std.specs.Ordering.{is_eq, ordering_reverse}
-use Rattle.std.specs.declared.cmp.Ordering.{Ordering}
-use Rattle.std.specs.declared.cmp.Ordering.TheVariants.{Less, Equal, Greater}
+use Rattle.std.specs.declared.cmp.Ordering.TheVariants.{Less}
 use Rattle.cedar_below.proofs.Lists.{Contains-cons, Contains-cons_cases, Contains-preimage}
-use Rattle.cedar_below.proofs.PlainNames.{name_cmp-Equal, name_cmp-total}
-use Rattle.cedar_compare.specs.Words.{ActionKind, AreActionAnswers, AreAnswers, Environment, Extensions, Has, HasEnvironment, IsActionAt, IsAnswer, IsAppliedBy, IsContextIn, IsContextOf, IsContextOutside, IsEnvironmentFor, IsEnvironmentLacking, IsEnvironmentOf, IsKeyed, IsLostRequest, IsOfTypes, IsOutsideAt, IsRequestOf, IsSampleRequest, IsUidOfType, IsUidOutside, KeepsOf, LacksChoice, MayHaveId, PlainDifference, PlainName, PlainRequest, PlainSchema, PlainStep, PlainUid, SameItems, SchemaAction, Subject, Tree, Twice, Ty, choice_gone, context_at, context_outside, defined_action, environment_subject, external_action, gone, kind_context, kind_principals, kind_resources, name_cmp, request_lost, subject_cmp, subjects_with}
+use Rattle.cedar_compare.specs.Words.{ActionKind, AreActionAnswers, AreAnswers, Environment, Extensions, Has, HasEnvironment, IsActionAt, IsAnswer, IsAppliedBy, IsContextIn, IsContextOf, IsContextOutside, IsEnvironmentFor, IsEnvironmentLacking, IsEnvironmentOf, IsKeyed, IsLostRequest, IsOfTypes, IsOutsideAt, IsRequestOf, IsSampleRequest, IsUidOfType, IsUidOutside, KeepsOf, LacksChoice, MayHaveId, PlainDifference, PlainName, PlainRequest, PlainSchema, PlainStep, PlainUid, SameItems, SchemaAction, Subject, Tree, Ty, choice_gone, context_at, context_outside, defined_action, environment_subject, external_action, gone, kind_context, kind_principals, kind_resources, name_cmp, request_lost, subject_cmp, subjects_with}
 use Rattle.cedar_compare.proofs.AllLemmas.{principals_below}
 use Rattle.cedar_compare.proofs.RequestLemmas.{kept_requests, lacking, lost_request}
 use Rattle.cedar_compare.proofs.SortedLemmas.{all_at}
 use Rattle.cedar_compare.proofs.ToldLemmas.{AnswersSoFar, answered_append, answered_none, map_append, none_there, told_lost}
-use Rattle.cedar_declarations.proofs.OccurrenceLemmas.{Contains-flat_map, Contains-given, Contains-image, Twice-distinct, name_test}
+use Rattle.cedar_declarations.proofs.OccurrenceLemmas.{Contains-flat_map, Contains-given, Contains-image}
 
 -- the context of an environment is that of its action
 kind_of_environment : (kind : ActionKind) (environment : Environment) → IsRequestOf kind environment
@@ -278,131 +272,6 @@ module _ (extensions : Extensions) (old new : PlainSchema) where
         -- the environments of a principal
         with : PlainName → List Subject
         with = λ p. subjects_with uid p resources
-
--- what holds of each member holds by recursion
-all_by : {A : Type 0} (P : A → Type 0) (xs : List A) → ((x : A) → Contains xs x → P x) → AllByRecursion P xs
-all_by P [] each = tt
-all_by P (x ∷ xs) each =
-    (each x (Contains-cons x xs x (inl refl)), all_by P xs (λ y among. each y (Contains-cons x xs y (inr among))))
-
--- a test counts where it is met
-abbrev one_if : Bool → ℕ
-one_if b = cond b 1 0
-
--- how often a name stands among names
-abbrev times : PlainName → List PlainName → ℕ
-times name names = sum_by (λ other. one_if (is_eq (name_cmp name other))) names
-
--- the first of some names counts or not
-times_cons : (name first : PlainName) (rest : List PlainName)
-    → times name (first ∷ rest) ≡ one_if (is_eq (name_cmp name first)) + times name rest
-times_cons name first rest = sum_by-cons (λ other. one_if (is_eq (name_cmp name other))) first rest
-
--- it counts where it is the name
-counts : (name first : PlainName) → name ≡ first → one_if (is_eq (name_cmp name first)) ≡ 1
-counts name first same = ap one_if ((name_test name first).1 same)
-
--- and else not
-counts_not : (name first : PlainName) → ¬ (name ≡ first) → one_if (is_eq (name_cmp name first)) ≡ 0
-counts_not name first other = none (is_eq (name_cmp name first)) refl
-  where
-    -- as the test says
-    none : (b : Bool) → is_eq (name_cmp name first) ≡ b → one_if b ≡ 0
-    none true is = absurd (other ((name_test name first).0 is))
-    none false is = refl
-
--- a name that is among others stands there
-times_there : (name : PlainName) (names : List PlainName) → Contains names name → 1 ≤ times name names
-times_there name [] among = absurd (none_there name among)
-times_there name (first ∷ rest) among = ⊎_elim
-    (λ same. omega (arith, times_cons name first rest, counts name first (sym same)))
-    (λ later. omega (arith, times_cons name first rest, times_there name rest later))
-    (Contains-cons_cases first rest name among)
-
--- one that isn't doesn't
-times_none : (name : PlainName) (names : List PlainName) → ¬ Contains names name → times name names ≡ 0
-times_none name [] none = refl
-times_none name (first ∷ rest) none =
-    let one = counts_not name first (λ same. none (Contains-cons first rest name (inl (sym same)))) in
-    let others = times_none name rest (λ later. none (Contains-cons first rest name (inr later))) in
-    omega (arith, times_cons name first rest, one, others)
-
--- one that doesn't stand twice stands once at most
-times_once : (name : PlainName) (names : List PlainName) → ¬ Twice names name → times name names ≤ 1
-times_once name [] once = omega arith
-times_once name (first ∷ rest) once = here (is_eq (name_cmp name first)) refl (times_once name rest (λ twice. once (inr twice)))
-  where
-    -- the first is the name, or is another
-    here : (b : Bool) → is_eq (name_cmp name first) ≡ b → times name rest ≤ 1 → times name (first ∷ rest) ≤ 1
-    here true is others =
-        let same = (name_test name first).0 is in
-        let none = times_none name rest (λ later. once (inl (sym same, later))) in
-        omega (arith, times_cons name first rest, counts name first same, none)
-    here false is others =
-        let other = counts_not name first (λ same. false≢true (sym is ∙ (name_test name first).1 same)) in
-        omega (arith, times_cons name first rest, other, others)
-
--- of two names that differ the one is below that isn't above
-below_other : (name other : PlainName) → ¬ (name ≡ other) → is_lt (name_cmp other name) ≡ false → name_cmp name other ≡ Less
-below_other name other differs not_above = by (name_cmp name other) refl
-  where
-    -- they aren't equal, and the one isn't above
-    by : (r : Ordering) → name_cmp name other ≡ r → r ≡ Less
-    by Less is = refl
-    by Equal is = absurd (differs ((name_cmp-Equal name other).0 is))
-    by Greater is =
-        let above : name_cmp other name ≡ Less = name_cmp-total.antisymm other name ∙ ap ordering_reverse is in
-        absurd (false≢true (sym not_above ∙ ap is_lt above))
-
--- names in order, of which none stands twice, are in strict order
-strictly_sorted : (names : List PlainName) → IsSorted name_cmp names → ((name : PlainName) → times name names ≤ 1)
-    → IsStrictlySortedBy name_cmp names
-unfolding IsStrictlySortedBy
-strictly_sorted [] sorted once = tt
-strictly_sorted (first ∷ rest) sorted once = (
-  all_by (λ other. name_cmp first other ≡ Less) rest below,
-  strictly_sorted rest
-      (λ k d low high. subst (λ n. is_lt (name_cmp (get_or (first ∷ rest) n d) (get_or rest k d)) ≡ false) (later k)
-      (sorted (suc k) d (omega arith) (omega (arith, high))))
-      (λ name. omega (arith, times_cons name first rest, once name)),
-)
-  where
-    -- a place among the others is the next among all
-    later : (k : ℕ) → suc k + 1 ≡ suc (k + 1)
-    later k = omega arith
-
-    -- the first is below each of the others
-    below : (other : PlainName) → Contains rest other → name_cmp first other ≡ Less
-    below other (k, within, is) =
-        let far : is_lt (name_cmp (get_or rest k other) first) ≡ false =
-        sorted_far (λ a b. is_lt (name_cmp a b)) (ranks_by name_cmp-total (λ (name : PlainName). name)) (first ∷ rest) sorted 0 (suc k) other
-        (omega arith) (omega (arith, within)) in
-        below_other first other
-        (λ same. omega (
-          arith,
-          times_cons first first rest,
-          counts first first refl,
-          times_there first rest (subst (λ n. Contains rest n) (sym same) (k, within, is)),
-          once first,
-        ))
-        (subst (λ n. is_lt (name_cmp n first) ≡ false) is far)
-
--- some names in order, each of which stands once, are in strict order
-pub sorted_once : (names sorted : List PlainName) → AllPairs (λ a b. a ≢ b) names → IsPermutation names sorted
-    → IsSorted name_cmp sorted → IsStrictlySortedBy name_cmp sorted
-sorted_once names sorted distinct permutation order = strictly_sorted sorted order (λ name.
-    omega (
-      arith,
-      sum_by-IsPermutation (λ other. one_if (is_eq (name_cmp name other))) names sorted permutation,
-      times_once name names (Twice-distinct names name distinct),
-    ))
-
--- and they are the same names
-pub sorted_same : {A : Type 0} (names sorted : List A) → IsPermutation names sorted → SameItems sorted names
-sorted_same names sorted permutation item = (
-  λ among. Contains-permutation sorted names item (IsPermutation-sym names sorted permutation) among,
-  λ among. Contains-permutation names sorted item permutation among,
-)
 
 -- where one more item is copied as one that stands for the same, the copies stand for one more of the items
 pub copied_more : {A B : Type 0} (f : A → B) (items copies more : List A) (i : ℕ) (item copy : A) → i < length items

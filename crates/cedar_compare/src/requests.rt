@@ -1,21 +1,20 @@
 //! What a new version keeps of the requests of an action.
 
-ghost use Rattle.std.specs.Prelude.{◌≡◌, ◌≢◌, ◌↔◌, All, AllPairs, IfOk, IsTrue, None, Some, map};
+ghost use Rattle.std.specs.Prelude.{◌≡◌, ◌↔◌, All, IfOk, IsTrue, None, Some, map};
 ghost use Rattle.std.specs.List.{flat_map};
 ghost use Rattle.std.specs.List.Sorted.{IsStrictlySortedBy};
 ghost use Rattle.std.specs.Option.{option_copied, option_map};
-ghost use Rattle.cedar_compare.specs.Words.{AreActionAnswers, AreAnswers, AreChoicesAt, AreRequestsOf, AreVersions, HasEnvironment, IsAnswer, IsAppliedBy, IsContextIn, IsEnvironmentLacking, IsEnvironmentOf, IsKeyed, IsSampleRequest, IsUidOfType, IsUidOutside, SameItems, choice_texts, environment_subject, environment_with, name_cmp, new_action, new_of, old_of, plain_difference, plain_request, schema_of, steps_of, subjects_with, ty_of, type_name, uid_of};
+ghost use Rattle.cedar_compare.specs.Words.{AreActionAnswers, AreAnswers, AreChoicesAt, AreRequestsOf, AreVersions, HasEnvironment, IsAnswer, IsAppliedBy, IsContextIn, IsEnvironmentLacking, IsEnvironmentOf, IsKeyed, IsSampleRequest, IsUidOfType, IsUidOutside, choice_texts, environment_subject, environment_with, name_cmp, new_action, new_of, old_of, plain_difference, plain_request, schema_of, steps_of, subjects_with, ty_of, type_name, uid_of};
 
 use crate::choices::{choices_of, id_outside, some_id};
 use crate::difference::{Cause, Difference, Request};
 use crate::versions::{Versions, find_action, find_type};
 use cedar_below::{Eid, EntityType, EntityUID, M, NonEmpty};
 use cedar_counterexample::{Outside, Step, outside, sample_value};
-use cedar_schema::{ValidatorActionId, ValidatorSchema};
+use cedar_schema::{RequestTypes, ValidatorActionId, ValidatorSchema};
 use cedar_types::Type;
 use itertools::Itertools;
 use std::alloc::Global;
-use std::collections::hash_set;
 
 /// The requests of an action in two versions.
 #[derive(Drop)]
@@ -239,15 +238,12 @@ fn lost_request(
     }
 }
 
-/// Some entity types in the order of their names.
-fn in_order<'a>(alloc: Global, types: hash_set::Iter<'a, EntityType>) -> M<Vec<&'a EntityType>>
-    requires { AllPairs (λ a b. a ≢ b) (map type_name types) }
-    ensures same { IfOk result (λ names. SameItems (map (λ name. type_name name.now) names.items)
-        (map type_name types.entry)) }
-    ensures ordered { IfOk result (λ names. IsStrictlySortedBy name_cmp
-        (map (λ name. type_name name.now) names.items)) }
+/// Entity types in a list, as they come.
+fn listed<'a>(alloc: Global, types: RequestTypes<'a>) -> M<Vec<&'a EntityType>>
+    ensures { IfOk result (λ names.
+        map (λ name. type_name name.now) names.items ≡ map type_name types.entry) }
 {
-    Ok(types.sorted(alloc)?.collect_vec(alloc)?)
+    Ok(types.collect_vec(alloc)?)
 }
 
 /// What is lost of the requests of an action with one principal.
@@ -356,7 +352,7 @@ pub(crate) fn lost_of_action<'a>(versions: &Versions<'a>, uid: &'a EntityUID) ->
         return Ok(Vec::new(versions.alloc));
     };
     let requests = requests_of(versions, uid, context)?;
-    let principals = in_order(versions.alloc, old.principals())?;
-    let resources = in_order(versions.alloc, old.resources())?;
+    let principals = listed(versions.alloc, old.principals())?;
+    let resources = listed(versions.alloc, old.resources())?;
     lost_with_principals(versions, &requests, &principals, &resources)
 }

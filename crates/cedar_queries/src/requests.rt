@@ -2,18 +2,18 @@
 
 ghost use Rattle.std.specs.Prelude.{◌≡◌, ◌≢◌, ◌↔◌, AllPairs, Contains, IfSome, IsTrue, length, map};
 ghost use Rattle.std.specs.Iterator.{at_most};
+ghost use Rattle.std.specs.List.Sorted.{IsStrictlySortedBy};
 ghost use Rattle.std.specs.Map.Iter.{TakesFirst};
 ghost use Rattle.std.specs.Option.{option_copied, option_map};
-ghost use Rattle.cedar_queries.specs.Words.{action_at, action_of, actions_for, all_principals, all_resources, context_at, kind_principals, kind_resources, plain_action_entry, ty_of, type_name, types_in_role, uid_of};
+ghost use Rattle.cedar_queries.specs.Words.{action_at, action_of, actions_for, all_principals, all_resources, context_at, kind_principals, kind_resources, name_cmp, plain_action_entry, ty_of, type_name, types_in_role, uid_of};
 
 use crate::descent::Actions;
 use crate::selected::Selected;
 use crate::tests_of_values::ForRequest;
 use cedar_below::{EntityType, EntityUID};
-use cedar_schema_elements::ValidatorActionId;
+use cedar_schema_elements::{RequestTypes, ValidatorActionId};
 use cedar_table::Values;
 use cedar_types::Type;
-use std::collections::hash_set;
 use std::iter::FusedIterator;
 use std::marker::Model;
 
@@ -32,7 +32,7 @@ enum Role {
 #[derive(Drop)]
 pub struct ApplicableTypes<'a> {
     role: Role,
-    current: Option<hash_set::Iter<'a, EntityType>>,
+    current: Option<RequestTypes<'a>>,
     rest: Values<'a, EntityUID, ValidatorActionId>,
 }
 
@@ -49,7 +49,7 @@ impl<'a> Model for ApplicableTypes<'a> {
 }
 
 /// The types that an action has in a role, each once.
-fn types_in(role: Role, action: &ValidatorActionId) -> hash_set::Iter<'_, EntityType>
+fn types_in(role: Role, action: &ValidatorActionId) -> RequestTypes<'_>
     ensures { map type_name result ≡ types_in_role role (action_of action.now).kind }
 {
     match role {
@@ -103,28 +103,24 @@ pub fn resources(actions: &Actions) -> ApplicableTypes<'_>
     }
 }
 
-/// The types of the principals of the requests of an action, each once; of an external one none.
-/// None where there is no action of this uid.
-pub fn principals_for_action<'a>(
-    actions: &'a Actions,
-    uid: &EntityUID,
-) -> Option<hash_set::Iter<'a, EntityType>>
+/// The types of the principals of the requests of an action, in the order of their names, each
+/// once; of an external one none. None where there is no action of this uid.
+pub fn principals_for_action<'a>(actions: &'a Actions, uid: &EntityUID) -> Option<RequestTypes<'a>>
     ensures names { option_map (map type_name) result ≡ option_map (λ it. kind_principals it.kind)
         (action_at (uid_of uid.now) (map plain_action_entry actions.now.entries)) }
     ensures once { IfSome result (λ types. AllPairs (λ a b. a ≢ b) (map type_name types)) }
+    ensures in_order { IfSome result (λ types. IsStrictlySortedBy name_cmp (map type_name types)) }
 {
     Some(actions.get(uid)?.principals())
 }
 
-/// The types of the resources of the requests of an action, each once; of an external one none.
-/// None where there is no action of this uid.
-pub fn resources_for_action<'a>(
-    actions: &'a Actions,
-    uid: &EntityUID,
-) -> Option<hash_set::Iter<'a, EntityType>>
+/// The types of the resources of the requests of an action, in the order of their names, each
+/// once; of an external one none. None where there is no action of this uid.
+pub fn resources_for_action<'a>(actions: &'a Actions, uid: &EntityUID) -> Option<RequestTypes<'a>>
     ensures names { option_map (map type_name) result ≡ option_map (λ it. kind_resources it.kind)
         (action_at (uid_of uid.now) (map plain_action_entry actions.now.entries)) }
     ensures once { IfSome result (λ types. AllPairs (λ a b. a ≢ b) (map type_name types)) }
+    ensures in_order { IfSome result (λ types. IsStrictlySortedBy name_cmp (map type_name types)) }
 {
     Some(actions.get(uid)?.resources())
 }

@@ -1,3 +1,3 @@
 //! Actions of a schema.
 
-pub use cedar_schema_elements::{ValidatorActionId, ValidatorApplySpec};
+pub use cedar_schema_elements::{RequestTypes, TypeSet, ValidatorActionId, ValidatorApplySpec};

@@ -34,8 +34,8 @@ pub use cedar_queries::{
     RequestEnvs, TypeIterator, UnresolvedDeclaration, UnresolvedDeclarations,
 };
 pub use cedar_schema_elements::{
-    RequestEnv, StandardValidatorEntityType, UnlinkedRequestEnv, ValidatorActionId,
-    ValidatorApplySpec, ValidatorEntityType, ValidatorEntityTypeKind,
+    RequestEnv, RequestTypes, StandardValidatorEntityType, TypeSet, UnlinkedRequestEnv,
+    ValidatorActionId, ValidatorApplySpec, ValidatorEntityType, ValidatorEntityTypeKind,
 };
 pub use cedar_schema_writer::WriteBackFault;
 pub use cedar_types::{

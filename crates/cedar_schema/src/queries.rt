@@ -8,11 +8,10 @@ use cedar_queries::{
     UnresolvedDeclarations,
 };
 use cedar_schema_elements::{
-    UnlinkedRequestEnv, ValidatorActionId, ValidatorEntityType, action_entities,
+    RequestTypes, UnlinkedRequestEnv, ValidatorActionId, ValidatorEntityType, action_entities,
 };
 use cedar_types::Type;
 use std::alloc::Global;
-use std::collections::hash_set;
 
 impl ValidatorSchema {
     ghost use Rattle.std.specs.Prelude.{◌≡◌, ◌≢◌, ◌↔◌, ◌++◌, ◌∷◌, [], All, AllPairs, Any, Contains, IfErr, IfOk, IfSome, IsSome, IsTrue, OnOk, map};
@@ -108,24 +107,28 @@ impl ValidatorSchema {
         cedar_queries::resources(&self.content().action_ids)
     }
 
-    /// The types of the principals of an action's requests, each once; of an external action none.
-    /// None where the schema has no action of this uid.
-    pub fn principals_for_action(&self, uid: &EntityUID) -> Option<hash_set::Iter<'_, EntityType>>
+    /// The types of the principals of an action's requests, in the order of their names, each once;
+    /// of an external action none. None where the schema has no action of this uid.
+    pub fn principals_for_action(&self, uid: &EntityUID) -> Option<RequestTypes<'_>>
         ensures names { option_map (map type_name) result
             ≡ option_map (λ it. kind_principals it.kind)
             (action_at (uid_of uid.now) (schema_of self.now).actions) }
         ensures once { IfSome result (λ types. AllPairs (λ a b. a ≢ b) (map type_name types)) }
+        ensures in_order { IfSome result (λ types.
+            IsStrictlySortedBy name_cmp (map type_name types)) }
     {
         cedar_queries::principals_for_action(&self.content().action_ids, uid)
     }
 
-    /// The types of the resources of an action's requests, each once; of an external action none.
-    /// None where the schema has no action of this uid.
-    pub fn resources_for_action(&self, uid: &EntityUID) -> Option<hash_set::Iter<'_, EntityType>>
+    /// The types of the resources of an action's requests, in the order of their names, each once;
+    /// of an external action none. None where the schema has no action of this uid.
+    pub fn resources_for_action(&self, uid: &EntityUID) -> Option<RequestTypes<'_>>
         ensures names { option_map (map type_name) result
             ≡ option_map (λ it. kind_resources it.kind)
             (action_at (uid_of uid.now) (schema_of self.now).actions) }
         ensures once { IfSome result (λ types. AllPairs (λ a b. a ≢ b) (map type_name types)) }
+        ensures in_order { IfSome result (λ types.
+            IsStrictlySortedBy name_cmp (map type_name types)) }
     {
         cedar_queries::resources_for_action(&self.content().action_ids, uid)
     }

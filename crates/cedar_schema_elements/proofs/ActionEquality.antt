@@ -14,6 +14,7 @@ use Rattle.cedar_names.specs.contracts.json_schema.conditional_name.ConditionalN
 use Rattle.cedar_names.specs.contracts.json_schema.conditional_name.ConditionalNamePartialEq.TheImpl as reference_eq
 use Rattle.cedar_types.proofs.EqualityLaws.{none, types-Decides}
 use Rattle.cedar_schema_elements.proofs.SetLemmas.{reference-Decides, sets-Decides}
+use Rattle.cedar_schema_elements.proofs.TypeSetLemmas.{type_sets-Decides}
 use Rattle.cedar_schema_elements.specs.ActionKind.{plain_kind}
 use Rattle.cedar_schema_elements.specs.ValidatorActionId.{parts_of}
 use Rattle.cedar_schema_elements.specs.contracts.action_id.ValidatorActionIdPartialEq.TheImpl as action_eq
@@ -48,7 +49,8 @@ pub kinds-Decides : (a b : ValidatorActionKind)
     → Decides ((kind_eq.ghosts).eq a b) (SameActionKind (plain_kind a) (plain_kind b))
 kinds-Decides (variant.Defined a context) (variant.Defined b other) =
     Decides-like _ (λ both. (both.0.0, both.0.1, both.1)) (λ all. ((all.0, all.1), all.2))
-    (Decides-and _ _ (apply_specs-Decides a.value b.value) (types-Decides context other))
+    (Decides-and _ _ (Decides-and _ _ (type_sets-Decides a.value.principals b.value.principals) (type_sets-Decides a.value.resources b.value.resources))
+    (types-Decides context other))
 kinds-Decides variant.External variant.External = (λ _. tt, λ _. refl)
 kinds-Decides (variant.Defined a context) variant.External = none (λ e. e)
 kinds-Decides variant.External (variant.Defined b other) = none (λ e. e)

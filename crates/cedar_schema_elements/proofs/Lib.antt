@@ -7,4 +7,5 @@ pub mod KeyLemmas
 pub mod ListedEntities
 pub mod NamedTypes
 pub mod SetLemmas
+pub mod TypeSetLemmas
 pub mod UpperLemmas

@@ -1,5 +1,5 @@
 use Rattle.std.specs.Prelude.{List, [], Option, Some, None}
-use Rattle.cedar_schema_elements.specs.ValidatorApplySpec.{principal_names, resource_names}
+use Rattle.cedar_schema_elements.specs.TypeSet.{set_names}
 use Rattle.cedar_schema_elements.specs.declared.action_kind.ValidatorActionKind.{ValidatorActionKind}
 use Rattle.cedar_schema_elements.specs.declared.action_kind.ValidatorActionKind.TheVariants as variant
 use Rattle.cedar_below.specs.PlainName.{PlainName}
@@ -10,7 +10,7 @@ use Rattle.cedar_types.specs.Meaning.{ty_of}
 -- a kind as plain data
 abbrev pub plain_kind : ValidatorActionKind → ActionKind
 plain_kind (variant.Defined applies_to context) =
-    defined_action (principal_names applies_to.value) (resource_names applies_to.value)
+    defined_action (set_names applies_to.value.principals) (set_names applies_to.value.resources)
     (ty_of context)
 plain_kind variant.External = external_action
 

@@ -3,6 +3,7 @@ pub mod ActionKind
 pub mod EntityTypeKind
 pub mod RequestEnv
 pub mod RequestEnvironments
+pub mod TypeSet
 pub mod Uppers
 pub mod ValidatorActionId
 pub mod ValidatorApplySpec

@@ -27,6 +27,7 @@ pub use Rattle.cedar_schema_elements.specs.ActionKind.{kind_context, kind_princi
 pub use Rattle.cedar_schema_elements.specs.EntityTypeKind.{plain_kind, plain_standard, standard_attributes, standard_tags}
 pub use Rattle.cedar_schema_elements.specs.RequestEnv.{environment_of, owned_environment, shared_name}
 pub use Rattle.cedar_schema_elements.specs.RequestEnvironments.{action_environments, kind_environments, with_principals, with_resources}
+pub use Rattle.cedar_schema_elements.specs.TypeSet.{set_names, set_types}
 pub use Rattle.cedar_schema_elements.specs.Uppers.{HasNode, IsUpper, ListsBelow, upper_set}
 pub use Rattle.cedar_schema_elements.specs.ValidatorActionId.{action_loc, action_of, borrowed_context, context_of, name_type_loc, plain_action_entry}
 pub use Rattle.cedar_schema_elements.specs.ValidatorApplySpec.{principal_names, principal_references, principal_types, resource_names, resource_references, resource_types}
@@ -38,3 +39,4 @@ pub use Rattle.cedar_schema_elements.specs.declared.entity_type.ValidatorEntityT
 pub use Rattle.cedar_schema_elements.specs.declared.entity_type_kind.StandardValidatorEntityType.{StandardValidatorEntityType}
 pub use Rattle.cedar_schema_elements.specs.declared.entity_type_kind.ValidatorEntityTypeKind.{ValidatorEntityTypeKind}
 pub use Rattle.cedar_schema_elements.specs.declared.request_env.UnlinkedRequestEnv.{UnlinkedRequestEnv}
+pub use Rattle.cedar_schema_elements.specs.declared.type_set.TypeSet.{TypeSet}

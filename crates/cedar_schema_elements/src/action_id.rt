@@ -1,16 +1,12 @@
 //! Actions of a schema.
 
-ghost use Rattle.std.specs.Prelude.{◌≡◌};
-ghost use Rattle.std.specs.HashSet.{hash_set_len};
-
-use crate::action_kind::ValidatorActionKind;
-use crate::apply_spec::ValidatorApplySpec;
+use crate::action_kind::{AppliesTo, ValidatorActionKind};
 use crate::sets::{copied, type_set, uid_set};
+use crate::type_set::{RequestTypes, TypeSet};
 use cedar_below::{EntityType, EntityUID, Loc, M};
 use cedar_types::Type;
 use std::alloc::Global;
 use std::collections::{HashSet, hash_set};
-use std::default::Emptied;
 use std::rc::Rc;
 
 /// An action of a schema: it is for some requests, or it is external.
@@ -32,10 +28,6 @@ pub(crate) struct ActionParts {
     pub(crate) descendants: HashSet<EntityUID>,
     #[derive_where(skip(EqHashOrd))]
     pub(crate) loc: Option<Loc>,
-    // What external actions lend.
-    #[derive_where(skip)]
-    no_types: HashSet<EntityType>,
-    ghost without_types: { hash_set_len no_types ≡ 0 },
 }
 
 // Written out: proofs of what holds actions then see one call, and nothing of their parts.
@@ -53,14 +45,14 @@ impl Drop for ActionParts {
             kind: _kind,
             descendants: _descendants,
             loc: _,
-            no_types: _no_types,
         } = self;
     }
 }
 
 impl ValidatorActionId {
     ghost use Rattle.std.specs.Prelude.{◌≡◌, ◌≢◌, ◌↔◌, map, IsTrue, IfOk, Some, Contains, AllPairs};
-    ghost use Rattle.cedar_schema_elements.specs.Words.{HoldsOfAll, IsFiniteIterable, SameActionKind, SameItems, action_loc, action_of, borrowed_context, context_of, defined_action, external_action, kind_context, kind_principals, kind_resources, name_type_loc, option_copied, option_map, principal_names, resource_names, ty_of, type_name, uid_loc, uid_of, uid_type_loc};
+    ghost use Rattle.std.specs.List.Sorted.{IsStrictlySortedBy};
+    ghost use Rattle.cedar_schema_elements.specs.Words.{HoldsOfAll, IsFiniteIterable, SameActionKind, SameItems, action_loc, action_of, borrowed_context, context_of, defined_action, external_action, kind_context, kind_principals, kind_resources, name_cmp, name_type_loc, option_copied, option_map, set_names, ty_of, type_name, uid_loc, uid_of, uid_type_loc};
     ghost use Rattle.cedar_schema_elements.specs.ActionKind.{plain_kind};
     ghost use Rattle.cedar_schema_elements.specs.ValidatorActionId.{name_loc};
 
@@ -89,7 +81,6 @@ impl ValidatorActionId {
             kind,
             descendants: uid_set(alloc, descendants)?,
             loc,
-            no_types: HashSet::new(alloc),
         };
         Ok(ValidatorActionId {
             parts: Box::new(alloc, parts)?,
@@ -137,16 +128,25 @@ impl ValidatorActionId {
     {
         let principals = type_set(alloc, principals)?;
         let resources = type_set(alloc, resources)?;
-        let applies_to = ValidatorApplySpec::new(principals, resources);
-        Self::for_requests(alloc, name, applies_to, descendants, context, loc)
+        Self::for_requests(
+            alloc,
+            name,
+            principals,
+            resources,
+            descendants,
+            context,
+            loc,
+        )
     }
 
-    /// An action that is for these requests, whose context is of this type. The descendants have to
-    /// come to an end. Out of memory is the only refusal.
+    /// An action that is for the requests of each of these principals with each of these resources,
+    /// whose context is of this type. The descendants have to come to an end. Out of memory is the
+    /// only refusal.
     pub fn for_requests<D: IntoIterator<Item = EntityUID> + Drop>(
         alloc: Global,
         name: EntityUID,
-        applies_to: ValidatorApplySpec<EntityType>,
+        principals: TypeSet,
+        resources: TypeSet,
         descendants: D,
         context: Type,
         loc: Option<Loc>,
@@ -157,14 +157,17 @@ impl ValidatorActionId {
         ensures name_loc { IfOk result (λ action. name_loc action ≡ uid_loc name) }
         ensures name_type_loc { IfOk result (λ action. name_type_loc action ≡ uid_type_loc name) }
         ensures kind { IfOk result (λ action. (action_of action).kind
-            ≡ defined_action (principal_names applies_to) (resource_names applies_to)
-            (ty_of context)) }
+            ≡ defined_action (set_names principals) (set_names resources) (ty_of context)) }
         ensures borrowed { IfOk result (λ action. context_of action ≡ Some context) }
         ensures descendants { IfOk result (λ action.
             HoldsOfAll D.into_iter_gives D.IntoIter.next_gives descendants
             (λ xs. SameItems (action_of action).descendants (map uid_of xs))) }
         ensures loc { IfOk result (λ action. action_loc action ≡ loc) }
     {
+        let applies_to = AppliesTo {
+            principals,
+            resources,
+        };
         let kind = ValidatorActionKind::Defined {
             applies_to: Rc::new(alloc, applies_to)?,
             context,
@@ -246,44 +249,48 @@ impl ValidatorActionId {
         self.context()
     }
 
-    /// The types of the principals of the action's requests, each once. External actions have none.
-    pub fn principals(&self) -> hash_set::Iter<'_, EntityType>
+    /// The types of the principals of the action's requests, in the order of their names, each
+    /// once. External actions have none.
+    pub fn principals(&self) -> RequestTypes<'_>
         ensures names { map type_name result ≡ kind_principals (action_of self.now).kind }
         ensures once { AllPairs (λ a b. a ≢ b) (kind_principals (action_of self.now).kind) }
+        ensures in_order { IsStrictlySortedBy name_cmp (kind_principals (action_of self.now).kind) }
     {
         match &self.parts.kind {
-            ValidatorActionKind::Defined { applies_to, .. } => {
-                applies_to.applicable_principal_types()
-            }
-            ValidatorActionKind::External => self.parts.no_types.iter(),
+            ValidatorActionKind::Defined { applies_to, .. } => applies_to.principals.iter(),
+            ValidatorActionKind::External => RequestTypes::none(),
         }
     }
 
-    /// The types of the resources of the action's requests, each once. External actions have none.
-    pub fn resources(&self) -> hash_set::Iter<'_, EntityType>
+    /// The types of the resources of the action's requests, in the order of their names, each once.
+    /// External actions have none.
+    pub fn resources(&self) -> RequestTypes<'_>
         ensures names { map type_name result ≡ kind_resources (action_of self.now).kind }
         ensures once { AllPairs (λ a b. a ≢ b) (kind_resources (action_of self.now).kind) }
+        ensures in_order { IsStrictlySortedBy name_cmp (kind_resources (action_of self.now).kind) }
     {
         match &self.parts.kind {
-            ValidatorActionKind::Defined { applies_to, .. } => {
-                applies_to.applicable_resource_types()
-            }
-            ValidatorActionKind::External => self.parts.no_types.iter(),
+            ValidatorActionKind::Defined { applies_to, .. } => applies_to.resources.iter(),
+            ValidatorActionKind::External => RequestTypes::none(),
         }
     }
 
-    /// The types of the principals of the action's requests, each once. External actions have none.
-    pub fn applies_to_principals(&self) -> hash_set::Iter<'_, EntityType>
+    /// The types of the principals of the action's requests, in the order of their names, each
+    /// once. External actions have none.
+    pub fn applies_to_principals(&self) -> RequestTypes<'_>
         ensures names { map type_name result ≡ kind_principals (action_of self.now).kind }
         ensures once { AllPairs (λ a b. a ≢ b) (kind_principals (action_of self.now).kind) }
+        ensures in_order { IsStrictlySortedBy name_cmp (kind_principals (action_of self.now).kind) }
     {
         self.principals()
     }
 
-    /// The types of the resources of the action's requests, each once. External actions have none.
-    pub fn applies_to_resources(&self) -> hash_set::Iter<'_, EntityType>
+    /// The types of the resources of the action's requests, in the order of their names, each once.
+    /// External actions have none.
+    pub fn applies_to_resources(&self) -> RequestTypes<'_>
         ensures names { map type_name result ≡ kind_resources (action_of self.now).kind }
         ensures once { AllPairs (λ a b. a ≢ b) (kind_resources (action_of self.now).kind) }
+        ensures in_order { IsStrictlySortedBy name_cmp (kind_resources (action_of self.now).kind) }
     {
         self.resources()
     }
@@ -294,9 +301,7 @@ impl ValidatorActionId {
             (type_name ty.now) }
     {
         match &self.parts.kind {
-            ValidatorActionKind::Defined { applies_to, .. } => {
-                applies_to.is_applicable_principal_type(ty)
-            }
+            ValidatorActionKind::Defined { applies_to, .. } => applies_to.principals.contains(ty),
             ValidatorActionKind::External => false,
         }
     }
@@ -307,9 +312,7 @@ impl ValidatorActionId {
             (type_name ty.now) }
     {
         match &self.parts.kind {
-            ValidatorActionKind::Defined { applies_to, .. } => {
-                applies_to.is_applicable_resource_type(ty)
-            }
+            ValidatorActionKind::Defined { applies_to, .. } => applies_to.resources.contains(ty),
             ValidatorActionKind::External => false,
         }
     }
@@ -332,7 +335,6 @@ impl ValidatorActionId {
             kind: self.parts.kind.clone()?,
             descendants: copied(&self.parts.descendants, EntityUID::clone)?,
             loc: self.parts.loc,
-            no_types: HashSet::emptied(&self.parts.no_types)?,
         };
         Ok(ValidatorActionId {
             parts: Box::new(*Box::allocator(&self.parts), parts)?,

@@ -3,17 +3,25 @@
 ghost use Rattle.std.specs.Prelude.{◌≡◌, IfOk};
 ghost use Rattle.cedar_schema_elements.specs.ActionKind.{plain_kind};
 
-use crate::apply_spec::ValidatorApplySpec;
-use cedar_below::{EntityType, M};
+use crate::type_set::TypeSet;
+use cedar_below::M;
 use cedar_types::Type;
 use std::rc::Rc;
+
+/// The entity types of the requests that an action is for: each of these principals with each of
+/// these resources.
+#[derive(Debug, Drop, PartialEq, Eq)]
+pub(crate) struct AppliesTo {
+    pub(crate) principals: TypeSet,
+    pub(crate) resources: TypeSet,
+}
 
 /// How an action of a schema is declared.
 #[derive(Debug, Drop, PartialEq, Eq)]
 pub(crate) enum ValidatorActionKind {
     /// By the requests that it is for, and the type of their context.
     Defined {
-        applies_to: Rc<ValidatorApplySpec<EntityType>>,
+        applies_to: Rc<AppliesTo>,
         context: Type,
     },
     /// Elsewhere.

@@ -3,9 +3,10 @@
 //!
 //! [`ValidatorEntityType`] and [`ValidatorActionId`] are an entity type and an action, each with
 //! its descendants. Both are nodes of a hierarchy ([`SchemaNode`]), and [`upper_sets`] gives what
-//! stands above each node. [`ValidatorApplySpec`] says which principals and resources an action is
-//! for. [`action_entities`] and [`environments`] make the entities of actions and the environments
-//! of their requests ([`UnlinkedRequestEnv`]). [`theorems`] has laws of how these compare.
+//! stands above each node. A [`TypeSet`] holds the types of an action's principals, or of its
+//! resources, and [`ValidatorApplySpec`] is both of them, or of the references to them.
+//! [`action_entities`] and [`environments`] make the entities of actions and the environments of
+//! their requests ([`UnlinkedRequestEnv`]). [`theorems`] has laws of how these compare.
 #![tactic(auto)]
 
 pub use action_id::ValidatorActionId;
@@ -16,6 +17,7 @@ pub use entity_type_kind::{StandardValidatorEntityType, ValidatorEntityTypeKind}
 pub use request_env::{RequestEnv, UnlinkedRequestEnv};
 pub use request_environments::environments;
 pub use schema_node::SchemaNode;
+pub use type_set::{RequestTypes, TypeSet};
 pub use uppers::{Uppers, upper_sets};
 
 mod action_id;
@@ -32,4 +34,5 @@ mod request_environments;
 mod schema_node;
 mod sets;
 pub mod theorems;
+mod type_set;
 mod uppers;

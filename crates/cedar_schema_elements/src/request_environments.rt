@@ -5,11 +5,11 @@ ghost use Rattle.cedar_schema_elements.specs.Words.{ActionEntity, AreEnvironment
 
 use crate::action_id::ValidatorActionId;
 use crate::request_env::UnlinkedRequestEnv;
+use crate::type_set::RequestTypes;
 use cedar_below::{EntityType, EntityUID, M};
 use cedar_table::Table;
 use cedar_types::Type;
 use std::alloc::Global;
-use std::collections::hash_set;
 use std::rc::Rc;
 
 /// What the environments of an action share.
@@ -22,11 +22,7 @@ struct Requests {
 }
 
 /// Puts some entity types in place of those that are listed, each shared, in their order.
-fn share_types(
-    alloc: Global,
-    shared: &mut Vec<Rc<EntityType>>,
-    types: hash_set::Iter<'_, EntityType>,
-) -> M<()>
+fn share_types(alloc: Global, shared: &mut Vec<Rc<EntityType>>, types: RequestTypes<'_>) -> M<()>
     ensures { OnOk result (map shared_name shared.new.items ≡ map type_name types.entry) }
 {
     shared.clear();
@@ -77,7 +73,7 @@ fn add_principals(
     alloc: Global,
     environments: &mut Vec<UnlinkedRequestEnv>,
     requests: &Requests,
-    principals: hash_set::Iter<'_, EntityType>,
+    principals: RequestTypes<'_>,
     resources: &[Rc<EntityType>],
 ) -> M<()>
     ensures { OnOk result (map owned_environment environments.new.items

@@ -1,8 +1,9 @@
 //! Sets of entity types and of uids, collected and copied.
 
 ghost use Rattle.std.specs.Prelude.{◌≡◌, IsTrue, IfOk, Result, map};
-ghost use Rattle.cedar_schema_elements.specs.Words.{FnReturnsAt, HoldsOfAll, IsFiniteIterable, Memory, SameItems, contains, type_name, uid_of};
+ghost use Rattle.cedar_schema_elements.specs.Words.{FnReturnsAt, HoldsOfAll, IsFiniteIterable, Memory, SameItems, contains, set_names, type_name, uid_of};
 
+use crate::type_set::TypeSet;
 use cedar_below::{EntityType, EntityUID, M};
 use std::alloc::Global;
 use std::collections::HashSet;
@@ -10,15 +11,12 @@ use std::default::Emptied;
 use std::hash::Hash;
 
 /// The set of some entity types. The entity types have to come to an end.
-pub(crate) fn type_set<I: IntoIterator<Item = EntityType>>(
-    alloc: Global,
-    types: I,
-) -> M<HashSet<EntityType>>
+pub(crate) fn type_set<I: IntoIterator<Item = EntityType>>(alloc: Global, types: I) -> M<TypeSet>
     requires { IsFiniteIterable I.into_iter_gives I.IntoIter.can_next I.IntoIter.remaining types }
     ensures { IfOk result (λ set. HoldsOfAll I.into_iter_gives I.IntoIter.next_gives types
-        (λ xs. SameItems (map type_name set.keys) (map type_name xs))) }
+        (λ xs. SameItems (set_names set) (map type_name xs))) }
 {
-    Ok(HashSet::from_iter(alloc, types)?)
+    Ok(TypeSet::of(Vec::from_iter(alloc, types)?))
 }
 
 /// The set of some uids. The uids have to come to an end.

@@ -7,10 +7,10 @@ use crate::names::within;
 use crate::write_back_fault::WriteBackFault;
 use cedar_below::{Eid, EntityType, EntityUID, M, Name};
 use cedar_names::json_schema::{ActionEntityUID, RawName};
-use cedar_schema_elements::{ValidatorActionId, ValidatorEntityType};
+use cedar_schema_elements::{RequestTypes, ValidatorActionId, ValidatorEntityType};
 use cedar_table::Table;
 use std::alloc::Global;
-use std::collections::{HashSet, hash_set};
+use std::collections::HashSet;
 
 /// What a schema defines, once it is converted back.
 #[derive(Clone, Copy)]
@@ -146,7 +146,7 @@ impl<'a> Known<'a> {
     pub(crate) fn write_names(
         &self,
         namespace: &Option<Name>,
-        names: hash_set::Iter<'_, EntityType>,
+        names: RequestTypes<'_>,
     ) -> Result<Vec<RawName>, WriteBackFault>
         ensures names { IfOk result (λ written.
             map raw_name written.items ≡ map type_name names.entry) }

@@ -7,7 +7,7 @@ use crate::known::undeclared;
 use crate::parts::Parts;
 use cedar_below::{EntityType, QuickHash};
 use cedar_declarations::SchemaError;
-use cedar_schema_elements::ValidatorActionId;
+use cedar_schema_elements::{RequestTypes, ValidatorActionId};
 use cedar_table::Table;
 use std::alloc::Global;
 use std::collections::hash_set;
@@ -48,6 +48,23 @@ pub(crate) fn check_declared(
     }
 }
 
+/// Refuses a principal or a resource that isn't an entity type of the schema.
+fn check_requests(alloc: Global, parts: &Parts, types: RequestTypes<'_>) -> Result<(), SchemaError>
+    ensures sound { OnOk result ((name : PlainName) → Contains (map type_name types.entry) name
+        → HasEntityType (plain_parts parts.now) name) }
+    ensures fault { IfErr result (λ error. (fault_of error ≡ out_of_memory)
+        ⊎ ((name : PlainName) × (fault_of error ≡ undeclared_entity_types (name ∷ []))
+        × Contains (map type_name types.entry) name
+        × ¬ HasEntityType (plain_parts parts.now) name)) }
+{
+    for ty in types {
+        if !parts.entity_types.contains_key(ty) {
+            return Err(undeclared(alloc, ty)?);
+        }
+    }
+    Ok(())
+}
+
 /// Refuses a descendant of an action that is no action of the schema.
 fn check_descendants(parts: &Parts, action: &ValidatorActionId) -> Result<(), SchemaError>
     ensures sound { OnOk result ((uid : PlainUid) → Contains (action_of action.now).descendants uid
@@ -70,8 +87,8 @@ fn check_action(alloc: Global, parts: &Parts, action: &ValidatorActionId) -> Res
     ensures fault { IfErr result (λ error.
         IsMisplaced (plain_parts parts.now) (action_of action.now) (fault_of error)) }
 {
-    check_declared(alloc, parts, action.principals())?;
-    check_declared(alloc, parts, action.resources())?;
+    check_requests(alloc, parts, action.principals())?;
+    check_requests(alloc, parts, action.resources())?;
     check_descendants(parts, action)
 }
 

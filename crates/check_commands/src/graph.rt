@@ -1,11 +1,11 @@
 //! The hierarchies of a schema as a graph in Graphviz DOT.
 
-use crate::hierarchy::{Hierarchy, actions, entity_types, text_of, texts};
+use crate::hierarchy::{Hierarchy, actions, entity_types, text_of};
 use crate::text::Text;
-use cedar_below::{EntityType, M, Memory};
-use cedar_schema::{ValidatorActionId, ValidatorSchema};
+use cedar_below::{M, Memory};
+use cedar_schema::{RequestTypes, ValidatorActionId, ValidatorSchema};
 use std::alloc::Global;
-use std::collections::{BTreeSet, hash_set};
+use std::collections::BTreeSet;
 
 /// Adds a name as DOT has it in quotes.
 fn push_quoted(text: &mut Text, name: &str) {
@@ -69,8 +69,17 @@ fn push_dashed(text: &mut Text, uid: &str, names: &BTreeSet<String>, is_from: bo
     }
 }
 
+/// The texts of the names of some entity types.
+fn texts(alloc: Global, types: RequestTypes<'_>) -> M<BTreeSet<String>> {
+    let mut texts = BTreeSet::new(alloc);
+    for ty in types {
+        texts.insert(text_of(alloc, ty)?)?;
+    }
+    Ok(texts)
+}
+
 /// Adds the dashed edges between an action and the entity types of some names.
-fn push_types(text: &mut Text, uid: &str, types: hash_set::Iter<'_, EntityType>, is_from: bool) {
+fn push_types(text: &mut Text, uid: &str, types: RequestTypes<'_>, is_from: bool) {
     match texts(text.alloc(), types) {
         Ok(names) => push_dashed(text, uid, &names, is_from),
         Err(Memory) => text.refuse(),

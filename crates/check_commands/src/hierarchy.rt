@@ -16,10 +16,7 @@ pub(crate) fn text_of<T: Display>(alloc: Global, name: &T) -> M<String> {
 }
 
 /// The texts of some names.
-pub(crate) fn texts<T: Display>(
-    alloc: Global,
-    names: hash_set::Iter<'_, T>,
-) -> M<BTreeSet<String>> {
+fn texts<T: Display>(alloc: Global, names: hash_set::Iter<'_, T>) -> M<BTreeSet<String>> {
     let mut texts = BTreeSet::new(alloc);
     for name in names {
         texts.insert(text_of(alloc, name)?)?;

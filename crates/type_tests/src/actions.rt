@@ -2,7 +2,7 @@
 
 use crate::test_values::{PLACE, entity_type, entity_types, name, uid};
 use cedar_names::json_schema::{ConditionalName, ReferenceType};
-use cedar_schema_elements::{ValidatorActionId, ValidatorApplySpec};
+use cedar_schema_elements::{TypeSet, ValidatorActionId, ValidatorApplySpec};
 use cedar_types::Type;
 use shorthand::checked::holds;
 use std::alloc::Global;
@@ -28,13 +28,21 @@ fn view(alloc: Global) -> Result<ValidatorActionId, Fail> {
 
 /// The action `view`, made of what it applies to.
 fn view_of_requests(alloc: Global) -> Result<ValidatorActionId, Fail> {
-    let principals = HashSet::from_iter(alloc, entity_types(alloc, &["Admin", "User"])?)?;
-    let resources = HashSet::from_iter(alloc, entity_types(alloc, &["Photo"])?)?;
-    let requests = ValidatorApplySpec::new(principals, resources);
+    let principals = TypeSet::of(entity_types(alloc, &["User", "Admin", "User"])?);
+    let resources = TypeSet::of(entity_types(alloc, &["Photo"])?);
     let name = uid(alloc, "Action", "view")?;
     let below = vec![in alloc; uid(alloc, "Action", "peek")?]?;
     let place = Some(PLACE);
-    Ok(ValidatorActionId::for_requests(alloc, name, requests, below, Type::Long, place)?)
+    let action = ValidatorActionId::for_requests(
+        alloc,
+        name,
+        principals,
+        resources,
+        below,
+        Type::Long,
+        place,
+    );
+    Ok(action?)
 }
 
 /// The external action `look`, above `peek`.

@@ -25,12 +25,13 @@ use crate::queries::known::{of_literal, of_literal_entity, of_types};
 use crate::queries::locations::{common_types, lacking_at, location, namespaces};
 use crate::queries::schemas::shown;
 use cedar_schema::below::{Entity, EntityType, EntityUID, M, ValidationMode};
-use cedar_schema::{CompleteError, IncompleteSchemaError, UnresolvedDeclaration, ValidatorSchema};
+use cedar_schema::{
+    CompleteError, IncompleteSchemaError, RequestTypes, UnresolvedDeclaration, ValidatorSchema,
+};
 use schema_lines::uid_text;
 use shorthand::names::{entity_type, entity_types, uid, uids};
 use shorthand::sample_extensions;
 use std::alloc::Global;
-use std::collections::hash_set;
 use std::test::Fail;
 
 /// The failure of a text that asks nothing.
@@ -98,7 +99,7 @@ fn missing(alloc: Global) -> M<String> {
 }
 
 /// The names of some entity types, sorted, if they are there.
-fn found(alloc: Global, types: Option<hash_set::Iter<'_, EntityType>>) -> M<String> {
+fn found(alloc: Global, types: Option<RequestTypes<'_>>) -> M<String> {
     match types {
         Some(types) => sorted(alloc, types),
         None => missing(alloc),

@@ -53,11 +53,11 @@ returns-clause-elaborates g c =
       uid = made.ensures.uid;
       kind = kind_elaborated c.args.scope.now (map (refer Entity) it.principals.items) (map (refer Entity) it.resources.items)
           (type_expr g.row.N.Denot refer it.context) (ty_of c.in_ok-context.context) (action_of made.field-0).kind
-          (rw (is, c.new-requests.ensures.principals, ← c.deref.ensures.value) c.in_ok-principals.ensures.names)
-          (rw (is, c.new-requests.ensures.resources, ← c.deref-2.ensures.value) c.in_ok-resources.ensures.names)
+          (rw (is, ← c.deref.ensures.value) c.in_ok-principals.ensures.names)
+          (rw (is, ← c.deref-2.ensures.value) c.in_ok-resources.ensures.names)
           (ap kind_context is) c.in_ok-context.ensures.elaborates;
       no_descendants = SameItems-none (action_of made.field-0).descendants
-          (rw (All-taken from.0 from.1 from.3, from.2.0, c.new-descendants.ensures.items) at from.4);
+          (rw (All-taken from.0 from.1 from.3, from.2.0, c.new-below.ensures.items) at from.4);
     }
 
 -- the context is closed, and the types are declared

@@ -10,7 +10,7 @@ returns-in_err-add_parents-clause-fault g c =
     let declared = c.args.declared.now in
     let item = c.item-item.result in
     let with = named g.D.HasParents.key_name g.D.HasParents.parents_of in
-    exit_holds _ _ _ c.from_residual.ensures.1
+    exit_holds _ _ _ c.from_residual-in_err-add_parents.ensures.1
     (parent_fault_wider (map with declared) (g.D.HasParents.key_name item.value.0) (g.D.HasParents.parents_of item.value.1) (g.D.HasParents.Refuses (held_names c.args.defs.now))
     (fault_of c.in_err-add_parents.field-0.0)
     (Contains-image with declared item (item_among declared c.loop-item.item-index item c.loop-item-test.true c.item-item.is))

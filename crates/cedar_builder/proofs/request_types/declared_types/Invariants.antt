@@ -6,6 +6,6 @@ use Rattle.cedar_builder.proofs.request_types.declared_types.Given as goal
 abbrev pub invariant-loop-name : goal.invariant-loop-name
 invariant-loop-name g l =
     AreNamed (held_names l.defs) (map (g.N.WrittenName.refer (namespace_name l.namespace) Entity) (take l.name-index l.names))
-    (map type_name l.types.keys)
+    (map type_name l.types.items)
     × AllPlaced (held_names l.defs) (names_in l.entity_types)
     (map (g.N.WrittenName.refer (namespace_name l.namespace) Entity) (take l.name-index l.names))

@@ -1,8 +1,9 @@
 use Rattle.std.proofs.Common.{◌≡◌, Bor, Err, Global, IfOk, List, None, Ok, Option, Result, Some, Vec, ap, get_or, map, refl, subst, sym, ◌∙◌}
 use Rattle.std.proofs.lemmas.List.Elements.{Contains-get_or}
 use Rattle.std.specs.List.{flat_map}
+use Rattle.std.specs.List.Sorted.{IsStrictlySortedBy}
 use Rattle.std.specs.Option.{option_copied, option_map}
-use Rattle.cedar_compare.specs.Words.{AreActionAnswers, AreAnswers, Difference, EntityType, IsEnvironmentOf, PlainDifference, PlainName, PlainUid, SameItems, Ty, action_of, context_at, kind_principals, kind_resources, new_of, old_of, plain_difference, subjects_with, ty_of, type_name, uid_of}
+use Rattle.cedar_compare.specs.Words.{AreActionAnswers, AreAnswers, Difference, EntityType, IsEnvironmentOf, PlainDifference, PlainName, PlainUid, SameItems, Ty, action_of, context_at, kind_principals, kind_resources, name_cmp, new_of, old_of, plain_difference, subjects_with, ty_of, type_name, uid_of}
 use Rattle.cedar_compare.proofs.RequestSteps.{action_answers, asked_of, no_answers}
 use Rattle.cedar_declarations.proofs.OccurrenceLemmas.{Contains-image}
 use Rattle.cedar_compare.proofs.requests.lost_of_action.Goals as goal
@@ -22,13 +23,14 @@ result_on : {A E : Type 0} (P Q : A → Type 0) (result : Result A E) → ((it :
 result_on P Q (Ok it) on fact = on it fact
 result_on P Q (Err fault) on fact = tt
 
--- names in order are those of the entity types that are lent
-lent_names : (ordered lent : List (Bor EntityType)) (given all : List PlainName) → SameItems (names ordered) given → given ≡ all
-    → lent ≡ ordered → SameItems (names lent) all
-lent_names ordered lent given all same is shown =
-    let P : List PlainName → Type 0 = SameItems (names lent) in
-    let Q : List (Bor EntityType) → Type 0 = λ types. SameItems (names types) given in
-    subst P is (subst Q (sym shown) same)
+-- names that are listed are those of the entity types that are lent
+lent_names : (listed lent : List (Bor EntityType)) (given all : List PlainName) → names listed ≡ given → given ≡ all
+    → lent ≡ listed → names lent ≡ all
+lent_names listed lent given all same is shown = ap names shown ∙ (same ∙ is)
+
+-- lists that are equal have the same items
+same_items : (ones others : List PlainName) → ones ≡ others → SameItems ones others
+same_items ones others is = let P : List PlainName → Type 0 = SameItems ones in subst P is (λ name. (λ it. it, λ it. it))
 
 pub returns-in_default : goal.returns-in_default
 returns-in_default c =
@@ -54,6 +56,20 @@ returns-in_default-context c =
     (no_answers extensions old new c.requires.old_keyed uid (Some (action_of c.in-Some.old.now)) c.in-Some.ensures
     (sym c.context.ensures.ty ∙ nothing_shown ty_of c.context.result c.in_default-context.not-Some))
 
+-- the names of principals come in order
+pub lost_with_principals-requires-clause-ordered : goal.lost_with_principals-requires-clause-ordered
+lost_with_principals-requires-clause-ordered c =
+    subst (IsStrictlySortedBy name_cmp) (sym
+    (lent_names c.in_ok-principals.principals.items c.deref.result.now (map type_name c.principals.result) _ c.in_ok-principals.ensures
+    c.principals.ensures.names c.deref.ensures.value)) c.principals.ensures.in_order
+
+-- so do those of resources
+pub lost_with_principals-requires-clause-resources_ordered : goal.lost_with_principals-requires-clause-resources_ordered
+lost_with_principals-requires-clause-resources_ordered c =
+    subst (IsStrictlySortedBy name_cmp) (sym
+    (lent_names c.in_ok-resources.resources.items c.deref-2.result.now (map type_name c.resources.result) _ c.in_ok-resources.ensures
+    c.resources.ensures.names c.deref-2.ensures.value)) c.resources.ensures.in_order
+
 pub lost_with_principals-requires-clause-asked : goal.lost_with_principals-requires-clause-asked
 lost_with_principals-requires-clause-asked c =
     let versions = c.args.versions.now in
@@ -67,9 +83,9 @@ lost_with_principals-requires-clause-asked c =
     let principals = c.deref.result.now in
     let resources = c.deref-2.result.now in
     let first = lent_names c.in_ok-principals.principals.items principals (map type_name c.principals.result) (kind_principals action.kind)
-    c.in_ok-principals.ensures.same c.principals.ensures.names c.deref.ensures.value in
+    c.in_ok-principals.ensures c.principals.ensures.names c.deref.ensures.value in
     let second = lent_names c.in_ok-resources.resources.items resources (map type_name c.resources.result) (kind_resources action.kind)
-    c.in_ok-resources.ensures.same c.resources.ensures.names c.deref-2.ensures.value in
+    c.in_ok-resources.ensures c.resources.ensures.names c.deref-2.ensures.value in
     let name : Bor EntityType → PlainName = λ it. type_name it.now in
     λ k d within k' d' within'.
     let p = get_or principals k d in
@@ -79,8 +95,8 @@ lost_with_principals-requires-clause-asked c =
     subst (λ u. P u (ty_of requests.context.now)) (ap uid_of (sym c.in_ok-requests.ensures.uid))
     (subst (λ t. P uid t) (ap ty_of (sym c.in_ok-requests.ensures.context))
     (asked_of extensions old new uid action c.in-Some.ensures ty (sym c.in-Some-context.ensures.ty) (name p) (name r)
-    ((first (name p)).0 (Contains-image name principals p (Contains-get_or principals k d within)))
-    ((second (name r)).0 (Contains-image name resources r (Contains-get_or resources k' d' within')))))
+    ((same_items _ _ first (name p)).0 (Contains-image name principals p (Contains-get_or principals k d within)))
+    ((same_items _ _ second (name r)).0 (Contains-image name resources r (Contains-get_or resources k' d' within')))))
 
 pub returns : goal.returns
 returns c =
@@ -94,13 +110,13 @@ returns c =
     let principals = c.deref.result.now in
     let resources = c.deref-2.result.now in
     let first = lent_names c.in_ok-principals.principals.items principals (map type_name c.principals.result) (kind_principals action.kind)
-    c.in_ok-principals.ensures.same c.principals.ensures.names c.deref.ensures.value in
+    c.in_ok-principals.ensures c.principals.ensures.names c.deref.ensures.value in
     let second = lent_names c.in_ok-resources.resources.items resources (map type_name c.resources.result) (kind_resources action.kind)
-    c.in_ok-resources.ensures.same c.resources.ensures.names c.deref-2.ensures.value in
+    c.in_ok-resources.ensures c.resources.ensures.names c.deref-2.ensures.value in
     let P : PlainUid → Vec Difference Global → Type 0 = λ u lost. AreAnswers extensions old new
     (flat_map (λ p. subjects_with u p (names resources)) (names principals)) (map plain_difference lost.items) in
     let Q : Vec Difference Global → Type 0 = λ lost. AreActionAnswers extensions old new uid (map plain_difference lost.items) in
     result_on (P (uid_of requests.uid.now)) Q c.lost_with_principals.result
     (λ lost answers. action_answers extensions old new uid action c.in-Some.ensures c.requires.old_keyed (names principals) (names resources)
-    (map plain_difference lost.items) first second (subst (λ u. P u lost) (ap uid_of c.in_ok-requests.ensures.uid) answers))
+    (map plain_difference lost.items) (same_items _ _ first) (same_items _ _ second) (subst (λ u. P u lost) (ap uid_of c.in_ok-requests.ensures.uid) answers))
     c.lost_with_principals.ensures

@@ -6,12 +6,12 @@ use Rattle.cedar_validation.proofs.Results.{on_ok}
 use Rattle.cedar_validation.proofs.request_types.check_action.Goals as goal
 
 -- the type that isn't declared is one of the action's principals, so it is one that the action names
-pub returns-in_err-check_declared-clause-fault : goal.returns-in_err-check_declared-clause-fault
-returns-in_err-check_declared-clause-fault c =
+pub returns-in_err-check_requests-clause-fault : goal.returns-in_err-check_requests-clause-fault
+returns-in_err-check_requests-clause-fault c =
     let it = action_of c.args.action.now in
-    let fault = fault_of c.in_err-check_declared.field-0.0 in
+    let fault = fault_of c.in_err-check_requests.field-0.0 in
     let at_fault : IsMisplaced (plain_parts c.args.parts.now) it fault =
-    elim c.in_err-check_declared.ensures.fault [
+    elim c.in_err-check_requests.ensures.fault [
       | inl wanting ↦ inl wanting
       | inr of ↦ inr (inl (of.0, of.1, principal_of it.kind of.0 (rw c.principals.ensures.names at of.2), of.3))
     ] in
@@ -19,16 +19,16 @@ returns-in_err-check_declared-clause-fault c =
     rw (p.1, p.2) at_fault
 
 -- the same with one of its resources
-pub returns-in_err-check_declared-2-clause-fault : goal.returns-in_err-check_declared-2-clause-fault
-returns-in_err-check_declared-2-clause-fault c =
+pub returns-in_err-check_requests-2-clause-fault : goal.returns-in_err-check_requests-2-clause-fault
+returns-in_err-check_requests-2-clause-fault c =
     let it = action_of c.args.action.now in
-    let fault = fault_of c.in_err-check_declared-2.field-0.0 in
+    let fault = fault_of c.in_err-check_requests-2.field-0.0 in
     let at_fault : IsMisplaced (plain_parts c.args.parts.now) it fault =
-    elim c.in_err-check_declared-2.ensures.fault [
+    elim c.in_err-check_requests-2.ensures.fault [
       | inl wanting ↦ inl wanting
       | inr of ↦ inr (inl (of.0, of.1, resource_of it.kind of.0 (rw c.resources.ensures.names at of.2), of.3))
     ] in
-    let p = err_from_is_err_and c.from_residual-in_err-check_declared-2.result c.from_residual-in_err-check_declared-2.ensures.1 in
+    let p = err_from_is_err_and c.from_residual-in_err-check_requests-2.result c.from_residual-in_err-check_requests-2.ensures.1 in
     rw (p.1, p.2) at_fault
 
 -- each type that the action names is a principal or a resource, and both are declared
@@ -38,6 +38,6 @@ returns-clause-sound c =
     on_ok c.check_descendants.result c.check_descendants.ensures.sound
     (λ descendants. record {
       types = λ name of.
-          elim (for_cases it.kind name of) [ inl among ↦ c.in_ok-check_declared.ensures.sound name (rw (sym c.principals.ensures.names) at among) | inr among ↦ c.in_ok-check_declared-2.ensures.sound name (rw (sym c.resources.ensures.names) at among) ];
+          elim (for_cases it.kind name of) [ inl among ↦ c.in_ok-check_requests.ensures.sound name (rw (sym c.principals.ensures.names) at among) | inr among ↦ c.in_ok-check_requests-2.ensures.sound name (rw (sym c.resources.ensures.names) at among) ];
       descendants = descendants;
     })

@@ -4,4 +4,4 @@ use Rattle.cedar_schema_elements.proofs.action_id.ValidatorActionId.is_applicabl
 pub returns-in-Defined : goal.returns-in-Defined
 returns-in-Defined c =
     rw (ap (λ parts. parts.kind) (sym c.deref.ensures) ∙ c.in-Defined.is)
-    (rw c.deref-in-Defined.ensures at c.is_applicable_resource_type.ensures)
+    (rw c.deref-in-Defined.ensures at c.contains.ensures)

@@ -1,9 +1,17 @@
 use Rattle.std.proofs.Common.{ap, sym, ◌∙◌}
-use Rattle.cedar_schema_elements.specs.ValidatorApplySpec.{resource_types}
-use Rattle.cedar_schema_elements.proofs.SetLemmas.{types_once}
+use Rattle.std.specs.List.Sorted.{IsStrictlySortedBy}
+use Rattle.cedar_schema_elements.proofs.TypeSetLemmas.{set_once}
 use Rattle.cedar_schema_elements.proofs.action_id.ValidatorActionId.resources.Goals as goal
 
 pub returns-in-Defined-clause-once : goal.returns-in-Defined-clause-once
 returns-in-Defined-clause-once c =
-    let once = rw (c.applicable_resource_types.ensures.types, c.deref-in-Defined.ensures) at c.applicable_resource_types.ensures.once in
-    rw (ap (λ parts. parts.kind) (sym c.deref.ensures) ∙ c.in-Defined.is) (types_once (resource_types c.in-Defined.applies_to.value) once)
+    rw (ap (λ parts. parts.kind) (sym c.deref.ensures) ∙ c.in-Defined.is) (set_once c.in-Defined.applies_to.value.resources)
+
+pub returns-in-Defined-clause-in_order : goal.returns-in-Defined-clause-in_order
+returns-in-Defined-clause-in_order c =
+    rw (ap (λ parts. parts.kind) (sym c.deref.ensures) ∙ c.in-Defined.is) c.in-Defined.applies_to.value.resources.sorted
+
+pub returns-in-External-clause-in_order : goal.returns-in-External-clause-in_order
+unfolding IsStrictlySortedBy
+returns-in-External-clause-in_order c =
+    rw (ap (λ parts. parts.kind) (sym c.deref.ensures) ∙ c.in-External.is) tt
