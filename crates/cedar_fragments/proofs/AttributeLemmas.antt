@@ -203,6 +203,11 @@ pub next_has_none : (all left rest : Actions) (done : Actions) (entry : String G
 next_has_none all left rest done entry none split is =
     none_listed done entry rest (ap with_attributes (sym (split ∙ ap (λ others. done ++ others) is)) ∙ none)
 
+-- nor has one that stands anywhere among all
+pub has_none : (all front back : Actions) (entry : String Global × ActionType RawName) → with_attributes all ≡ []
+    → all ≡ front ++ entry ∷ back → entry.1.attributes ≡ None
+has_none all front back entry none split = none_listed front entry back (ap with_attributes (sym split) ∙ none)
+
 -- a refusal that names no actions leaves none out
 pub none_named : (bag : Bag) (namespace : Option PlainName) (fault : Fault) → NamesNoAttributes fault → NamesAllWithAttributes bag namespace fault
 none_named bag namespace (action_attributes ids) none = absurd none

@@ -24,12 +24,12 @@ second_included xs ys zs it among = Contains-append_left (xs ++ ys) zs it (Conta
 pub third_included : (xs ys zs : Bag) → Included zs (xs ++ ys ++ zs)
 third_included xs ys zs it among = Contains-append_right (xs ++ ys) zs it among
 
-module _ {A : Type 0} (f : A → Bag) where
-  -- the declarations of several are those of each in turn
-  flat_map-map : (xs : List A) → flat_map f xs ≡ flat_map (λ bag. bag) (map f xs)
-  flat_map-map [] = refl
-  flat_map-map (x ∷ xs) = ap (λ others. f x ++ others) (flat_map-map xs)
+-- what several show is what each shows in turn
+flat_map-map : {A C : Type 0} (f : A → List C) (xs : List A) → flat_map f xs ≡ flat_map (λ shown. shown) (map f xs)
+flat_map-map f [] = refl
+flat_map-map f (x ∷ xs) = ap (λ others. f x ++ others) (flat_map-map f xs)
 
+module _ {A : Type 0} (f : A → Bag) where
   -- those of one are among those of all
   pub flat_map-included : (xs : List A) (x : A) → Contains xs x → Included (f x) (flat_map f xs)
   flat_map-included [] x here it among = absurd (omega (arith, here.1))
@@ -43,8 +43,8 @@ module _ {A : Type 0} (f : A → Bag) where
   flat_map-each P [] all = tt
   flat_map-each P (x ∷ xs) all = AllByRecursion-append P (f x) (flat_map f xs) all.0 (flat_map-each P xs all.1)
 
--- the same bags in turn are the same together
-pub flat_map-same : {A B : Type 0} (f : A → Bag) (g : B → Bag) (xs : List A) (ys : List B) → map f xs ≡ map g ys → flat_map f xs ≡ flat_map g ys
+-- the same lists in turn are the same together
+pub flat_map-same : {A B C : Type 0} (f : A → List C) (g : B → List C) (xs : List A) (ys : List B) → map f xs ≡ map g ys → flat_map f xs ≡ flat_map g ys
 flat_map-same f g xs ys same = flat_map-map f xs ∙ (ap (flat_map (λ bag. bag)) same ∙ sym (flat_map-map g ys))
 
 -- what holds of the error that `?` passes on holds of that of the result

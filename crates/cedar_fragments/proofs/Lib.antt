@@ -5,6 +5,7 @@ pub mod DeclaredNames
 pub mod DeclaredParts
 pub mod FragmentLemmas
 pub mod FragmentsSoFar
+pub mod ListedFromEnd
 pub mod ListedSoFar
 pub mod LocLemmas
 pub mod NamedOfDefinition

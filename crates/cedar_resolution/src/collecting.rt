@@ -142,15 +142,15 @@ pub(crate) fn add_fragment<N: WrittenName + Drop>(
     Ok(declared)
 }
 
-/// No declarations.
-pub(crate) fn none<N>(alloc: Global) -> Declarations<N>
-    ensures common { result.common_types.items ≡ [] }
-    ensures entities { result.entity_types.items ≡ [] }
-    ensures actions { result.actions.items ≡ [] }
+/// No declarations, with room for this many entity types and as many actions.
+pub(crate) fn none<N: Drop>(alloc: Global, room: usize) -> M<Declarations<N>>
+    ensures common { IfOk result (λ it. it.common_types.items ≡ []) }
+    ensures entities { IfOk result (λ it. it.entity_types.items ≡ []) }
+    ensures actions { IfOk result (λ it. it.actions.items ≡ []) }
 {
-    Declarations {
+    Ok(Declarations {
         common_types: Vec::new(alloc),
-        entity_types: Vec::new(alloc),
-        actions: Vec::new(alloc),
-    }
+        entity_types: Vec::with_capacity(alloc, room)?,
+        actions: Vec::with_capacity(alloc, room)?,
+    })
 }

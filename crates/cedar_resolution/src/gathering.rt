@@ -21,14 +21,15 @@ pub struct Gathered<N> {
 }
 
 impl<N: WrittenName + Drop> Gathered<N> {
-    /// What no fragments declare.
-    pub fn nothing(alloc: Global) -> Self
-        ensures { AreGathered N N.refer [] result }
+    /// What no fragments declare, with room for this many entity types and as many actions. Out of
+    /// memory is the only refusal.
+    pub fn with_room(alloc: Global, room: usize) -> M<Self>
+        ensures { IfOk result (AreGathered N N.refer []) }
     {
-        Gathered {
-            names: NameLists::none(alloc),
-            declarations: none(alloc),
-        }
+        Ok(Gathered {
+            names: NameLists::with_room(alloc, room)?,
+            declarations: none(alloc, room)?,
+        })
     }
 
     /// What was gathered, and then also what a fragment declares, moved out of it. Out of memory

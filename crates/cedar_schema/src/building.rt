@@ -133,7 +133,7 @@ pub(crate) fn build<N: WrittenName + Drop>(
     ensures keys { IfOk result (λ parts.
         AreKeysLocated parts.entity_types.entries parts.actions.entries) }
 {
-    let mut taken = TakenOver::nothing(alloc)?;
+    let mut taken = TakenOver::with_room(alloc, fragments.len())?;
     for fragment in fragments {
         taken = taken.with(alloc, fragment)?;
     }

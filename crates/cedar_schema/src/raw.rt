@@ -32,7 +32,7 @@ pub(crate) fn build_raw(
     ensures keys { IfOk result (λ parts.
         AreKeysLocated parts.entity_types.entries parts.actions.entries) }
 {
-    let mut taken = TakenOver::nothing(alloc)?;
+    let mut taken = TakenOver::with_room(alloc, fragments.len())?;
     for fragment in fragments {
         taken = taken.with(alloc, ValidatorSchemaFragment::as_written(alloc, fragment)?)?;
     }

@@ -21,13 +21,14 @@ pub(crate) struct TakenOver<N> {
 }
 
 impl<N: WrittenName + Drop> TakenOver<N> {
-    /// What there is of no fragments. Out of memory is the only refusal.
-    pub(crate) fn nothing(alloc: Global) -> M<Self>
+    /// What there is of no fragments, with room for this many entity types and as many actions. Out
+    /// of memory is the only refusal.
+    pub(crate) fn with_room(alloc: Global, room: usize) -> M<Self>
         ensures { IfOk result (AreTakenOver N N.refer []) }
     {
         Ok(TakenOver {
             located: Located::built_in(alloc)?,
-            gathered: Gathered::nothing(alloc),
+            gathered: Gathered::with_room(alloc, room)?,
         })
     }
 

@@ -34,7 +34,7 @@ Contains-names_among types others among name there =
     Contains-name others ty name same (among ty inside)
 
 -- the entity types without repeats
-abbrev distinct : List EntityType → List EntityType
+abbrev pub distinct : List EntityType → List EntityType
 distinct = dedup ((entity_type_eq.ghosts).eq)
 
 -- dropping repeats drops no name
@@ -46,7 +46,7 @@ Contains-distinct types name there =
     Contains-name (distinct types) other name (sym ((entity_type_eq-same ty other).0 equal) ∙ same) (k, below, is)
 
 -- the names of entity types that are reordered and without repeats are theirs
-same_names-distinct : (types sorted : List EntityType) → IsPermutation types sorted → (name : PlainName)
+pub same_names-distinct : (types sorted : List EntityType) → IsPermutation types sorted → (name : PlainName)
     → Contains (map type_name (distinct sorted)) name ↔ Contains (map type_name types) name
 same_names-distinct types sorted permutation name = (
   λ there.
@@ -56,6 +56,13 @@ same_names-distinct types sorted permutation name = (
   λ there. Contains-distinct sorted name
       (Contains-names_among types sorted (λ ty inside. Contains-permutation types sorted ty permutation inside) name there),
 )
+
+-- entity types that are sorted and without repeats have names that are sorted without duplicates
+pub sorted_names-distinct : (sorted : List EntityType) → IsSorted ((entity_type_ord.ghosts).cmp) sorted
+    → IsStrictlySortedBy name_cmp (map type_name (distinct sorted))
+sorted_names-distinct sorted order =
+    IsStrictlySortedBy-map ((entity_type_ord.ghosts).cmp) name_cmp type_name entity_type_ord-name_cmp (distinct sorted)
+    (IsStrictlySortedBy-dedup entity_type_ord.Laws.total-law entity_type_ord.Laws.matches_eq-law sorted order)
 
 -- the entity types that are referred to
 abbrev pub referred : List (Bor EntityType) → List EntityType
@@ -107,9 +114,8 @@ pub IsStrictlySortedBy-distinct : (sorted all : List (Bor EntityType))
     → IsSorted (λ a b. (entity_type_ord.ghosts).cmp a.now b.now) sorted
     → IsFiltered (DiffersFromLast same_type) [] sorted all → IsStrictlySortedBy name_cmp (referred_names all)
 IsStrictlySortedBy-distinct sorted all order filtered =
-    rw (referred_names-distinct sorted all filtered) (IsStrictlySortedBy-map ((entity_type_ord.ghosts).cmp) name_cmp type_name entity_type_ord-name_cmp (distinct (referred sorted))
-    (IsStrictlySortedBy-dedup entity_type_ord.Laws.total-law entity_type_ord.Laws.matches_eq-law (referred sorted)
-    (IsSorted-referred sorted order)))
+    rw (referred_names-distinct sorted all filtered)
+    (sorted_names-distinct (referred sorted) (IsSorted-referred sorted order))
 
 -- and the names of all that was referred to
 pub same_names-referred : (types sorted all : List (Bor EntityType)) → IsPermutation types sorted

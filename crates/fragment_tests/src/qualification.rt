@@ -204,7 +204,7 @@ fn what_names_nothing_or_shadows_is_refused(rt: HostRuntime) -> Result<(), Fail>
 
 /// What the fragments of some texts declare, gathered from one after another.
 fn gathered(alloc: Global, texts: &[&str]) -> Result<Gathered<ConditionalName>, Fail> {
-    let mut gathered = Gathered::nothing(alloc);
+    let mut gathered = Gathered::with_room(alloc, texts.len())?;
     for fragment in fragments_of(alloc, texts)? {
         gathered = gathered.with(fragment)?;
     }

@@ -20,7 +20,7 @@ fn defined(alloc: Global, texts: &[&str], common: &[&str]) -> Result<AllDefs, Fa
 
 /// What the fragments of some texts define, whose names are listed by hand.
 fn listed(alloc: Global, texts: &[&str]) -> Result<AllDefs, Fail> {
-    let mut name_lists = NameLists::none(alloc);
+    let mut name_lists = NameLists::with_room(alloc, texts.len())?;
     for fragment in fragments_of(alloc, texts)? {
         name_lists.add_fragment(&fragment)?;
     }

@@ -83,6 +83,21 @@ impl NameLists {
         }
     }
 
+    /// No names, with room for this many entity types and as many actions. Out of memory is the
+    /// only refusal.
+    pub fn with_room(alloc: Global, room: usize) -> M<Self>
+        ensures common { IfOk result (λ names. (listed_names names).common ≡ []) }
+        ensures entities { IfOk result (λ names. (listed_names names).entities ≡ []) }
+        ensures actions { IfOk result (λ names. (listed_names names).actions ≡ []) }
+    {
+        Ok(NameLists {
+            common: Vec::new(alloc),
+            entities: Vec::with_capacity(alloc, room)?,
+            actions: Vec::with_capacity(alloc, room)?,
+            alloc,
+        })
+    }
+
     /// Adds what a definition itself declares.
     fn add_definition<N, A>(&mut self, definition: &ValidatorNamespaceDef<N, A>) -> M<()>
         ensures { OnOk result (HoldsAlso (listed_names self.new) (listed_names self.old)

@@ -46,12 +46,14 @@ impl CommonTypeDefs<RawName> {
                 defs: Vec::new(alloc),
             });
         }
+        let mut written = written;
         let mut defs = Vec::with_capacity(alloc, written.len())?;
-        for (id, common) in written {
+        while let Some((id, common)) = written.pop_last() {
             let CommonType { ty, loc } = common;
             let name = full_name(alloc, namespace, id.into_id().into_id(), loc)?;
             defs.push(CommonTypeDef { name, ty })?;
         }
+        defs.reverse();
         Ok(CommonTypeDefs { defs })
     }
 }
@@ -81,12 +83,14 @@ impl EntityTypesDef<RawName> {
                 defs: Vec::new(alloc),
             });
         }
+        let mut written = written;
         let mut defs = Vec::with_capacity(alloc, written.len())?;
-        for (id, declared) in written {
+        while let Some((id, declared)) = written.pop_last() {
             let name = entity_type_name(alloc, namespace, id, declared.loc)?;
             let fragment = EntityTypeFragment::as_written(alloc, declared);
             defs.push(EntityTypeDef { name, fragment })?;
         }
+        defs.reverse();
         Ok(EntityTypesDef { defs })
     }
 }
@@ -121,13 +125,15 @@ impl ActionsDef<RawName, RawName> {
             });
         }
         refuse_attributes(alloc, &written)?;
+        let mut written = written;
         let mut defs = Vec::with_capacity(alloc, written.len())?;
         let ty = action_type_name(alloc, namespace)?;
-        for (id, declared) in written {
+        while let Some((id, declared)) = written.pop_last() {
             let uid = action_uid(&ty, id, declared.defn_loc)?;
             let fragment = ActionFragment::as_written(alloc, declared)?;
             defs.push(ActionDef { uid, fragment })?;
         }
+        defs.reverse();
         Ok(ActionsDef { defs })
     }
 }
@@ -205,10 +211,12 @@ impl ValidatorSchemaFragment<RawName, RawName> {
             NamesAllOfADefinition (fragment ∷ []) (fault_of error)) }
     {
         let mut definitions = Vec::with_capacity(alloc, fragment.0.len())?;
-        for (name, written) in fragment.0 {
+        let mut named = fragment.0;
+        while let Some((name, written)) = named.pop_last() {
             let namespace = internal_namespace(name);
             definitions.push(ValidatorNamespaceDef::as_written(alloc, namespace, written)?)?;
         }
+        definitions.reverse();
         Ok(ValidatorSchemaFragment { definitions })
     }
 }

@@ -1,11 +1,11 @@
-use Rattle.std.proofs.Common.{string_bytes}
+use Rattle.std.proofs.Common.{length, string_bytes}
 use Rattle.cedar_fragments.specs.Words.{IsSound, RawName, action, action_body, action_fragment_body, declared_action, namespace_name, raw_reference, uid_of}
-use Rattle.cedar_fragments.proofs.ListedSoFar.{ListedSoFar}
+use Rattle.cedar_fragments.proofs.ListedFromEnd.{ListedFromEnd}
 use Rattle.cedar_fragments.proofs.namespace.as_written.ActionsDef+RawName+RawName.as_written.Given as goal
 
 abbrev pub invariant-loop-id : goal.invariant-loop-id
 invariant-loop-id l =
-    ListedSoFar IsSound
+    ListedFromEnd IsSound
     (λ entry. record {
       namespace = namespace_name l.namespace;
       id = string_bytes entry.0;
@@ -13,4 +13,7 @@ invariant-loop-id l =
     })
     (λ def. declared_action (uid_of def.uid)
     (action (action_fragment_body RawName (raw_reference (namespace_name l.namespace)) RawName (raw_reference (namespace_name l.namespace)) def.fragment)))
-    l.fn.written.entries l.defs.items l.id-iterator
+    l.fn.written.entries l.defs.items l.written.entries
+
+abbrev pub decreases-loop-id : goal.decreases-loop-id
+decreases-loop-id l = length l.written.entries

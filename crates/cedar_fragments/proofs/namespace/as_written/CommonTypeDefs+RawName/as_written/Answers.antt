@@ -1,21 +1,38 @@
 use Rattle.std.proofs.Common.{◌≡◌, ◌∙◌, ap, refl}
 use Rattle.cedar_fragments.proofs.DeclaredAsLemmas.{declared_as-within}
-use Rattle.cedar_fragments.proofs.OneMore.{one_more}
+use Rattle.cedar_fragments.proofs.ListedFromEnd.{ListedFromEnd-more, ListedFromEnd-none, none_left, same_from_end}
 use Rattle.cedar_fragments.specs.Words.{common_type, common_type_text, located_name, name_within, namespace_name, raw_reference, type_expr, RawName}
 use Rattle.cedar_fragments.proofs.namespace.as_written.CommonTypeDefs+RawName.as_written.Goals as goal
 
+-- at first no common type is converted
+pub loop-id-init : goal.loop-id-init
+loop-id-init c =
+    let nothing = c.in_ok-defs.ensures.items in
+    (ListedFromEnd-none _ _ _ _ _ nothing, ListedFromEnd-none _ _ _ _ _ nothing)
+
+-- one more common type is converted
 pub loop-id-preserved : goal.loop-id-preserved
 loop-id-preserved c =
     let namespace = namespace_name c.args.namespace in
-    let text = c.into_id-in-loop-id.ensures.text ∙ c.into_id.ensures.text in
+    let text = c.into_id-in-Some.ensures.text ∙ c.into_id.ensures.text in
     let name = c.in_ok-name.ensures.name ∙ ap (name_within namespace) text in
     let located : located_name c.in_ok-name.name
     ≡ record { name = name_within namespace (common_type_text c.in-Some.id); loc = c.in-Some.common.loc } =
     λ i. record { name = name i; loc = c.in_ok-name.ensures.loc i } in (
-      one_more _ _ c.loop-id.defs.items _ c.loop-id.yielded _ (c.in-Some.id, c.in-Some.common) c.in_ok-push.ensures.items
-          c.loop-id.invariant.0
+      ListedFromEnd-more _ _ _ _ _ c.pop_last.new.self.entries _ _ (c.in-Some.id, c.in-Some.common) _ c.in-Some.ensures.removal
+          c.in_ok-push.ensures.items
           (declared_as-within namespace (common_type_text c.in-Some.id) (common_type (type_expr RawName (raw_reference namespace) c.in-Some.common.ty)) _ _
-          name refl),
-      one_more _ _ c.loop-id.defs.items _ c.loop-id.yielded _ (c.in-Some.id, c.in-Some.common) c.in_ok-push.ensures.items
-          c.loop-id.invariant.1 located,
+          name refl) tt c.loop-id.invariant.0,
+      ListedFromEnd-more _ _ _ _ _ c.pop_last.new.self.entries _ _ (c.in-Some.id, c.in-Some.common) _ c.in-Some.ensures.removal
+          c.in_ok-push.ensures.items located tt c.loop-id.invariant.1,
     )
+
+-- at the end all are converted
+pub returns-clause-declarations : goal.returns-clause-declarations
+returns-clause-declarations c =
+    same_from_end _ _ _ _ _ _ _ (none_left c.loop-id.written.entries c.in_default.ensures.variant.1) c.reverse.ensures.items c.loop-id.invariant.0
+
+-- and named where they were written
+pub returns-clause-located : goal.returns-clause-located
+returns-clause-located c =
+    same_from_end _ _ _ _ _ _ _ (none_left c.loop-id.written.entries c.in_default.ensures.variant.1) c.reverse.ensures.items c.loop-id.invariant.1

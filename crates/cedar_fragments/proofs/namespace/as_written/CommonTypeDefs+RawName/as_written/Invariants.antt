@@ -1,9 +1,25 @@
-use Rattle.std.proofs.Common.{◌≡◌, map}
-use Rattle.cedar_fragments.specs.Words.{RawName, common_declarations, common_type, declared_as, located_common_names, name_of, namespace_name, type_expr, raw_reference, written_common_names}
+use Rattle.std.proofs.Common.{length}
+use Rattle.std.specs.Prelude.{⊤}
+use Rattle.cedar_fragments.specs.Words.{RawName, common_type, common_type_text, declared_as, located_name, name_of, name_within, namespace_name, raw_reference, type_expr}
+use Rattle.cedar_fragments.proofs.ListedFromEnd.{ListedFromEnd}
 use Rattle.cedar_fragments.proofs.namespace.as_written.CommonTypeDefs+RawName.as_written.Given as goal
 
 abbrev pub invariant-loop-id : goal.invariant-loop-id
 invariant-loop-id l =
-    (map (λ def. declared_as (name_of def.name) (common_type (type_expr RawName (raw_reference (namespace_name l.namespace)) def.ty))) l.defs.items
-    ≡ common_declarations RawName (raw_reference (namespace_name l.namespace)) (namespace_name l.namespace) l.yielded)
-    × (located_common_names RawName l.defs.items ≡ written_common_names (namespace_name l.namespace) l.yielded)
+    ListedFromEnd (λ _. ⊤)
+    (λ entry. record {
+      namespace = namespace_name l.namespace;
+      id = common_type_text entry.0;
+      body = common_type (type_expr RawName (raw_reference (namespace_name l.namespace)) entry.1.ty);
+    })
+    (λ def. declared_as (name_of def.name) (common_type (type_expr RawName (raw_reference (namespace_name l.namespace)) def.ty)))
+    l.fn.written.entries l.defs.items l.written.entries
+    × ListedFromEnd (λ _. ⊤)
+    (λ entry. record {
+      name = name_within (namespace_name l.namespace) (common_type_text entry.0);
+      loc = entry.1.loc;
+    })
+    (λ def. located_name def.name) l.fn.written.entries l.defs.items l.written.entries
+
+abbrev pub decreases-loop-id : goal.decreases-loop-id
+decreases-loop-id l = length l.written.entries

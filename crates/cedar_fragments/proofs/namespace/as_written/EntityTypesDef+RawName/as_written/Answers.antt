@@ -1,7 +1,8 @@
-use Rattle.std.proofs.Common.{sym, ap}
+use Rattle.std.proofs.Common.{ap}
 use Rattle.cedar_fragments.specs.Words.{RawName, entity_declarations, entity_type, namespace_name, raw_entity_body, raw_reference, unreserved_id_text}
+use Rattle.cedar_declarations.proofs.OccurrenceLemmas.{Contains-image}
 use Rattle.cedar_fragments.proofs.DeclaredAsLemmas.{declared_as-within}
-use Rattle.cedar_fragments.proofs.ListedSoFar.{ListedSoFar-none, ListedSoFar-more, listed_next, listed_same, listed_each}
+use Rattle.cedar_fragments.proofs.ListedFromEnd.{ListedFromEnd-more, ListedFromEnd-none, each_from_end, next_from_end, none_left, same_from_end}
 use Rattle.cedar_fragments.proofs.SoundLemmas.{fault_of_entity, name_names_none}
 use Rattle.cedar_fragments.proofs.FragmentLemmas.{exit_holds}
 use Rattle.cedar_fragments.proofs.namespace.as_written.EntityTypesDef+RawName.as_written.Goals as goal
@@ -9,7 +10,7 @@ use Rattle.cedar_fragments.proofs.namespace.as_written.EntityTypesDef+RawName.as
 -- at first no entity type is converted
 pub loop-id-init : goal.loop-id-init
 loop-id-init c =
-    ListedSoFar-none _ _ _ _ _ _ (sym c.into_iter-id-iterator.ensures.into_iter_gives.0) c.in_ok-defs.ensures.items
+    ListedFromEnd-none _ _ _ _ _ c.in_ok-defs.ensures.items
 
 -- a refused name is a fault of the declarations
 pub returns-in_err-name-clause-fault : goal.returns-in_err-name-clause-fault
@@ -18,7 +19,8 @@ returns-in_err-name-clause-fault c =
     let bag = entity_declarations RawName (raw_reference namespace) namespace c.args.written.entries in
     exit_holds _ _ _ c.from_residual-in_err-name.ensures.1
     (fault_of_entity bag namespace (unreserved_id_text c.in-Some.id) (raw_entity_body namespace c.in-Some.declared) _
-    (listed_next _ _ _ _ _ c.next.new.self _ (c.in-Some.id, c.in-Some.declared) c.in-Some.ensures.steps c.loop-id.invariant)
+    (Contains-image _ c.args.written.entries (c.in-Some.id, c.in-Some.declared)
+    (next_from_end _ _ _ _ _ c.pop_last.new.self.entries _ (c.in-Some.id, c.in-Some.declared) c.in-Some.ensures.removal c.loop-id.invariant))
     c.in_err-name.ensures.fault)
 
 -- it names no actions
@@ -30,7 +32,7 @@ returns-in_err-name-clause-no_actions c =
 pub loop-id-preserved : goal.loop-id-preserved
 loop-id-preserved c =
     let namespace = namespace_name c.args.namespace in
-    ListedSoFar-more _ _ _ _ _ c.next.new.self _ _ (c.in-Some.id, c.in-Some.declared) _ c.in-Some.ensures.steps
+    ListedFromEnd-more _ _ _ _ _ c.pop_last.new.self.entries _ _ (c.in-Some.id, c.in-Some.declared) _ c.in-Some.ensures.removal
     c.in_ok-push.ensures.items
     (declared_as-within namespace (unreserved_id_text c.in-Some.id)
     (entity_type (raw_entity_body namespace c.in-Some.declared)) _ _ c.in_ok-name.ensures.name
@@ -39,8 +41,9 @@ loop-id-preserved c =
 
 -- at the end all are converted
 pub returns-clause-declarations : goal.returns-clause-declarations
-returns-clause-declarations c = listed_same _ _ _ _ _ _ c.in-None.ensures.steps.0 c.loop-id.invariant
+returns-clause-declarations c =
+    same_from_end _ _ _ _ _ _ _ (none_left c.loop-id.written.entries c.in_default.ensures.variant.1) c.reverse.ensures.items c.loop-id.invariant
 
 -- and each is sound
 pub returns-clause-sound : goal.returns-clause-sound
-returns-clause-sound c = listed_each _ _ _ _ _ _ c.in-None.ensures.steps.0 c.loop-id.invariant
+returns-clause-sound c = each_from_end _ _ _ _ _ _ (none_left c.loop-id.written.entries c.in_default.ensures.variant.1) c.loop-id.invariant

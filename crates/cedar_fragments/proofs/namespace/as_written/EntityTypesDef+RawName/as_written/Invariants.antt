@@ -1,14 +1,18 @@
+use Rattle.std.proofs.Common.{length}
 use Rattle.cedar_fragments.specs.Words.{IsSound, RawName, declared_as, entity_type, fragment_body, namespace_name, raw_entity_body, raw_reference, type_name, unreserved_id_text}
-use Rattle.cedar_fragments.proofs.ListedSoFar.{ListedSoFar}
+use Rattle.cedar_fragments.proofs.ListedFromEnd.{ListedFromEnd}
 use Rattle.cedar_fragments.proofs.namespace.as_written.EntityTypesDef+RawName.as_written.Given as goal
 
 abbrev pub invariant-loop-id : goal.invariant-loop-id
 invariant-loop-id l =
-    ListedSoFar IsSound
+    ListedFromEnd IsSound
     (λ entry. record {
       namespace = namespace_name l.namespace;
       id = unreserved_id_text entry.0;
       body = entity_type (raw_entity_body (namespace_name l.namespace) entry.1);
     })
     (λ def. declared_as (type_name def.name) (entity_type (fragment_body RawName (raw_reference (namespace_name l.namespace)) def.fragment)))
-    l.fn.written.entries l.defs.items l.id-iterator
+    l.fn.written.entries l.defs.items l.written.entries
+
+abbrev pub decreases-loop-id : goal.decreases-loop-id
+decreases-loop-id l = length l.written.entries

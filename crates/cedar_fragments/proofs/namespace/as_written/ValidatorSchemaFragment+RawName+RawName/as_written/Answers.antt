@@ -1,12 +1,9 @@
-use Rattle.std.proofs.Common.{◌≡◌, ◌∙◌, [], ◌∷◌, Option, ap, inl, refl, sym}
-use Rattle.std.specs.List.{flat_map}
+use Rattle.std.proofs.Common.{◌≡◌, ◌∙◌, [], ◌∷◌, Option, ap, inl, refl}
 use Rattle.cedar_below.proofs.Lists.{Contains-cons}
 use Rattle.cedar_fragments.specs.Words.{IsSound, Name, NamespaceDefinition, RawName, definition_common_names, definition_namespaces, entry_common_names, entry_declarations, entry_namespaces, fault_of, named_namespace, raw_fragment, raw_reference, written_common_names, written_definition}
 use Rattle.cedar_fragments.proofs.FragmentLemmas.{refusal_included, flat_map-included, flat_map-each, flat_map-same, exit_holds}
-use Rattle.cedar_fragments.proofs.FragmentsSoFar.{next_entry}
-use Rattle.cedar_fragments.proofs.ListedSoFar.{ListedSoFar-none, ListedSoFar-more, listed_same, listed_each}
+use Rattle.cedar_fragments.proofs.ListedFromEnd.{ListedFromEnd-more, ListedFromEnd-none, each_from_end, next_from_end, none_left, same_from_end}
 use Rattle.cedar_fragments.proofs.NamedOfDefinition.{named_of_definition}
-use Rattle.cedar_fragments.proofs.OneMore.{flat_one_more}
 use Rattle.cedar_fragments.proofs.SoundLemmas.{sound_bag}
 use Rattle.cedar_fragments.proofs.namespace.as_written.ValidatorSchemaFragment+RawName+RawName.as_written.Goals as goal
 
@@ -14,9 +11,9 @@ use Rattle.cedar_fragments.proofs.namespace.as_written.ValidatorSchemaFragment+R
 pub loop-name-init : goal.loop-name-init
 loop-name-init c =
     let nothing = c.in_ok-definitions.ensures.items in (
-      ListedSoFar-none _ _ _ _ _ _ (sym c.into_iter-name-iterator.ensures.into_iter_gives.0) nothing,
-      ap (flat_map (definition_common_names RawName RawName)) nothing,
-      ap (flat_map (definition_namespaces RawName RawName)) nothing,
+      ListedFromEnd-none _ _ _ _ _ nothing,
+      ListedFromEnd-none _ _ _ _ _ nothing,
+      ListedFromEnd-none _ _ _ _ _ nothing,
     )
 
 -- the fault of a definition is one of the fragment
@@ -24,8 +21,8 @@ pub returns-in_err-as_written-clause-fault : goal.returns-in_err-as_written-clau
 returns-in_err-as_written-clause-fault c =
     let entry : Option Name × NamespaceDefinition RawName = (c.in-Some.name, c.in-Some.written) in
     let fault = fault_of c.in_err-as_written.field-0.0 in
-    let among = next_entry (written_definition RawName raw_reference) c.args.fragment.0.entries c.loop-name.name-iterator c.next.new.self c.loop-name.definitions.items
-    entry c.in-Some.ensures.steps c.loop-name.invariant.0 in
+    let among = next_from_end _ _ _ c.args.fragment.0.entries _ c.pop_last.new.self.entries _ entry c.in-Some.ensures.removal
+    c.loop-name.invariant.0 in
     exit_holds _ _ _ c.from_residual-in_err-as_written.ensures.1
     (refusal_included (entry_declarations entry) (raw_fragment c.args.fragment)
     (flat_map-included entry_declarations c.args.fragment.0.entries entry among) fault
@@ -36,8 +33,8 @@ pub returns-in_err-as_written-clause-all_named : goal.returns-in_err-as_written-
 returns-in_err-as_written-clause-all_named c =
     let entry : Option Name × NamespaceDefinition RawName = (c.in-Some.name, c.in-Some.written) in
     let fault = fault_of c.in_err-as_written.field-0.0 in
-    let among = next_entry (written_definition RawName raw_reference) c.args.fragment.0.entries c.loop-name.name-iterator c.next.new.self c.loop-name.definitions.items
-    entry c.in-Some.ensures.steps c.loop-name.invariant.0 in
+    let among = next_from_end _ _ _ c.args.fragment.0.entries _ c.pop_last.new.self.entries _ entry c.in-Some.ensures.removal
+    c.loop-name.invariant.0 in
     exit_holds _ _ _ c.from_residual-in_err-as_written.ensures.1
     (named_of_definition (c.args.fragment ∷ []) c.args.fragment entry (Contains-cons c.args.fragment [] c.args.fragment (inl refl)) among fault
     (rw c.internal_namespace-namespace.ensures.name at c.in_err-as_written.ensures.all_named))
@@ -53,27 +50,43 @@ loop-name-preserved c =
     let namespaces : definition_namespaces RawName RawName c.in_ok-as_written.field-0 ≡ entry_namespaces entry =
     λ i. named_namespace ((c.in_ok-as_written.ensures.name ∙ c.internal_namespace-namespace.ensures.located) i)
     (c.in_ok-as_written.ensures.loc i) in (
-      ListedSoFar-more _ _ _ _ _ c.next.new.self _ _ entry _ c.in-Some.ensures.steps
+      ListedFromEnd-more _ _ _ _ _ c.pop_last.new.self.entries _ _ entry _ c.in-Some.ensures.removal
           c.in_ok-push.ensures.items
           (rw named at c.in_ok-as_written.ensures.declarations)
           (rw named at c.in_ok-as_written.ensures.sound) c.loop-name.invariant.0,
-      flat_one_more _ _ c.loop-name.definitions.items _ c.loop-name.yielded _ entry c.in_ok-push.ensures.items c.loop-name.invariant.1 names,
-      flat_one_more _ _ c.loop-name.definitions.items _ c.loop-name.yielded _ entry c.in_ok-push.ensures.items c.loop-name.invariant.2
-          namespaces,
+      ListedFromEnd-more _ _ _ _ _ c.pop_last.new.self.entries _ _ entry _ c.in-Some.ensures.removal
+          c.in_ok-push.ensures.items names tt c.loop-name.invariant.1,
+      ListedFromEnd-more _ _ _ _ _ c.pop_last.new.self.entries _ _ entry _ c.in-Some.ensures.removal
+          c.in_ok-push.ensures.items namespaces tt c.loop-name.invariant.2,
     )
 
 -- at the end all definitions are converted
 pub returns-clause-declarations : goal.returns-clause-declarations
 returns-clause-declarations c =
-    flat_map-same (written_definition RawName raw_reference) entry_declarations _ _ (listed_same _ _ _ _ _ _ c.in-None.ensures.steps.0 c.loop-name.invariant.0)
+    flat_map-same (written_definition RawName raw_reference) entry_declarations _ _ (same_from_end _ _ _ _ _ _ _ (none_left c.loop-name.named.entries c.in_default.ensures.variant.1)
+    c.reverse.ensures.items c.loop-name.invariant.0)
 
 -- each declaration is sound
 pub returns-clause-sound : goal.returns-clause-sound
 returns-clause-sound c =
-    flat_map-each entry_declarations IsSound _ (listed_each _ _ _ _ _ _ c.in-None.ensures.steps.0 c.loop-name.invariant.0)
+    flat_map-each entry_declarations IsSound _ (each_from_end _ _ _ _ _ _ (none_left c.loop-name.named.entries c.in_default.ensures.variant.1)
+    c.loop-name.invariant.0)
 
 -- and so the fragment has no fault
 pub returns-clause-no_fault : goal.returns-clause-no_fault
 returns-clause-no_fault c =
     sound_bag (raw_fragment c.args.fragment)
-    (flat_map-each entry_declarations IsSound _ (listed_each _ _ _ _ _ _ c.in-None.ensures.steps.0 c.loop-name.invariant.0))
+    (flat_map-each entry_declarations IsSound _ (each_from_end _ _ _ _ _ _ (none_left c.loop-name.named.entries c.in_default.ensures.variant.1)
+    c.loop-name.invariant.0))
+
+-- the common types of all are named where they were written
+pub returns-clause-common_types : goal.returns-clause-common_types
+returns-clause-common_types c =
+    flat_map-same (definition_common_names RawName RawName) entry_common_names _ _ (same_from_end _ _ _ _ _ _ _
+    (none_left c.loop-name.named.entries c.in_default.ensures.variant.1) c.reverse.ensures.items c.loop-name.invariant.1)
+
+-- and so are the namespaces
+pub returns-clause-namespaces : goal.returns-clause-namespaces
+returns-clause-namespaces c =
+    flat_map-same (definition_namespaces RawName RawName) entry_namespaces _ _ (same_from_end _ _ _ _ _ _ _
+    (none_left c.loop-name.named.entries c.in_default.ensures.variant.1) c.reverse.ensures.items c.loop-name.invariant.2)

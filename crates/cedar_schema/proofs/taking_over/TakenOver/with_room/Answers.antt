@@ -1,6 +1,6 @@
 use Rattle.std.proofs.Common.{ap, map}
 use Rattle.cedar_schema.specs.Words.{shown_common_type}
-use Rattle.cedar_schema.proofs.taking_over.TakenOver.nothing.Goals as goal
+use Rattle.cedar_schema.proofs.taking_over.TakenOver.with_room.Goals as goal
 
 pub returns : goal.returns
 returns g c = record {
@@ -8,5 +8,5 @@ returns g c = record {
     shown = c.in_ok-built_in.ensures.shown;
     types = ap (map shown_common_type) c.in_ok-built_in.ensures.types;
   };
-  gathered = c.nothing.ensures;
+  gathered = c.in_ok-with_room.ensures;
 }
