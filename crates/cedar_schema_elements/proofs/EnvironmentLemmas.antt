@@ -1,10 +1,8 @@
 -- The environments that are listed for actions are those of the schema.
-use Rattle.std.proofs.Common.{◌≡◌, ◌≢◌, ◌↔◌, ◌+◌, ◌<◌, ℕ, List, [], ◌∷◌, ◌++◌, Some, None, map, ap, sym, subst, ◌∙◌, refl, Contains, AllPairs, append_assoc, arith, get_or, length, take, inl, inr}
-use Rattle.std.proofs.lemmas.List.{append-nil, map-append, map-id, take_more}
+use Rattle.std.proofs.Common.{◌≡◌, ◌≢◌, ◌↔◌, List, [], ◌∷◌, ◌++◌, map, ap, sym, subst, ◌∙◌, refl, Contains, AllPairs, arith, inl, inr}
+use Rattle.std.proofs.lemmas.List.{map-append, map-id}
 use Rattle.std.proofs.lemmas.List.Concat.{flat_map_single}
-use Rattle.std.specs.declared.alloc.Global.{Global}
-use Rattle.std.specs.declared.rc.Rc.{Rc}
-use Rattle.cedar_schema_elements.specs.Words.{ActionKind, AreEnvironmentsOf, ActionEntity, EntityType, EntityUID, Environment, IsRequestOf, PlainName, PlainUid, SchemaAction, SchemaEntityType, Twice, Ty, UnlinkedRequestEnv, ValidatorActionId, action_environments, defined_action, external_action, kind_context, kind_environments, kind_principals, kind_resources, owned_environment, plain_action_entry, schema_with, shared_name, type_name, with_principals, with_resources}
+use Rattle.cedar_schema_elements.specs.Words.{ActionKind, AreEnvironmentsOf, ActionEntity, EntityUID, Environment, IsRequestOf, PlainName, PlainUid, SchemaAction, SchemaEntityType, Twice, Ty, UnlinkedRequestEnv, ValidatorActionId, action_environments, defined_action, external_action, kind_environments, owned_environment, plain_action_entry, schema_with, with_principals, with_resources}
 use Rattle.cedar_below.proofs.Lists.{Contains-preimage}
 use Rattle.cedar_declarations.proofs.OccurrenceLemmas.{Contains-flat_map, Contains-given, Contains-image, Contains-single, Twice-distinct}
 use Rattle.cedar_schema_elements.proofs.GivenLemmas.{all_differ, all_once}
@@ -104,18 +102,6 @@ environments_under entry = kind_environments entry.0 entry.1.kind
 pub of_action : (entry : PlainUid × SchemaAction) (it : Environment) → Contains (environments_under entry) it → it.action ≡ entry.0
 of_action entry it among = sym ((of_kind entry.0 entry.1.kind it).0 among).0
 
--- an action without a context has no environments
-pub without_context : (uid : PlainUid) (kind : ActionKind) → None ≡ kind_context kind → kind_environments uid kind ≡ []
-without_context uid (defined_action principals resources context) none = cc
-without_context uid external_action none = refl
-
--- one with a context has those of its principals and resources
-pub with_context : (uid : PlainUid) (kind : ActionKind) (context : Ty) → Some context ≡ kind_context kind
-    → kind_environments uid kind ≡ with_principals uid context (kind_principals kind) (kind_resources kind)
-with_context uid (defined_action principals resources own) context some =
-    let is : own ≡ context = cc in ap (λ each. with_principals uid each principals resources) is
-with_context uid external_action context some = cc
-
 -- what the actions of a map give are the environments of the schema
 pub are_environments : (entries : List (EntityUID × ValidatorActionId)) (environments : List Environment)
     → environments ≡ action_environments (map plain_action_entry entries)
@@ -129,40 +115,3 @@ are_environments entries environments is once types entities =
       once = all_differ (action_environments (map plain_action_entry entries)) once;
     } in
     rw is made
-
--- entity types that are shared
-abbrev Shared : Type 0
-Shared = List (Rc EntityType Global)
-
--- one more is shared, and the others are left
-pub shared_more : (all : List PlainName) (made after : Shared) (left rest : List EntityType) (ty : EntityType) (one : Rc EntityType Global)
-    → left ≡ ty ∷ rest → after ≡ made ++ one ∷ [] → shared_name one ≡ type_name ty → map shared_name made ++ map type_name left ≡ all
-    → map shared_name after ++ map type_name rest ≡ all
-shared_more all made after left rest ty one is is_after same so_far =
-    ap (λ items. map shared_name items ++ map type_name rest) is_after
-    ∙ (ap (λ names. names ++ map type_name rest) (map-append shared_name made (one ∷ []))
-    ∙ (append_assoc (map shared_name made) (shared_name one ∷ []) (map type_name rest)
-    ∙ (ap (λ name. map shared_name made ++ name ∷ map type_name rest) same
-    ∙ (ap (λ others. map shared_name made ++ map type_name others) (sym is) ∙ so_far))))
-
--- where none is left, all are shared
-pub shared_all : (all : List PlainName) (made : Shared) (left : List EntityType) → left ≡ [] → map shared_name made ++ map type_name left ≡ all
-    → map shared_name made ≡ all
-shared_all all made left nothing so_far =
-    sym (append-nil (map shared_name made)) ∙ (ap (λ others. map shared_name made ++ map type_name others) (sym nothing) ∙ so_far)
-
--- the environments of one more resource are put behind
-pub resources_more : (uid : PlainUid) (context : Ty) (principal : PlainName) (before middle after : List Environment) (types : Shared) (k : ℕ)
-    (one : Rc EntityType Global) → k < length types → one ≡ get_or types k one
-    → after ≡ middle ++ environment uid context principal (shared_name one) ∷ []
-    → middle ≡ before ++ with_resources uid context principal (map shared_name (take k types))
-    → after ≡ before ++ with_resources uid context principal (map shared_name (take (k + 1) types))
-resources_more uid context principal before middle after types k one lt is is_after so_far =
-    let f : Rc EntityType Global → Environment = λ ty. environment uid context principal (shared_name ty) in
-    let given : Shared → List Environment = λ taken. with_resources uid context principal (map shared_name taken) in
-    let more : given (take (k + 1) types) ≡ given (take k types) ++ f one ∷ [] =
-    ap given (take_more types k one lt ∙ ap (λ last. take k types ++ last ∷ []) (sym is))
-    ∙ (ap (map (environment uid context principal)) (map-append shared_name (take k types) (one ∷ []))
-    ∙ map-append (environment uid context principal) (map shared_name (take k types)) (shared_name one ∷ [])) in
-    is_after ∙ (ap (λ items. items ++ f one ∷ []) so_far
-    ∙ (append_assoc before (given (take k types)) (f one ∷ []) ∙ ap (λ items. before ++ items) (sym more)))

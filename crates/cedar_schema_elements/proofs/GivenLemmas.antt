@@ -1,7 +1,7 @@
 -- What items give, one after another, put behind what was there, where no two items give the same.
-use Rattle.std.proofs.Common.{◌≡◌, ◌≢◌, List, [], ◌∷◌, ◌++◌, map, ap, sym, subst, ◌∙◌, refl, inl, inr, arith, append_assoc, Contains, AllPairs}
+use Rattle.std.proofs.Common.{◌≡◌, ◌≢◌, ◌<◌, ◌≤◌, ◌+◌, ℕ, length, get_or, take, List, [], ◌∷◌, ◌++◌, map, ap, sym, subst, ◌∙◌, refl, inl, inr, arith, append_assoc, Contains, AllPairs}
 use Rattle.std.proofs.lemmas.Grind.{flat_map-append}
-use Rattle.std.proofs.lemmas.List.{append-nil, get_or_default, map-append}
+use Rattle.std.proofs.lemmas.List.{append-nil, get_or_default, map-append, take_all, take_more}
 use Rattle.std.proofs.lemmas.List.Kept.{AllPairs-cons}
 use Rattle.std.specs.List.{flat_map}
 use Rattle.cedar_below.proofs.Lists.{Contains-cons}
@@ -119,3 +119,19 @@ pub all_once : {A B K : Type 0} (f : A → List B) (key : A → K) (key_of : B �
 all_once f key key_of keyed once all distinct =
     given_once f key [] all [] (flat_map f all) refl
     (given_each f key [] all key_of keyed all [] once (given_none f key [] all all [] refl refl distinct))
+
+-- what one more of some items gives was put behind what those before it give
+pub taken_more : {A B : Type 0} (f : A → List B) (before middle after : List B) (all : List A) (k : ℕ) (d : A) → k < length all
+    → after ≡ middle ++ f (get_or all k d) → middle ≡ before ++ flat_map f (take k all) → after ≡ before ++ flat_map f (take (k + 1) all)
+taken_more f before middle after all k d lt is_after so_far =
+    let one = get_or all k d in
+    let more : flat_map f (take (k + 1) all) ≡ flat_map f (take k all) ++ f one =
+    ap (flat_map f) (take_more all k d lt) ∙ (flat_map-append f (take k all) (one ∷ [])
+    ∙ ap (λ items. flat_map f (take k all) ++ items) (append-nil (f one))) in
+    is_after ∙ (ap (λ items. items ++ f one) so_far
+    ∙ (append_assoc before (flat_map f (take k all)) (f one) ∙ ap (λ items. before ++ items) (sym more)))
+
+-- where no more are left, what all of them give was put behind
+pub taken_all : {A B : Type 0} (f : A → List B) (before after : List B) (all : List A) (k : ℕ) → length all ≤ k
+    → after ≡ before ++ flat_map f (take k all) → after ≡ before ++ flat_map f all
+taken_all f before after all k le so_far = so_far ∙ ap (λ taken. before ++ flat_map f taken) (take_all k all le)

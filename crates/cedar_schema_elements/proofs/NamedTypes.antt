@@ -28,7 +28,7 @@ same_type = (entity_type_eq.ghosts).eq
 -- after an insertion a set has the names that it had, and the one that was put in
 module _ (old new : List EntityType) (key : EntityType)
     (updates : (q : EntityType) → list_any (same_type q) new ≡ cond (same_type key q) true (list_any (same_type q) old)) where
-  pub alike_names : (name : PlainName) → Contains (map type_name new) name ↔ Contains (map type_name (old ++ key ∷ [])) name
+  alike_names : (name : PlainName) → Contains (map type_name new) name ↔ Contains (map type_name (old ++ key ∷ [])) name
   alike_names =
       SameItems-types new (old ++ key ∷ [])
       (AnswersAlike-insert entity_type_equal.Laws.laws-law old old new key key (λ q. refl)

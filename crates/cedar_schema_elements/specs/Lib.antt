@@ -3,6 +3,7 @@ pub mod ActionKind
 pub mod EntityTypeKind
 pub mod RequestEnv
 pub mod RequestEnvironments
+pub mod Requests
 pub mod TypeSet
 pub mod Uppers
 pub mod ValidatorActionId

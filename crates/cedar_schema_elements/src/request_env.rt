@@ -1,10 +1,14 @@
 //! The types of requests.
 
-ghost use Rattle.std.specs.Prelude.{◌≡◌, IfOk};
-ghost use Rattle.cedar_schema_elements.specs.RequestEnv.{environment_of, owned_environment};
+ghost use Rattle.std.specs.Prelude.{◌<◌, length};
+ghost use Rattle.cedar_schema_elements.specs.Requests.{requested_principals, requested_resources};
 
+use crate::action_kind::AppliesTo;
+use crate::type_set::TypeSet;
 use cedar_below::{EntityType, EntityUID, M};
 use cedar_types::Type;
+use std::alloc::Global;
+use std::fmt;
 use std::rc::Rc;
 
 /// The types of a request: those of its principal and of its resource, its action, and the type of
@@ -21,30 +25,122 @@ pub struct RequestEnv<'a> {
     pub context: &'a Type,
 }
 
-/// The types of a request that are held apart from the schema which they came from. Each is shared,
-/// since an action has as many environments as pairs of a principal and a resource.
+/// What the environments of an action share.
 #[derive(Debug, Drop)]
+pub(crate) struct Requests {
+    pub(crate) action: EntityUID,
+    pub(crate) applies_to: Rc<AppliesTo>,
+    pub(crate) context: Type,
+}
+
+/// The types of a request that are held apart from the schema which they came from. An action has
+/// as many environments as pairs of a principal and a resource, so they share what the action is
+/// for, and each knows the places of its principal and of its resource there.
 pub struct UnlinkedRequestEnv {
-    /// The entity type of the principal.
-    pub principal: Rc<EntityType>,
-    /// The action.
-    pub action: Rc<EntityUID>,
-    /// The entity type of the resource.
-    pub resource: Rc<EntityType>,
-    /// The type of the context.
-    pub context: Rc<Type>,
+    requests: Rc<Requests>,
+    principal: usize,
+    resource: usize,
+    ghost principal_is_there: { principal < length (requested_principals requests.value) },
+    ghost resource_is_there: { resource < length (requested_resources requests.value) },
+}
+
+// Written out: proofs of what holds environments then see one call, and nothing of their parts.
+impl Drop for UnlinkedRequestEnv {
+    fn drop(self) {
+        let UnlinkedRequestEnv {
+            requests: _requests,
+            principal: _principal,
+            resource: _resource,
+        } = self;
+    }
 }
 
 impl UnlinkedRequestEnv {
+    ghost use Rattle.std.specs.Prelude.{◌≡◌, ◌<◌, IfOk, length};
+    ghost use Rattle.cedar_schema_elements.specs.Words.{environment_at, environment_of, owned_environment, requested_principals, requested_resources, ty_of, type_name, uid_of};
+
+    /// The types of one request. Out of memory is the only refusal.
+    pub fn new(
+        alloc: Global,
+        principal: EntityType,
+        action: EntityUID,
+        resource: EntityType,
+        context: Type,
+    ) -> M<Self>
+        ensures principal { IfOk result (λ made.
+            (owned_environment made).principal ≡ type_name principal) }
+        ensures action { IfOk result (λ made. (owned_environment made).action ≡ uid_of action) }
+        ensures resource { IfOk result (λ made.
+            (owned_environment made).resource ≡ type_name resource) }
+        ensures context { IfOk result (λ made. (owned_environment made).context ≡ ty_of context) }
+    {
+        let applies_to = AppliesTo {
+            principals: TypeSet::single(alloc, principal)?,
+            resources: TypeSet::single(alloc, resource)?,
+        };
+        let requests = Requests {
+            action,
+            applies_to: Rc::new(alloc, applies_to)?,
+            context,
+        };
+        Ok(UnlinkedRequestEnv {
+            requests: Rc::new(alloc, requests)?,
+            principal: 0,
+            resource: 0,
+        })
+    }
+
+    /// The types of the request whose principal and resource stand at these places.
+    pub(crate) fn at(requests: &Rc<Requests>, principal: usize, resource: usize) -> M<Self>
+        requires principal { principal < length (requested_principals requests.now.value) }
+        requires resource { resource < length (requested_resources requests.now.value) }
+        ensures { IfOk result (λ made. owned_environment made
+            ≡ environment_at requests.now.value principal resource) }
+    {
+        Ok(UnlinkedRequestEnv {
+            requests: requests.clone()?,
+            principal,
+            resource,
+        })
+    }
+
+    /// The entity type of the principal.
+    pub fn principal(&self) -> &EntityType
+        ensures { type_name result.now ≡ (owned_environment self.now).principal }
+    {
+        self.requests.applies_to.principals.at(self.principal)
+    }
+
+    /// The action.
+    pub fn action(&self) -> &EntityUID
+        ensures { uid_of result.now ≡ (owned_environment self.now).action }
+    {
+        &self.requests.action
+    }
+
+    /// The entity type of the resource.
+    pub fn resource(&self) -> &EntityType
+        ensures { type_name result.now ≡ (owned_environment self.now).resource }
+    {
+        self.requests.applies_to.resources.at(self.resource)
+    }
+
+    /// The type of the context.
+    pub fn context(&self) -> &Type
+        ensures { ty_of result.now ≡ (owned_environment self.now).context }
+    {
+        &self.requests.context
+    }
+
     /// The same types, borrowed.
     pub fn as_request_env(&self) -> RequestEnv<'_>
         ensures { environment_of result ≡ owned_environment self.now }
     {
         RequestEnv {
-            principal: &self.principal,
-            action: &self.action,
-            resource: &self.resource,
-            context: &self.context,
+            principal: self.principal(),
+            action: self.action(),
+            resource: self.resource(),
+            context: self.context(),
         }
     }
 
@@ -52,11 +148,17 @@ impl UnlinkedRequestEnv {
     pub fn clone(&self) -> M<Self>
         ensures { IfOk result (λ copy. owned_environment copy ≡ owned_environment self.now) }
     {
-        Ok(UnlinkedRequestEnv {
-            principal: self.principal.clone()?,
-            action: self.action.clone()?,
-            resource: self.resource.clone()?,
-            context: self.context.clone()?,
-        })
+        Self::at(&self.requests, self.principal, self.resource)
+    }
+}
+
+impl fmt::Debug for UnlinkedRequestEnv {
+    fn fmt<W: fmt::Write>(&self, f: &mut fmt::Formatter<W>) -> fmt::Result {
+        f.debug_struct("UnlinkedRequestEnv")
+            .field("principal", self.principal())
+            .field("action", self.action())
+            .field("resource", self.resource())
+            .field("context", self.context())
+            .finish()
     }
 }

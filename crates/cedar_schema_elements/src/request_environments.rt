@@ -1,90 +1,73 @@
 //! The environments of the requests that the actions of a schema are for.
 
-ghost use Rattle.std.specs.Prelude.{◌≡◌, ◌++◌, IfOk, List, OnOk, map};
-ghost use Rattle.cedar_schema_elements.specs.Words.{ActionEntity, AreEnvironmentsOf, PlainName, SchemaEntityType, owned_environment, schema_with, shared_name, ty_of, type_name, uid_of, with_principals, with_resources};
+ghost use Rattle.std.specs.Prelude.{◌≡◌, ◌++◌, ◌<◌, IfOk, IfSome, IfNone, List, OnOk, length, map};
+ghost use Rattle.cedar_schema_elements.specs.Words.{ActionEntity, AreEnvironmentsOf, PlainName, SchemaEntityType, action_of, external_action, kind_environments, kind_of_requests, owned_environment, requested_principals, requested_resources, schema_with, set_name_at, ty_of, uid_of, with_resources};
 
 use crate::action_id::ValidatorActionId;
-use crate::request_env::UnlinkedRequestEnv;
-use crate::type_set::RequestTypes;
-use cedar_below::{EntityType, EntityUID, M};
+use crate::action_kind::ValidatorActionKind;
+use crate::request_env::{Requests, UnlinkedRequestEnv};
+use cedar_below::{EntityUID, M};
 use cedar_table::Table;
-use cedar_types::Type;
 use std::alloc::Global;
 use std::rc::Rc;
 
-/// What the environments of an action share.
-#[derive(Drop)]
-struct Requests {
-    /// The action.
-    action: Rc<EntityUID>,
-    /// The type of the context.
-    context: Rc<Type>,
-}
-
-/// Puts some entity types in place of those that are listed, each shared, in their order.
-fn share_types(alloc: Global, shared: &mut Vec<Rc<EntityType>>, types: RequestTypes<'_>) -> M<()>
-    ensures { OnOk result (map shared_name shared.new.items ≡ map type_name types.entry) }
+/// What the environments of an action share, under this uid. External actions have none.
+fn requests_of(
+    alloc: Global,
+    uid: &EntityUID,
+    action: &ValidatorActionId,
+) -> M<Option<Rc<Requests>>>
+    ensures action { IfOk result (λ found. IfSome found (λ requests.
+        uid_of requests.value.action ≡ uid_of uid.now)) }
+    ensures kind { IfOk result (λ found. IfSome found (λ requests.
+        kind_of_requests requests.value ≡ (action_of action.now).kind)) }
+    ensures external { IfOk result (λ found.
+        IfNone found ((action_of action.now).kind ≡ external_action)) }
 {
-    shared.clear();
-    for ty in types {
-        shared.push(Rc::new(alloc, ty.clone()?)?)?;
+    match &action.parts.kind {
+        ValidatorActionKind::Defined {
+            applies_to,
+            context,
+        } => {
+            let requests = Requests {
+                action: uid.clone()?,
+                applies_to: applies_to.clone()?,
+                context: context.clone()?,
+            };
+            Ok(Some(Rc::new(alloc, requests)?))
+        }
+        ValidatorActionKind::External => Ok(None),
     }
-    Ok(())
 }
 
-/// What the environments of the action of a uid share, where its context has this type.
-fn requests_of(alloc: Global, uid: &EntityUID, context: &Type) -> M<Requests>
-    ensures action { IfOk result (λ requests. uid_of requests.action.value ≡ uid_of uid.now) }
-    ensures context { IfOk result (λ requests. ty_of requests.context.value ≡ ty_of context.now) }
-{
-    Ok(Requests {
-        action: Rc::new(alloc, uid.clone()?)?,
-        context: Rc::new(alloc, context.clone()?)?,
-    })
-}
-
-/// Adds the environments of a principal with each of these resources of an action.
+/// Adds the environments of the principal at a place with each of the resources.
 fn add_resources(
     environments: &mut Vec<UnlinkedRequestEnv>,
-    requests: &Requests,
-    principal: &Rc<EntityType>,
-    resources: &[Rc<EntityType>],
+    requests: &Rc<Requests>,
+    principal: usize,
 ) -> M<()>
+    requires { principal < length (requested_principals requests.now.value) }
     ensures { OnOk result (map owned_environment environments.new.items
         ≡ map owned_environment environments.old.items
-        ++ with_resources (uid_of requests.now.action.value) (ty_of requests.now.context.value)
-        (shared_name principal.now)
-        (map shared_name resources.now)) }
+        ++ with_resources (uid_of requests.now.value.action) (ty_of requests.now.value.context)
+        (set_name_at requests.now.value.applies_to.value.principals principal)
+        (requested_resources requests.now.value)) }
 {
-    for resource in resources {
-        environments.push(UnlinkedRequestEnv {
-            principal: principal.clone()?,
-            action: requests.action.clone()?,
-            resource: resource.clone()?,
-            context: requests.context.clone()?,
-        })?;
+    for resource in 0..requests.applies_to.resources.len() {
+        environments.push(UnlinkedRequestEnv::at(requests, principal, resource)?)?;
     }
     Ok(())
 }
 
-/// Adds the environments of each of these principals of an action with each of these resources,
-/// each once.
-fn add_principals(
-    alloc: Global,
-    environments: &mut Vec<UnlinkedRequestEnv>,
-    requests: &Requests,
-    principals: RequestTypes<'_>,
-    resources: &[Rc<EntityType>],
-) -> M<()>
+/// Adds the environments of each of the principals with each of the resources.
+fn add_principals(environments: &mut Vec<UnlinkedRequestEnv>, requests: &Rc<Requests>) -> M<()>
     ensures { OnOk result (map owned_environment environments.new.items
         ≡ map owned_environment environments.old.items
-        ++ with_principals (uid_of requests.now.action.value) (ty_of requests.now.context.value)
-        (map type_name principals.entry)
-        (map shared_name resources.now)) }
+        ++ kind_environments (uid_of requests.now.value.action)
+        (kind_of_requests requests.now.value)) }
 {
-    for principal in principals {
-        let principal = Rc::new(alloc, principal.clone()?)?;
-        add_resources(environments, requests, &principal, resources)?;
+    for principal in 0..requests.applies_to.principals.len() {
+        add_resources(environments, requests, principal)?;
     }
     Ok(())
 }
@@ -103,13 +86,10 @@ pub fn environments(
         (map owned_environment environments.items)) }
 {
     let mut environments = Vec::with_capacity(alloc, actions.len())?;
-    let mut resources = Vec::new(alloc);
     for (uid, action) in actions {
-        if let Some(context) = action.context() {
-            let requests = requests_of(alloc, uid, context)?;
-            share_types(alloc, &mut resources, action.resources())?;
-            let principals = action.principals();
-            add_principals(alloc, &mut environments, &requests, principals, &resources)?;
+        let found = requests_of(alloc, uid, action)?;
+        if let Some(requests) = found {
+            add_principals(&mut environments, &requests)?;
         }
     }
     Ok(environments)

@@ -1,17 +1,18 @@
 //! Sets of entity types: those of the principals, or of the resources, of an action's requests.
 
-ghost use Rattle.std.specs.Prelude.{◌≡◌, length};
+ghost use Rattle.std.specs.Prelude.{◌≡◌, ⊤, length};
 ghost use Rattle.std.specs.Iterator.{at_most};
 ghost use Rattle.std.specs.Map.Iter.{TakesFirst, deref};
 ghost use Rattle.cedar_types.specs.TypesInOrder.{AreInOrder, AreInOrder-prop as one_order};
 
-use cedar_below::EntityType;
+use cedar_below::{EntityType, M};
+use std::alloc::{AllocError, Global};
 use std::iter::FusedIterator;
 use std::marker::Model;
 use std::slice;
 
-/// Entity types in the order of their names, each once. One of them takes as much memory as its
-/// name does, and a look-up halves them, so names that hash alike are nothing to it.
+/// Entity types in the order of their names, each once. Their names stand in one list, and to look
+/// one up is to halve that list again and again, so names that hash alike cost no more than others.
 ///
 /// Equality is that of sets.
 #[derive(Debug, PartialEq, Eq)]
@@ -28,9 +29,9 @@ impl Drop for TypeSet {
 }
 
 impl TypeSet {
-    ghost use Rattle.std.specs.Prelude.{◌≡◌, ◌↔◌, Contains, IsTrue, map};
-    ghost use Rattle.cedar_types.specs.TypesInOrder.{AreInOrder};
-    ghost use Rattle.cedar_schema_elements.specs.Words.{SameItems, set_names, set_types, type_name};
+    ghost use Rattle.std.specs.Prelude.{◌≡◌, ◌↔◌, ◌<◌, ◌∷◌, [], Contains, IfOk, IsTrue, length, map};
+    ghost use Rattle.std.specs.List.Sorted.{IsStrictlySortedBy};
+    ghost use Rattle.cedar_schema_elements.specs.Words.{SameItems, name_cmp, set_name_at, set_names, set_types, type_name};
 
     /// The set of these entity types.
     pub fn of(types: Vec<EntityType>) -> Self
@@ -42,10 +43,34 @@ impl TypeSet {
         TypeSet { types }
     }
 
+    /// The set of a single entity type. Out of memory is the only refusal.
+    pub(crate) fn single(alloc: Global, ty: EntityType) -> M<Self>
+        ensures { IfOk result (λ set. set_types set ≡ ty ∷ []) }
+    {
+        let mut types = Vec::with_capacity(alloc, 1)?;
+        types.push(ty)?;
+        Ok(TypeSet { types })
+    }
+
+    /// How many entity types the set has.
+    pub(crate) fn len(&self) -> usize
+        ensures { result ≡ length (set_names self.now) }
+    {
+        self.types.len()
+    }
+
+    /// The entity type at a place, counted from zero in the order of the names.
+    pub(crate) fn at(&self, place: usize) -> &EntityType
+        requires { place < length (set_names self.now) }
+        ensures { type_name result.now ≡ set_name_at self.now place }
+    {
+        &self.types[place]
+    }
+
     /// The entity types, in the order of their names, each once.
     pub fn iter(&self) -> RequestTypes<'_>
         ensures types { result ≡ set_types self.now }
-        ensures in_order { AreInOrder (set_types self.now) }
+        ensures in_order { IsStrictlySortedBy name_cmp (map type_name (set_types self.now)) }
     {
         RequestTypes {
             rest: self.types.iter(),
@@ -85,6 +110,19 @@ impl<'a> RequestTypes<'a> {
         ensures { result ≡ [] }
     {
         RequestTypes { rest: [].iter() }
+    }
+}
+
+impl<'a> Clone for RequestTypes<'a> {
+    ghost is_clone = { λ s r. r ≡ s };
+
+    ghost is_infallible = { λ _. ⊤ };
+
+    /// The same entity types that are left. It takes no memory.
+    fn clone(&self) -> Result<RequestTypes<'a>, AllocError> {
+        Ok(RequestTypes {
+            rest: self.rest.clone()?,
+        })
     }
 }
 

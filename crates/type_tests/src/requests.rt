@@ -5,17 +5,13 @@ use cedar_schema_elements::UnlinkedRequestEnv;
 use cedar_types::Type;
 use shorthand::checked::holds;
 use std::alloc::Global;
-use std::rc::Rc;
 use std::test::Fail;
 
 /// The types of requests of a `User` for a `Photo`.
 fn of_users(alloc: Global) -> Result<UnlinkedRequestEnv, Fail> {
-    Ok(UnlinkedRequestEnv {
-        principal: Rc::new(alloc, entity_type(alloc, "User")?)?,
-        action: Rc::new(alloc, uid(alloc, "Action", "view")?)?,
-        resource: Rc::new(alloc, entity_type(alloc, "Photo")?)?,
-        context: Rc::new(alloc, Type::Long)?,
-    })
+    let (user, photo) = (entity_type(alloc, "User")?, entity_type(alloc, "Photo")?);
+    let view = uid(alloc, "Action", "view")?;
+    Ok(UnlinkedRequestEnv::new(alloc, user, view, photo, Type::Long)?)
 }
 
 /// Whether two owners lend the same types.
@@ -27,10 +23,20 @@ fn lend_the_same(one: &UnlinkedRequestEnv, other: &UnlinkedRequestEnv) -> bool {
         && borrowed.context == copied.context
 }
 
+/// Whether an owner lends one by one the types that it lends together.
+fn lends_each(owned: &UnlinkedRequestEnv) -> bool {
+    let borrowed = owned.as_request_env();
+    owned.principal() == borrowed.principal
+        && owned.action() == borrowed.action
+        && owned.resource() == borrowed.resource
+        && owned.context() == borrowed.context
+}
+
 #[test]
 fn the_types_of_a_request_are_copied_and_borrowed(rt: HostRuntime) -> Result<(), Fail> {
     let owned = of_users(rt.alloc())?;
     let copy = owned.clone()?;
     let is_of_longs = *copy.as_request_env().context == Type::Long;
-    holds(lend_the_same(&owned, &copy) && is_of_longs, "a copy")
+    holds(lend_the_same(&owned, &copy) && is_of_longs, "a copy")?;
+    holds(lends_each(&copy), "each type of a copy")
 }

@@ -79,7 +79,7 @@ fn of_entities(alloc: Global, schema: &ValidatorSchema) -> Result<String, Fail> 
 fn of_environments(alloc: Global, schema: &ValidatorSchema) -> M<String> {
     let mut shown = String::new(alloc);
     for it in schema.unlinked_envs_owned() {
-        show(alloc, &mut shown, it.action.loc())?;
+        show(alloc, &mut shown, it.action().loc())?;
     }
     Ok(shown)
 }

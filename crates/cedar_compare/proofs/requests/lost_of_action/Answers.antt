@@ -3,9 +3,10 @@ use Rattle.std.proofs.lemmas.List.Elements.{Contains-get_or}
 use Rattle.std.specs.List.{flat_map}
 use Rattle.std.specs.List.Sorted.{IsStrictlySortedBy}
 use Rattle.std.specs.Option.{option_copied, option_map}
-use Rattle.cedar_compare.specs.Words.{AreActionAnswers, AreAnswers, Difference, EntityType, IsEnvironmentOf, PlainDifference, PlainName, PlainUid, SameItems, Ty, action_of, context_at, kind_principals, kind_resources, name_cmp, new_of, old_of, plain_difference, subjects_with, ty_of, type_name, uid_of}
+use Rattle.cedar_compare.specs.Words.{AreActionAnswers, AreAnswers, Difference, EntityType, IsEnvironmentOf, PlainDifference, PlainName, PlainUid, Ty, action_of, context_at, kind_principals, kind_resources, name_cmp, new_of, old_of, plain_difference, subjects_with, ty_of, type_name, uid_of}
 use Rattle.cedar_compare.proofs.RequestSteps.{action_answers, asked_of, no_answers}
 use Rattle.cedar_declarations.proofs.OccurrenceLemmas.{Contains-image}
+use Rattle.cedar_schema_elements.proofs.TypeSetLemmas.{SameItems-equal}
 use Rattle.cedar_compare.proofs.requests.lost_of_action.Goals as goal
 
 -- the names of some entity types
@@ -27,10 +28,6 @@ result_on P Q (Err fault) on fact = tt
 lent_names : (listed lent : List (Bor EntityType)) (given all : List PlainName) → names listed ≡ given → given ≡ all
     → lent ≡ listed → names lent ≡ all
 lent_names listed lent given all same is shown = ap names shown ∙ (same ∙ is)
-
--- lists that are equal have the same items
-same_items : (ones others : List PlainName) → ones ≡ others → SameItems ones others
-same_items ones others is = let P : List PlainName → Type 0 = SameItems ones in subst P is (λ name. (λ it. it, λ it. it))
 
 pub returns-in_default : goal.returns-in_default
 returns-in_default c =
@@ -95,8 +92,8 @@ lost_with_principals-requires-clause-asked c =
     subst (λ u. P u (ty_of requests.context.now)) (ap uid_of (sym c.in_ok-requests.ensures.uid))
     (subst (λ t. P uid t) (ap ty_of (sym c.in_ok-requests.ensures.context))
     (asked_of extensions old new uid action c.in-Some.ensures ty (sym c.in-Some-context.ensures.ty) (name p) (name r)
-    ((same_items _ _ first (name p)).0 (Contains-image name principals p (Contains-get_or principals k d within)))
-    ((same_items _ _ second (name r)).0 (Contains-image name resources r (Contains-get_or resources k' d' within')))))
+    ((SameItems-equal _ _ first (name p)).0 (Contains-image name principals p (Contains-get_or principals k d within)))
+    ((SameItems-equal _ _ second (name r)).0 (Contains-image name resources r (Contains-get_or resources k' d' within')))))
 
 pub returns : goal.returns
 returns c =
@@ -118,5 +115,5 @@ returns c =
     let Q : Vec Difference Global → Type 0 = λ lost. AreActionAnswers extensions old new uid (map plain_difference lost.items) in
     result_on (P (uid_of requests.uid.now)) Q c.lost_with_principals.result
     (λ lost answers. action_answers extensions old new uid action c.in-Some.ensures c.requires.old_keyed (names principals) (names resources)
-    (map plain_difference lost.items) (same_items _ _ first) (same_items _ _ second) (subst (λ u. P u lost) (ap uid_of c.in_ok-requests.ensures.uid) answers))
+    (map plain_difference lost.items) (SameItems-equal _ _ first) (SameItems-equal _ _ second) (subst (λ u. P u lost) (ap uid_of c.in_ok-requests.ensures.uid) answers))
     c.lost_with_principals.ensures

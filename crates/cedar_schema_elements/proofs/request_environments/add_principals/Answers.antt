@@ -1,26 +1,31 @@
-use Rattle.std.proofs.Common.{◌++◌, List, map, ap, ◌∙◌}
-use Rattle.cedar_schema_elements.specs.Words.{Environment, PlainName, owned_environment, shared_name, ty_of, type_name, uid_of, with_principals, with_resources}
-use Rattle.cedar_schema_elements.proofs.GivenLemmas.{rest_more, rest_none}
+use Rattle.std.proofs.Common.{rules, ◌<◌, ◌≤◌, List, length, map, sym}
+use Rattle.std.proofs.lemmas.List.{append-nil}
+use Rattle.cedar_schema_elements.specs.Words.{Environment, PlainName, Requests, empty_name, owned_environment, requested_principals, requested_resources, ty_of, uid_of, with_resources}
+use Rattle.cedar_schema_elements.proofs.GivenLemmas.{taken_all, taken_more}
 use Rattle.cedar_schema_elements.proofs.request_environments.add_principals.Goals as goal
 
-pub loop-principal-init : goal.loop-principal-init
-loop-principal-init c =
-    ap (λ types. map owned_environment c.args.environments.now.items ++ with_principals (uid_of c.args.requests.now.action.value)
-    (ty_of c.args.requests.now.context.value) (map type_name types) (map shared_name c.args.resources.now))
-    c.into_iter-principal-iterator.ensures.into_iter_gives
+-- what a principal gives
+abbrev given : Requests → PlainName → List Environment
+given requests principal =
+    with_resources (uid_of requests.action) (ty_of requests.context) principal (requested_resources requests)
 
+-- at first no environment is added
+pub loop-principal-init : goal.loop-principal-init
+loop-principal-init c = sym (append-nil (map owned_environment c.args.environments.now.items))
+
+-- one more principal gives its environments
 pub loop-principal-preserved : goal.loop-principal-preserved
 loop-principal-preserved c =
-    let given : PlainName → List Environment = λ principal. with_resources (uid_of c.args.requests.now.action.value) (ty_of c.args.requests.now.context.value) principal
-    (map shared_name c.args.resources.now) in
-    rest_more given _ (map owned_environment c.loop-principal.environments.items) _ _ _ (type_name c.in-Some.principal.now)
-    (ap (map type_name) c.in-Some.ensures.steps)
-    (c.in_ok-add_resources.ensures ∙ ap (λ principal. map owned_environment c.loop-principal.environments.items ++ given principal)
-    (ap type_name c.in_ok-principal.ensures.ok ∙ c.in_ok-clone.ensures.name))
-    c.loop-principal.invariant
+    let requests = c.args.requests.now.value in
+    let below : c.loop-principal.principal < length (requested_principals requests) = search rules in
+    taken_more (given requests) (map owned_environment c.args.environments.now.items)
+    (map owned_environment c.loop-principal.environments.items) _ (requested_principals requests) c.loop-principal.principal empty_name below
+    c.in_ok-add_resources.ensures c.loop-principal.invariant
 
+-- where no principal is left, the environments of all are added
 pub returns : goal.returns
 returns c =
-    let given : PlainName → List Environment = λ principal. with_resources (uid_of c.args.requests.now.action.value) (ty_of c.args.requests.now.context.value) principal
-    (map shared_name c.args.resources.now) in
-    rest_none given _ _ _ (ap (map type_name) c.in-None.ensures.steps.0) c.loop-principal.invariant
+    let requests = c.args.requests.now.value in
+    let all : length (requested_principals requests) ≤ c.loop-principal.principal = search rules in
+    taken_all (given requests) (map owned_environment c.args.environments.now.items) _ (requested_principals requests)
+    c.loop-principal.principal all c.loop-principal.invariant

@@ -1,22 +1,37 @@
-use Rattle.std.proofs.Common.{map, sym}
+use Rattle.std.proofs.Common.{rules, ◌<◌, ◌≤◌, ◌++◌, ap, length, map, sym, ◌∙◌}
 use Rattle.std.proofs.lemmas.List.{append-nil}
-use Rattle.cedar_schema_elements.specs.Words.{owned_environment, shared_name, ty_of, type_name, uid_of}
-use Rattle.cedar_schema_elements.proofs.EnvironmentLemmas.{environment, one_more_shown, resources_more}
+use Rattle.std.proofs.lemmas.List.Concat.{flat_map_single}
+use Rattle.cedar_schema_elements.specs.Words.{empty_name, environment_at, owned_environment, requested_resources, set_name_at, ty_of, uid_of}
+use Rattle.cedar_schema_elements.proofs.EnvironmentLemmas.{environment, one_more_shown, resource_environments}
+use Rattle.cedar_schema_elements.proofs.GivenLemmas.{taken_all, taken_more}
 use Rattle.cedar_schema_elements.proofs.request_environments.add_resources.Goals as goal
 
+-- at first no environment is added
 pub loop-resource-init : goal.loop-resource-init
 loop-resource-init c = sym (append-nil (map owned_environment c.args.environments.now.items))
 
+-- one more resource gives one more environment
 pub loop-resource-preserved : goal.loop-resource-preserved
 loop-resource-preserved c =
-    let uid = uid_of c.args.requests.now.action.value in
-    let context = ty_of c.args.requests.now.context.value in
-    let principal = shared_name c.args.principal.now in
-    let one = environment uid context principal (shared_name c.resource-item.result) in
-    resources_more uid context principal (map owned_environment c.args.environments.now.items)
-    (map owned_environment c.loop-resource.environments.items) _ _ c.loop-resource.resource-index c.resource-item.result
-    c.loop-resource-test.true c.resource-item.is
-    (one_more_shown c.loop-resource.environments.items c.push.new.self.items _ one c.in_ok-push.ensures.items
-    (λ i. environment (uid_of (c.in_ok-clone-2.ensures.cases i)) (ty_of (c.in_ok-clone-4.ensures.cases i))
-    (type_name (c.in_ok-clone.ensures.cases i)) (type_name (c.in_ok-clone-3.ensures.cases i))))
+    let requests = c.args.requests.now.value in
+    let principal = set_name_at requests.applies_to.value.principals c.args.principal in
+    let place = c.loop-resource.resource in
+    let below : place < length (requested_resources requests) = search rules in
+    taken_more (resource_environments (uid_of requests.action) (ty_of requests.context) principal)
+    (map owned_environment c.args.environments.now.items) (map owned_environment c.loop-resource.environments.items) _ (requested_resources requests) place
+    empty_name below
+    (one_more_shown c.loop-resource.environments.items c.push.new.self.items _ (environment_at requests c.args.principal place)
+    c.in_ok-push.ensures.items c.in_ok-at.ensures)
     c.loop-resource.invariant
+
+-- where no resource is left, all are added
+pub returns : goal.returns
+returns c =
+    let requests = c.args.requests.now.value in
+    let principal = set_name_at requests.applies_to.value.principals c.args.principal in
+    let all : length (requested_resources requests) ≤ c.loop-resource.resource = search rules in
+    let before = map owned_environment c.args.environments.now.items in
+    taken_all (resource_environments (uid_of requests.action) (ty_of requests.context) principal) before _
+    (requested_resources requests) c.loop-resource.resource all c.loop-resource.invariant
+    ∙ ap (λ items. before ++ items)
+    (flat_map_single (environment (uid_of requests.action) (ty_of requests.context) principal) (requested_resources requests))

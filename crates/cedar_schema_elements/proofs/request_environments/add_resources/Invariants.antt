@@ -1,9 +1,12 @@
 use Rattle.std.proofs.Common.{◌≡◌, ◌++◌, map, take}
-use Rattle.cedar_schema_elements.specs.Words.{owned_environment, shared_name, ty_of, uid_of, with_resources}
+use Rattle.std.specs.List.{flat_map}
+use Rattle.cedar_schema_elements.specs.Words.{owned_environment, requested_resources, set_name_at, ty_of, uid_of}
+use Rattle.cedar_schema_elements.proofs.EnvironmentLemmas.{resource_environments}
 use Rattle.cedar_schema_elements.proofs.request_environments.add_resources.Given as goal
 
 abbrev pub invariant-loop-resource : goal.invariant-loop-resource
 invariant-loop-resource l =
     map owned_environment l.environments.items ≡ map owned_environment l.initial.environments.items
-    ++ with_resources (uid_of l.requests.action.value) (ty_of l.requests.context.value) (shared_name l.principal)
-    (map shared_name (take l.resource-index l.resources))
+    ++ flat_map (resource_environments (uid_of l.requests.value.action) (ty_of l.requests.value.context)
+    (set_name_at l.requests.value.applies_to.value.principals l.principal))
+    (take l.resource (requested_resources l.requests.value))

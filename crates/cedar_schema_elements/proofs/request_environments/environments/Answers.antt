@@ -1,8 +1,9 @@
-use Rattle.std.proofs.Common.{◌≡◌, ◌++◌, List, [], map, ap, sym, subst, ◌∙◌}
-use Rattle.cedar_schema_elements.specs.Words.{Environment, Twice, action_of, kind_principals, kind_resources, owned_environment, plain_action_entry, shared_name, ty_of, type_name, uid_of, with_principals}
-use Rattle.cedar_schema_elements.proofs.EnvironmentLemmas.{are_environments, environments_under, of_action, pairs_once, with_context, without_context}
+use Rattle.std.proofs.Common.{◌≡◌, ◌++◌, List, [], map, ap, subst, ◌∙◌}
+use Rattle.cedar_schema_elements.specs.Words.{Environment, Twice, action_of, kind_environments, kind_of_requests, owned_environment, plain_action_entry, requested_principals, requested_resources, ty_of, uid_of}
+use Rattle.cedar_schema_elements.proofs.EnvironmentLemmas.{are_environments, environments_under, of_action, pairs_once}
 use Rattle.cedar_schema_elements.proofs.GivenLemmas.{given_all, given_more, given_none, given_nothing, given_once}
 use Rattle.cedar_schema_elements.proofs.KeyLemmas.{uids_once, under}
+use Rattle.cedar_schema_elements.proofs.TypeSetLemmas.{set_once}
 use Rattle.cedar_schema_elements.proofs.request_environments.environments.Goals as goal
 
 -- at first no environment is given, and all actions are left
@@ -14,32 +15,31 @@ loop-uid-init c =
     (uids_once c.args.actions.now.entries c.into_iter-uid-iterator.ensures.into_iter_gives.1)
 
 -- an action that is defined gives each pair of its principals and resources
-pub loop-uid-preserved-in-Some-context : goal.loop-uid-preserved-in-Some-context
-loop-uid-preserved-in-Some-context c =
+pub loop-uid-preserved-in-Some-found : goal.loop-uid-preserved-in-Some-found
+loop-uid-preserved-in-Some-found c =
     let uid = uid_of c.in-Some.uid.now in
-    let kind = (action_of c.in-Some.action.now).kind in
-    let context = ty_of c.in-Some-context.context.now in
-    let all = with_context uid kind context c.in-Some-context.ensures.ty in
-    let same : with_principals (uid_of c.in_ok-requests.requests.action.value) (ty_of c.in_ok-requests.requests.context.value)
-    (map type_name c.principals-principals.result) (map shared_name c.deref.result.now)
-    ≡ with_principals uid context (kind_principals kind) (kind_resources kind) =
-    λ i. with_principals (c.in_ok-requests.ensures.action i) (c.in_ok-requests.ensures.context i) (c.principals-principals.ensures.names i)
-    ((ap (map shared_name) c.deref.ensures.value ∙ (c.in_ok-share_types.ensures ∙ c.resources.ensures.names)) i) in
+    let requests = c.in-Some-found.requests.value in
+    let same : kind_environments (uid_of requests.action) (kind_of_requests requests)
+    ≡ kind_environments uid (action_of c.in-Some.action.now).kind =
+    let same_uid : uid_of requests.action ≡ uid = rw c.in-Some-found.is at c.in_ok-found.ensures.action in
+    let same_kind : kind_of_requests requests ≡ (action_of c.in-Some.action.now).kind =
+    rw c.in-Some-found.is at c.in_ok-found.ensures.kind in
+    λ i. kind_environments (same_uid i) (same_kind i) in
     let AreOnce : List Environment → Type 0 = λ items. (it : Environment) → ¬ Twice items it in
     given_more environments_under under [] (map plain_action_entry c.args.actions.now.entries) (λ it. it.action) of_action _ _ _ _
     (plain_action_entry (c.in-Some.uid.now, c.in-Some.action.now)) (ap (map plain_action_entry) c.in-Some.ensures.steps)
-    (c.in_ok-add_principals.ensures ∙ ap (λ items. map owned_environment c.loop-uid.environments.items ++ items) (same ∙ sym all))
-    (subst AreOnce (sym all) (pairs_once uid context (kind_principals kind) (kind_resources kind) c.principals-principals.ensures.once
-    c.resources.ensures.once)) c.loop-uid.invariant
+    (c.in_ok-add_principals.ensures ∙ ap (λ items. map owned_environment c.loop-uid.environments.items ++ items) same)
+    (subst AreOnce same (pairs_once (uid_of requests.action) (ty_of requests.context) (requested_principals requests)
+    (requested_resources requests) (set_once requests.applies_to.value.principals) (set_once requests.applies_to.value.resources)))
+    c.loop-uid.invariant
 
 -- an action that isn't defined gives none
 pub loop-uid-preserved : goal.loop-uid-preserved
 loop-uid-preserved c =
     let uid = uid_of c.in-Some.uid.now in
-    let kind = (action_of c.in-Some.action.now).kind in
     given_nothing environments_under under [] (map plain_action_entry c.args.actions.now.entries) (λ it. it.action) of_action _ _ _
     (plain_action_entry (c.in-Some.uid.now, c.in-Some.action.now)) (ap (map plain_action_entry) c.in-Some.ensures.steps)
-    (without_context uid kind c.in_default.ensures.ty)
+    (ap (kind_environments uid) (rw c.in_default.is at c.in_ok-found.ensures.external))
     c.loop-uid.invariant
 
 -- where no action is left, the environments of all are given, each once
