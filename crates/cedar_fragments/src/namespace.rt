@@ -4,6 +4,7 @@
 //! full name of what it names. The parameter `A` is the same of the type of an action's parent.
 
 pub use action_def::ActionDef;
+pub use action_type::UnqualifiedActionType;
 pub use actions::{ActionFragment, ActionParent, ActionRequests, ActionsDef};
 pub use common_types::{CommonTypeDef, CommonTypeDefs};
 pub use declared_names::{ActionNames, CommonTypeNames, EntityTypeNames};
@@ -16,6 +17,7 @@ pub use namespaces::Namespaces;
 pub use written::Written;
 
 mod action_def;
+mod action_type;
 mod actions;
 mod as_written;
 mod common_types;

@@ -143,7 +143,7 @@ pub(crate) fn add_fragment<N: WrittenName + Drop>(
 }
 
 /// No declarations, with room for this many entity types and as many actions.
-pub(crate) fn none<N: Drop>(alloc: Global, room: usize) -> M<Declarations<N>>
+pub(crate) fn empty_with_room<N: Drop>(alloc: Global, room: usize) -> M<Declarations<N>>
     ensures common { IfOk result (λ it. it.common_types.items ≡ []) }
     ensures entities { IfOk result (λ it. it.entity_types.items ≡ []) }
     ensures actions { IfOk result (λ it. it.actions.items ≡ []) }

@@ -3,7 +3,7 @@
 ghost use Rattle.std.specs.Prelude.{[], ◌∷◌, ◌++◌, IfOk, List};
 ghost use Rattle.cedar_resolution.specs.Words.{AreGathered, ValidatorSchemaFragment as Fragment};
 
-use crate::collecting::{add_fragment, none};
+use crate::collecting::{add_fragment, empty_with_room};
 use crate::declarations::Declarations;
 use cedar_below::M;
 use cedar_fragments::defs::{NameLists, WrittenName};
@@ -28,7 +28,7 @@ impl<N: WrittenName + Drop> Gathered<N> {
     {
         Ok(Gathered {
             names: NameLists::with_room(alloc, room)?,
-            declarations: none(alloc, room)?,
+            declarations: empty_with_room(alloc, room)?,
         })
     }
 

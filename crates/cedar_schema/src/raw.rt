@@ -8,7 +8,7 @@ use crate::building::{SchemaParts, build_taken_over};
 use crate::taking_over::TakenOver;
 use cedar_below::Extensions;
 use cedar_declarations::SchemaError;
-use cedar_fragments::namespace::ValidatorSchemaFragment;
+use cedar_fragments::namespace::{UnqualifiedActionType, ValidatorSchemaFragment};
 use cedar_names::json_schema::{Fragment, RawName};
 use std::alloc::Global;
 
@@ -32,9 +32,11 @@ pub(crate) fn build_raw(
     ensures keys { IfOk result (λ parts.
         AreKeysLocated parts.entity_types.entries parts.actions.entries) }
 {
+    let unqualified = UnqualifiedActionType::new(alloc)?;
     let mut taken = TakenOver::with_room(alloc, fragments.len())?;
     for fragment in fragments {
-        taken = taken.with(alloc, ValidatorSchemaFragment::as_written(alloc, fragment)?)?;
+        let written = ValidatorSchemaFragment::as_written(alloc, fragment, &unqualified)?;
+        taken = taken.with(alloc, written)?;
     }
     build_taken_over(alloc, taken, extensions)
 }

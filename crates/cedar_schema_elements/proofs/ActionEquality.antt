@@ -47,13 +47,13 @@ same_kind external_action = tt
 -- kinds of actions are equal exactly where they are for the same requests
 pub kinds-Decides : (a b : ValidatorActionKind)
     → Decides ((kind_eq.ghosts).eq a b) (SameActionKind (plain_kind a) (plain_kind b))
-kinds-Decides (variant.Defined a context) (variant.Defined b other) =
-    Decides-like _ (λ both. (both.0.0, both.0.1, both.1)) (λ all. ((all.0, all.1), all.2))
-    (Decides-and _ _ (Decides-and _ _ (type_sets-Decides a.value.principals b.value.principals) (type_sets-Decides a.value.resources b.value.resources))
-    (types-Decides context other))
+kinds-Decides (variant.Defined a) (variant.Defined b) =
+    Decides-like _ (λ both. (both.0, both.1.0, both.1.1)) (λ all. (all.0, (all.1, all.2)))
+    (Decides-and _ _ (type_sets-Decides a.value.principals b.value.principals)
+    (Decides-and _ _ (type_sets-Decides a.value.resources b.value.resources) (types-Decides a.value.context b.value.context)))
 kinds-Decides variant.External variant.External = (λ _. tt, λ _. refl)
-kinds-Decides (variant.Defined a context) variant.External = none (λ e. e)
-kinds-Decides variant.External (variant.Defined b other) = none (λ e. e)
+kinds-Decides (variant.Defined a) variant.External = none (λ e. e)
+kinds-Decides variant.External (variant.Defined b) = none (λ e. e)
 
 -- actions are equal exactly where their uids, their kinds and their descendants are
 pub actions-Same : (a b : ValidatorActionId) → Decides ((action_eq.ghosts).eq a b)

@@ -1,17 +1,14 @@
 use Rattle.std.specs.Prelude.{List, [], Option, Some, None}
-use Rattle.cedar_schema_elements.specs.TypeSet.{set_names}
+use Rattle.cedar_schema_elements.specs.Requests.{kind_of_requests}
 use Rattle.cedar_schema_elements.specs.declared.action_kind.ValidatorActionKind.{ValidatorActionKind}
 use Rattle.cedar_schema_elements.specs.declared.action_kind.ValidatorActionKind.TheVariants as variant
 use Rattle.cedar_below.specs.PlainName.{PlainName}
 use Rattle.cedar_declarations.specs.PlainSchema.{ActionKind, defined_action, external_action}
 use Rattle.cedar_type_rules.specs.Ty.{Ty}
-use Rattle.cedar_types.specs.Meaning.{ty_of}
 
 -- a kind as plain data
 abbrev pub plain_kind : ValidatorActionKind → ActionKind
-plain_kind (variant.Defined applies_to context) =
-    defined_action (set_names applies_to.value.principals) (set_names applies_to.value.resources)
-    (ty_of context)
+plain_kind (variant.Defined requests) = kind_of_requests requests.value
 plain_kind variant.External = external_action
 
 -- the names of the principals that a kind is for; external actions have none

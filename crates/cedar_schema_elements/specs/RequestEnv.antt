@@ -1,13 +1,15 @@
-use Rattle.std.specs.Prelude.{ℕ}
+use Rattle.std.specs.Prelude.{ℕ, Option, Some}
+use Rattle.std.specs.List.{slice_get}
 use Rattle.cedar_below.specs.Words.{type_name, uid_of}
+use Rattle.cedar_below.specs.declared.entity_type.EntityType.{EntityType}
+use Rattle.cedar_below.specs.declared.entity_uid.EntityUID.{EntityUID}
 use Rattle.cedar_declarations.specs.Environments.{Environment}
-use Rattle.cedar_declarations.specs.Words.{ActionKind, defined_action}
-use Rattle.cedar_schema_elements.specs.Requests.{requested_principals, requested_resources}
-use Rattle.cedar_schema_elements.specs.TypeSet.{set_name_at}
+use Rattle.cedar_schema_elements.specs.TypeSet.{set_name_at, set_types}
 use Rattle.cedar_schema_elements.specs.declared.request_env.RequestEnv.{RequestEnv}
-use Rattle.cedar_schema_elements.specs.declared.request_env.Requests.{Requests}
+use Rattle.cedar_schema_elements.specs.declared.action_kind.Requests.{Requests}
 use Rattle.cedar_schema_elements.specs.declared.request_env.UnlinkedRequestEnv.{UnlinkedRequestEnv}
 use Rattle.cedar_types.specs.Meaning.{ty_of}
+use Rattle.cedar_types.specs.declared.types.Type.{«Type»}
 
 -- the types of a request as plain data
 abbrev pub environment_of : RequestEnv → Environment
@@ -18,20 +20,45 @@ environment_of it = record {
   context = ty_of it.context.now;
 }
 
--- the kind of the action that is for these requests
-abbrev pub kind_of_requests : Requests → ActionKind
-kind_of_requests it =
-    defined_action (requested_principals it) (requested_resources it) (ty_of it.context)
-
 -- the types of the request whose principal and resource stand at these places
 abbrev pub environment_at : Requests → ℕ → ℕ → Environment
 environment_at it principal resource = record {
-  principal = set_name_at it.applies_to.value.principals principal;
+  principal = set_name_at it.principals principal;
   action = uid_of it.action;
-  resource = set_name_at it.applies_to.value.resources resource;
+  resource = set_name_at it.resources resource;
   context = ty_of it.context;
 }
 
 -- the types of a request that are held apart from the schema, as plain data
 abbrev pub owned_environment : UnlinkedRequestEnv → Environment
 owned_environment it = environment_at it.requests.value it.principal it.resource
+
+-- the types of a request with where they were written: those of the principal and of the resource,
+-- where there are such, the action, and the type of the context
+pub record LocatedEnvironment : Type 0 where
+  pub principal : Option EntityType
+  pub action : EntityUID
+  pub resource : Option EntityType
+  pub context : «Type»
+
+-- those that are lent
+abbrev pub lent_environment : RequestEnv → LocatedEnvironment
+lent_environment it = record {
+  principal = Some it.principal.now;
+  action = it.action.now;
+  resource = Some it.resource.now;
+  context = it.context.now;
+}
+
+-- those of the request whose principal and resource stand at these places
+abbrev pub located_environment_at : Requests → ℕ → ℕ → LocatedEnvironment
+located_environment_at it principal resource = record {
+  principal = slice_get (set_types it.principals) principal;
+  action = it.action;
+  resource = slice_get (set_types it.resources) resource;
+  context = it.context;
+}
+
+-- those of a request that are held apart from the schema
+abbrev pub located_environment : UnlinkedRequestEnv → LocatedEnvironment
+located_environment it = located_environment_at it.requests.value it.principal it.resource

@@ -1,13 +1,20 @@
--- What the environments of an action share.
+-- What an action is for, and its environments share.
 use Rattle.std.specs.Prelude.{List}
 use Rattle.cedar_below.specs.Words.{PlainName}
+use Rattle.cedar_declarations.specs.PlainSchema.{ActionKind, defined_action}
+use Rattle.cedar_types.specs.Meaning.{ty_of}
 use Rattle.cedar_schema_elements.specs.TypeSet.{set_names}
-use Rattle.cedar_schema_elements.specs.declared.request_env.Requests.{Requests}
+use Rattle.cedar_schema_elements.specs.declared.action_kind.Requests.{Requests}
 
 -- the names of the principals of the requests
 abbrev pub requested_principals : Requests → List PlainName
-requested_principals it = set_names it.applies_to.value.principals
+requested_principals it = set_names it.principals
 
 -- the names of the resources of the requests
 abbrev pub requested_resources : Requests → List PlainName
-requested_resources it = set_names it.applies_to.value.resources
+requested_resources it = set_names it.resources
+
+-- the kind of the action that is for these requests
+abbrev pub kind_of_requests : Requests → ActionKind
+kind_of_requests it =
+    defined_action (requested_principals it) (requested_resources it) (ty_of it.context)

@@ -36,7 +36,7 @@ name_type_loc it = uid_type_loc (parts_of it).name
 
 -- the type of the context of a kind
 abbrev pub borrowed_context : ValidatorActionKind → Option «Type»
-borrowed_context (variant.Defined applies_to context) = Some context
+borrowed_context (variant.Defined requests) = Some requests.value.context
 borrowed_context variant.External = None
 
 -- the type of the context that the action lends: that of a defined one, else none

@@ -25,9 +25,9 @@ pub use Rattle.cedar_fragments.specs.Words.{IsUnresolvable, held_names}
 pub use Rattle.cedar_schema_elements.specs.ActionEntities.{IsEntityOf, Lists, listed_entities, named_values, plain_action_entity, schema_listing, schema_with}
 pub use Rattle.cedar_schema_elements.specs.ActionKind.{kind_context, kind_principals, kind_resources}
 pub use Rattle.cedar_schema_elements.specs.EntityTypeKind.{plain_kind, plain_standard, standard_attributes, standard_tags}
-pub use Rattle.cedar_schema_elements.specs.RequestEnv.{environment_at, environment_of, kind_of_requests, owned_environment}
+pub use Rattle.cedar_schema_elements.specs.RequestEnv.{LocatedEnvironment, environment_at, environment_of, lent_environment, located_environment, located_environment_at, owned_environment}
 pub use Rattle.cedar_schema_elements.specs.RequestEnvironments.{action_environments, kind_environments, with_principals, with_resources}
-pub use Rattle.cedar_schema_elements.specs.Requests.{requested_principals, requested_resources}
+pub use Rattle.cedar_schema_elements.specs.Requests.{kind_of_requests, requested_principals, requested_resources}
 pub use Rattle.cedar_schema_elements.specs.TypeSet.{empty_name, set_name_at, set_names, set_types}
 pub use Rattle.cedar_schema_elements.specs.Uppers.{HasNode, IsUpper, ListsBelow, upper_set}
 pub use Rattle.cedar_schema_elements.specs.ValidatorActionId.{action_loc, action_of, borrowed_context, context_of, name_type_loc, plain_action_entry}
@@ -39,6 +39,6 @@ pub use Rattle.cedar_schema_elements.specs.declared.apply_spec.ValidatorApplySpe
 pub use Rattle.cedar_schema_elements.specs.declared.entity_type.ValidatorEntityType.{ValidatorEntityType}
 pub use Rattle.cedar_schema_elements.specs.declared.entity_type_kind.StandardValidatorEntityType.{StandardValidatorEntityType}
 pub use Rattle.cedar_schema_elements.specs.declared.entity_type_kind.ValidatorEntityTypeKind.{ValidatorEntityTypeKind}
-pub use Rattle.cedar_schema_elements.specs.declared.request_env.Requests.{Requests}
+pub use Rattle.cedar_schema_elements.specs.declared.action_kind.Requests.{Requests}
 pub use Rattle.cedar_schema_elements.specs.declared.request_env.UnlinkedRequestEnv.{UnlinkedRequestEnv}
 pub use Rattle.cedar_schema_elements.specs.declared.type_set.TypeSet.{TypeSet}

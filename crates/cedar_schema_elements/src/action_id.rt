@@ -1,6 +1,6 @@
 //! Actions of a schema.
 
-use crate::action_kind::{AppliesTo, ValidatorActionKind};
+use crate::action_kind::{Requests, ValidatorActionKind};
 use crate::sets::{copied, type_set, uid_set};
 use crate::type_set::{RequestTypes, TypeSet};
 use cedar_below::{EntityType, EntityUID, Loc, M};
@@ -164,13 +164,14 @@ impl ValidatorActionId {
             (λ xs. SameItems (action_of action).descendants (map uid_of xs))) }
         ensures loc { IfOk result (λ action. action_loc action ≡ loc) }
     {
-        let applies_to = AppliesTo {
+        let requests = Requests {
+            action: name.clone()?,
             principals,
             resources,
+            context,
         };
         let kind = ValidatorActionKind::Defined {
-            applies_to: Rc::new(alloc, applies_to)?,
-            context,
+            requests: Rc::new(alloc, requests)?,
         };
         Self::with_kind(alloc, name, descendants, kind, loc)
     }
@@ -235,7 +236,7 @@ impl ValidatorActionId {
         ensures borrowed { option_copied result ≡ context_of self.now }
     {
         match &self.parts.kind {
-            ValidatorActionKind::Defined { context, .. } => Some(context),
+            ValidatorActionKind::Defined { requests } => Some(&requests.context),
             ValidatorActionKind::External => None,
         }
     }
@@ -257,7 +258,7 @@ impl ValidatorActionId {
         ensures in_order { IsStrictlySortedBy name_cmp (kind_principals (action_of self.now).kind) }
     {
         match &self.parts.kind {
-            ValidatorActionKind::Defined { applies_to, .. } => applies_to.principals.iter(),
+            ValidatorActionKind::Defined { requests } => requests.principals.iter(),
             ValidatorActionKind::External => RequestTypes::none(),
         }
     }
@@ -270,7 +271,7 @@ impl ValidatorActionId {
         ensures in_order { IsStrictlySortedBy name_cmp (kind_resources (action_of self.now).kind) }
     {
         match &self.parts.kind {
-            ValidatorActionKind::Defined { applies_to, .. } => applies_to.resources.iter(),
+            ValidatorActionKind::Defined { requests } => requests.resources.iter(),
             ValidatorActionKind::External => RequestTypes::none(),
         }
     }
@@ -301,7 +302,7 @@ impl ValidatorActionId {
             (type_name ty.now) }
     {
         match &self.parts.kind {
-            ValidatorActionKind::Defined { applies_to, .. } => applies_to.principals.contains(ty),
+            ValidatorActionKind::Defined { requests } => requests.principals.contains(ty),
             ValidatorActionKind::External => false,
         }
     }
@@ -312,7 +313,7 @@ impl ValidatorActionId {
             (type_name ty.now) }
     {
         match &self.parts.kind {
-            ValidatorActionKind::Defined { applies_to, .. } => applies_to.resources.contains(ty),
+            ValidatorActionKind::Defined { requests } => requests.resources.contains(ty),
             ValidatorActionKind::External => false,
         }
     }

@@ -4,26 +4,58 @@ ghost use Rattle.std.specs.Prelude.{◌≡◌, IfOk};
 ghost use Rattle.cedar_schema_elements.specs.ActionKind.{plain_kind};
 
 use crate::type_set::TypeSet;
-use cedar_below::M;
+use cedar_below::{EntityUID, M};
 use cedar_types::Type;
 use std::rc::Rc;
 
-/// The entity types of the requests that an action is for: each of these principals with each of
-/// these resources.
-#[derive(Debug, Drop, PartialEq, Eq)]
-pub(crate) struct AppliesTo {
+/// The requests that an action is for: each of these principals with each of these resources, whose
+/// context is of this type. Copies of the action share them, and so do their environments.
+///
+/// Equality ignores the action, whose uid an action has besides.
+#[derive_where(Debug, PartialEq, Eq)]
+pub(crate) struct Requests {
+    #[derive_where(skip(EqHashOrd))]
+    pub(crate) action: EntityUID,
     pub(crate) principals: TypeSet,
     pub(crate) resources: TypeSet,
+    pub(crate) context: Type,
+}
+
+// Written out: proofs of what holds requests then see one call, and nothing of their parts.
+impl Drop for Requests {
+    fn drop(self) {
+        let Requests {
+            action: _action,
+            principals: _principals,
+            resources: _resources,
+            context: _context,
+        } = self;
+    }
+}
+
+impl Requests {
+    ghost use Rattle.std.specs.Prelude.{◌≡◌, IfOk};
+    ghost use Rattle.cedar_schema_elements.specs.Words.{kind_of_requests, uid_of};
+
+    /// The same requests under this uid. Out of memory is the only refusal.
+    pub(crate) fn under(&self, uid: &EntityUID) -> M<Self>
+        ensures action { IfOk result (λ it. uid_of it.action ≡ uid_of uid.now) }
+        ensures kind { IfOk result (λ it. kind_of_requests it ≡ kind_of_requests self.now) }
+    {
+        Ok(Requests {
+            action: uid.clone()?,
+            principals: self.principals.clone()?,
+            resources: self.resources.clone()?,
+            context: self.context.clone()?,
+        })
+    }
 }
 
 /// How an action of a schema is declared.
 #[derive(Debug, Drop, PartialEq, Eq)]
 pub(crate) enum ValidatorActionKind {
-    /// By the requests that it is for, and the type of their context.
-    Defined {
-        applies_to: Rc<AppliesTo>,
-        context: Type,
-    },
+    /// By the requests that it is for.
+    Defined { requests: Rc<Requests> },
     /// Elsewhere.
     External,
 }
@@ -34,12 +66,8 @@ impl ValidatorActionKind {
         ensures { IfOk result (λ copy. plain_kind copy ≡ plain_kind self.now) }
     {
         Ok(match self {
-            ValidatorActionKind::Defined {
-                applies_to,
-                context,
-            } => ValidatorActionKind::Defined {
-                applies_to: applies_to.clone()?,
-                context: context.clone()?,
+            ValidatorActionKind::Defined { requests } => ValidatorActionKind::Defined {
+                requests: requests.clone()?,
             },
             ValidatorActionKind::External => ValidatorActionKind::External,
         })

@@ -3,7 +3,7 @@
 ghost use Rattle.std.specs.Prelude.{◌<◌, length};
 ghost use Rattle.cedar_schema_elements.specs.Requests.{requested_principals, requested_resources};
 
-use crate::action_kind::AppliesTo;
+use crate::action_kind::Requests;
 use crate::type_set::TypeSet;
 use cedar_below::{EntityType, EntityUID, M};
 use cedar_types::Type;
@@ -23,14 +23,6 @@ pub struct RequestEnv<'a> {
     pub resource: &'a EntityType,
     /// The type of the context.
     pub context: &'a Type,
-}
-
-/// What the environments of an action share.
-#[derive(Debug, Drop)]
-pub(crate) struct Requests {
-    pub(crate) action: EntityUID,
-    pub(crate) applies_to: Rc<AppliesTo>,
-    pub(crate) context: Type,
 }
 
 /// The types of a request that are held apart from the schema which they came from. An action has
@@ -56,8 +48,8 @@ impl Drop for UnlinkedRequestEnv {
 }
 
 impl UnlinkedRequestEnv {
-    ghost use Rattle.std.specs.Prelude.{◌≡◌, ◌<◌, IfOk, length};
-    ghost use Rattle.cedar_schema_elements.specs.Words.{environment_at, environment_of, owned_environment, requested_principals, requested_resources, ty_of, type_name, uid_of};
+    ghost use Rattle.std.specs.Prelude.{◌≡◌, ◌<◌, IfOk, Some, length};
+    ghost use Rattle.cedar_schema_elements.specs.Words.{environment_at, environment_of, lent_environment, located_environment, located_environment_at, owned_environment, requested_principals, requested_resources, ty_of, type_name, uid_of};
 
     /// The types of one request. Out of memory is the only refusal.
     pub fn new(
@@ -73,14 +65,18 @@ impl UnlinkedRequestEnv {
         ensures resource { IfOk result (λ made.
             (owned_environment made).resource ≡ type_name resource) }
         ensures context { IfOk result (λ made. (owned_environment made).context ≡ ty_of context) }
+        ensures located { IfOk result (λ made. located_environment made
+            ≡ (record {
+              principal = Some principal;
+              action = action;
+              resource = Some resource;
+              context = context;
+            })) }
     {
-        let applies_to = AppliesTo {
-            principals: TypeSet::single(alloc, principal)?,
-            resources: TypeSet::single(alloc, resource)?,
-        };
         let requests = Requests {
             action,
-            applies_to: Rc::new(alloc, applies_to)?,
+            principals: TypeSet::single(alloc, principal)?,
+            resources: TypeSet::single(alloc, resource)?,
             context,
         };
         Ok(UnlinkedRequestEnv {
@@ -94,8 +90,10 @@ impl UnlinkedRequestEnv {
     pub(crate) fn at(requests: &Rc<Requests>, principal: usize, resource: usize) -> M<Self>
         requires principal { principal < length (requested_principals requests.now.value) }
         requires resource { resource < length (requested_resources requests.now.value) }
-        ensures { IfOk result (λ made. owned_environment made
+        ensures types { IfOk result (λ made. owned_environment made
             ≡ environment_at requests.now.value principal resource) }
+        ensures located { IfOk result (λ made. located_environment made
+            ≡ located_environment_at requests.now.value principal resource) }
     {
         Ok(UnlinkedRequestEnv {
             requests: requests.clone()?,
@@ -106,35 +104,40 @@ impl UnlinkedRequestEnv {
 
     /// The entity type of the principal.
     pub fn principal(&self) -> &EntityType
-        ensures { type_name result.now ≡ (owned_environment self.now).principal }
+        ensures name { type_name result.now ≡ (owned_environment self.now).principal }
+        ensures located { (located_environment self.now).principal ≡ Some result.now }
     {
-        self.requests.applies_to.principals.at(self.principal)
+        self.requests.principals.at(self.principal)
     }
 
     /// The action.
     pub fn action(&self) -> &EntityUID
-        ensures { uid_of result.now ≡ (owned_environment self.now).action }
+        ensures uid { uid_of result.now ≡ (owned_environment self.now).action }
+        ensures located { (located_environment self.now).action ≡ result.now }
     {
         &self.requests.action
     }
 
     /// The entity type of the resource.
     pub fn resource(&self) -> &EntityType
-        ensures { type_name result.now ≡ (owned_environment self.now).resource }
+        ensures name { type_name result.now ≡ (owned_environment self.now).resource }
+        ensures located { (located_environment self.now).resource ≡ Some result.now }
     {
-        self.requests.applies_to.resources.at(self.resource)
+        self.requests.resources.at(self.resource)
     }
 
     /// The type of the context.
     pub fn context(&self) -> &Type
-        ensures { ty_of result.now ≡ (owned_environment self.now).context }
+        ensures ty { ty_of result.now ≡ (owned_environment self.now).context }
+        ensures located { (located_environment self.now).context ≡ result.now }
     {
         &self.requests.context
     }
 
     /// The same types, borrowed.
     pub fn as_request_env(&self) -> RequestEnv<'_>
-        ensures { environment_of result ≡ owned_environment self.now }
+        ensures types { environment_of result ≡ owned_environment self.now }
+        ensures located { lent_environment result ≡ located_environment self.now }
     {
         RequestEnv {
             principal: self.principal(),
@@ -146,7 +149,9 @@ impl UnlinkedRequestEnv {
 
     /// The same types, shared. Out of memory is the only refusal.
     pub fn clone(&self) -> M<Self>
-        ensures { IfOk result (λ copy. owned_environment copy ≡ owned_environment self.now) }
+        ensures types { IfOk result (λ copy. owned_environment copy ≡ owned_environment self.now) }
+        ensures located { IfOk result (λ copy.
+            located_environment copy ≡ located_environment self.now) }
     {
         Self::at(&self.requests, self.principal, self.resource)
     }

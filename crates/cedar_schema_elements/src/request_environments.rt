@@ -4,8 +4,8 @@ ghost use Rattle.std.specs.Prelude.{◌≡◌, ◌++◌, ◌<◌, IfOk, IfSome, 
 ghost use Rattle.cedar_schema_elements.specs.Words.{ActionEntity, AreEnvironmentsOf, PlainName, SchemaEntityType, action_of, external_action, kind_environments, kind_of_requests, owned_environment, requested_principals, requested_resources, schema_with, set_name_at, ty_of, uid_of, with_resources};
 
 use crate::action_id::ValidatorActionId;
-use crate::action_kind::ValidatorActionKind;
-use crate::request_env::{Requests, UnlinkedRequestEnv};
+use crate::action_kind::{Requests, ValidatorActionKind};
+use crate::request_env::UnlinkedRequestEnv;
 use cedar_below::{EntityUID, M};
 use cedar_table::Table;
 use std::alloc::Global;
@@ -25,16 +25,11 @@ fn requests_of(
         IfNone found ((action_of action.now).kind ≡ external_action)) }
 {
     match &action.parts.kind {
-        ValidatorActionKind::Defined {
-            applies_to,
-            context,
-        } => {
-            let requests = Requests {
-                action: uid.clone()?,
-                applies_to: applies_to.clone()?,
-                context: context.clone()?,
-            };
-            Ok(Some(Rc::new(alloc, requests)?))
+        ValidatorActionKind::Defined { requests } => {
+            if requests.action == *uid {
+                return Ok(Some(requests.clone()?));
+            }
+            Ok(Some(Rc::new(alloc, requests.under(uid)?)?))
         }
         ValidatorActionKind::External => Ok(None),
     }
@@ -50,10 +45,10 @@ fn add_resources(
     ensures { OnOk result (map owned_environment environments.new.items
         ≡ map owned_environment environments.old.items
         ++ with_resources (uid_of requests.now.value.action) (ty_of requests.now.value.context)
-        (set_name_at requests.now.value.applies_to.value.principals principal)
+        (set_name_at requests.now.value.principals principal)
         (requested_resources requests.now.value)) }
 {
-    for resource in 0..requests.applies_to.resources.len() {
+    for resource in 0..requests.resources.len() {
         environments.push(UnlinkedRequestEnv::at(requests, principal, resource)?)?;
     }
     Ok(())
@@ -66,7 +61,7 @@ fn add_principals(environments: &mut Vec<UnlinkedRequestEnv>, requests: &Rc<Requ
         ++ kind_environments (uid_of requests.now.value.action)
         (kind_of_requests requests.now.value)) }
 {
-    for principal in 0..requests.applies_to.principals.len() {
+    for principal in 0..requests.principals.len() {
         add_resources(environments, requests, principal)?;
     }
     Ok(())

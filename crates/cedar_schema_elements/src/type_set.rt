@@ -29,7 +29,8 @@ impl Drop for TypeSet {
 }
 
 impl TypeSet {
-    ghost use Rattle.std.specs.Prelude.{◌≡◌, ◌↔◌, ◌<◌, ◌∷◌, [], Contains, IfOk, IsTrue, length, map};
+    ghost use Rattle.std.specs.Prelude.{◌≡◌, ◌↔◌, ◌<◌, ◌∷◌, [], Contains, IfOk, IsTrue, Some, length, map};
+    ghost use Rattle.std.specs.List.{slice_get};
     ghost use Rattle.std.specs.List.Sorted.{IsStrictlySortedBy};
     ghost use Rattle.cedar_schema_elements.specs.Words.{SameItems, name_cmp, set_name_at, set_names, set_types, type_name};
 
@@ -62,9 +63,21 @@ impl TypeSet {
     /// The entity type at a place, counted from zero in the order of the names.
     pub(crate) fn at(&self, place: usize) -> &EntityType
         requires { place < length (set_names self.now) }
-        ensures { type_name result.now ≡ set_name_at self.now place }
+        ensures name { type_name result.now ≡ set_name_at self.now place }
+        ensures item { slice_get (set_types self.now) place ≡ Some result.now }
     {
         &self.types[place]
+    }
+
+    /// The same entity types. Out of memory is the only refusal.
+    pub(crate) fn clone(&self) -> M<Self>
+        ensures { IfOk result (λ copy. set_names copy ≡ set_names self.now) }
+    {
+        let mut types = Vec::with_capacity(*self.types.allocator(), self.types.len())?;
+        for ty in &self.types {
+            types.push(ty.clone()?)?;
+        }
+        Ok(TypeSet { types })
     }
 
     /// The entity types, in the order of their names, each once.

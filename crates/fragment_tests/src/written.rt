@@ -5,7 +5,7 @@ use crate::qualification::{REFUSED, SETTLED, outcome, resolved, shown_or_refused
 use crate::shown::shown;
 use cedar_declarations::SchemaError;
 use cedar_fragments::defs::AllDefs;
-use cedar_fragments::namespace::ValidatorSchemaFragment;
+use cedar_fragments::namespace::{UnqualifiedActionType, ValidatorSchemaFragment};
 use cedar_names::json_schema::{Fragment, RawName};
 use shorthand::checked::same;
 use shorthand::{fragment_of, sample_extensions};
@@ -46,9 +46,11 @@ fn taken_over(
     alloc: Global,
     written: Vec<Fragment<RawName>>,
 ) -> Result<Vec<ValidatorSchemaFragment<RawName, RawName>>, SchemaError> {
+    let unqualified = UnqualifiedActionType::new(alloc)?;
     let mut fragments = Vec::new(alloc);
     for fragment in written {
-        fragments.push(ValidatorSchemaFragment::as_written(alloc, fragment)?)?;
+        let written = ValidatorSchemaFragment::as_written(alloc, fragment, &unqualified)?;
+        fragments.push(written)?;
     }
     Ok(fragments)
 }
@@ -112,7 +114,8 @@ fn resolved_as_written(alloc: Global, text: &str) -> Result<String, Fail> {
     let mut fragments = written(alloc, &[text])?;
     match fragments.pop() {
         Some(fragment) => {
-            let fragment = ValidatorSchemaFragment::as_written(alloc, fragment)?;
+            let unqualified = UnqualifiedActionType::new(alloc)?;
+            let fragment = ValidatorSchemaFragment::as_written(alloc, fragment, &unqualified)?;
             let all_defs = AllDefs::single_fragment(alloc, &fragment)?;
             Ok(shown(alloc, fragment.qualify_within(&all_defs)?)?)
         }

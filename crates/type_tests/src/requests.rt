@@ -3,7 +3,7 @@
 use crate::test_values::{entity_type, uid};
 use cedar_schema_elements::UnlinkedRequestEnv;
 use cedar_types::Type;
-use shorthand::checked::holds;
+use shorthand::checked::{holds, same};
 use std::alloc::Global;
 use std::test::Fail;
 
@@ -32,11 +32,31 @@ fn lends_each(owned: &UnlinkedRequestEnv) -> bool {
         && owned.context() == borrowed.context
 }
 
+/// The types that an owner lends one by one, in words.
+fn words_of(alloc: Global, owned: &UnlinkedRequestEnv) -> Result<String, Fail> {
+    let (principal, action) = (owned.principal(), owned.action());
+    let (resource, context) = (owned.resource(), owned.context());
+    Ok(format!(in alloc; "{principal} {action} {resource} {context}")?)
+}
+
 #[test]
 fn the_types_of_a_request_are_copied_and_borrowed(rt: HostRuntime) -> Result<(), Fail> {
-    let owned = of_users(rt.alloc())?;
+    let alloc = rt.alloc();
+    let owned = of_users(alloc)?;
     let copy = owned.clone()?;
-    let is_of_longs = *copy.as_request_env().context == Type::Long;
-    holds(lend_the_same(&owned, &copy) && is_of_longs, "a copy")?;
-    holds(lends_each(&copy), "each type of a copy")
+    holds(lend_the_same(&owned, &copy), "a copy")?;
+    holds(lends_each(&copy), "each type of a copy")?;
+    same(
+        "a copy",
+        &words_of(alloc, &copy)?,
+        r#"User Action::"view" Photo Long"#,
+    )
+}
+
+#[test]
+fn the_types_of_a_request_print_as_they_are_lent(rt: HostRuntime) -> Result<(), Fail> {
+    let alloc = rt.alloc();
+    let owned = of_users(alloc)?;
+    let lent = format!(in alloc; "Unlinked{:?}", owned.as_request_env())?;
+    same("Debug", &format!(in alloc; "{owned:?}")?, &lent)
 }

@@ -1,5 +1,6 @@
-//! What is written becomes what is declared, by the names that are written. Where nothing is
-//! written, no iterator is made: that of an ordered map is large.
+//! What is written becomes what is declared, by the names that are written. Ordered maps are
+//! emptied from their ends, and what is made of them is turned round at last: an iterator over one
+//! is large.
 
 ghost use Rattle.std.specs.Prelude.{◌≡◌, ◌⊎◌, ◌∷◌, [], IfErr, IfOk, OnOk};
 ghost use Rattle.std.specs.List.{AllByRecursion};
@@ -8,9 +9,8 @@ ghost use Rattle.cedar_fragments.specs.Words.{HasNoDefinitionFault, IsDefinition
 ghost use Rattle.cedar_names.specs.declared.json_schema.raw_name.RawName.{RawName as Raw};
 
 use crate::namespace::action_def::ActionDef;
-use crate::namespace::actions::{
-    ActionFragment, ActionsDef, action_type_name, action_uid, refuse_attributes,
-};
+use crate::namespace::action_type::UnqualifiedActionType;
+use crate::namespace::actions::{ActionFragment, ActionsDef, action_uid, refuse_attributes};
 use crate::namespace::common_types::{CommonTypeDef, CommonTypeDefs};
 use crate::namespace::definition::{ValidatorNamespaceDef, lend};
 use crate::namespace::entity_type_def::EntityTypeDef;
@@ -41,11 +41,6 @@ impl CommonTypeDefs<RawName> {
             located_common_names Raw (common_type_defs Raw it)
             ≡ written_common_names (namespace_name namespace.entry) written.entries) }
     {
-        if written.is_empty() {
-            return Ok(CommonTypeDefs {
-                defs: Vec::new(alloc),
-            });
-        }
         let mut written = written;
         let mut defs = Vec::with_capacity(alloc, written.len())?;
         while let Some((id, common)) = written.pop_last() {
@@ -78,11 +73,6 @@ impl EntityTypesDef<RawName> {
             written.entries) (fault_of error)) }
         ensures no_actions { IfErr result (λ error. NamesNoAttributes (fault_of error)) }
     {
-        if written.is_empty() {
-            return Ok(EntityTypesDef {
-                defs: Vec::new(alloc),
-            });
-        }
         let mut written = written;
         let mut defs = Vec::with_capacity(alloc, written.len())?;
         while let Some((id, declared)) = written.pop_last() {
@@ -101,6 +91,7 @@ impl ActionsDef<RawName, RawName> {
         alloc: Global,
         namespace: Option<&InternalName>,
         written: BTreeMap<String, ActionType<RawName>>,
+        unqualified: &UnqualifiedActionType,
     ) -> Result<Self, SchemaError>
         ensures declarations { IfOk result (λ it.
             action_fragment_declarations Raw (raw_reference (namespace_name namespace.entry)) Raw
@@ -119,15 +110,10 @@ impl ActionsDef<RawName, RawName> {
             (namespace_name namespace.entry) written.entries)
             (namespace_name namespace.entry) (fault_of error)) }
     {
-        if written.is_empty() {
-            return Ok(ActionsDef {
-                defs: Vec::new(alloc),
-            });
-        }
         refuse_attributes(alloc, &written)?;
         let mut written = written;
         let mut defs = Vec::with_capacity(alloc, written.len())?;
-        let ty = action_type_name(alloc, namespace)?;
+        let ty = unqualified.within(alloc, namespace)?;
         while let Some((id, declared)) = written.pop_last() {
             let uid = action_uid(&ty, id, declared.defn_loc)?;
             let fragment = ActionFragment::as_written(alloc, declared)?;
@@ -145,6 +131,7 @@ impl ValidatorNamespaceDef<RawName, RawName> {
         alloc: Global,
         namespace: Option<InternalName>,
         definition: NamespaceDefinition<RawName>,
+        unqualified: &UnqualifiedActionType,
     ) -> Result<Self, SchemaError>
         ensures declarations { IfOk result (λ it. written_definition Raw raw_reference it
             ≡ raw_declarations (option_map name_of namespace) definition) }
@@ -175,7 +162,7 @@ impl ValidatorNamespaceDef<RawName, RawName> {
         let within = lend(&namespace);
         let common_types = CommonTypeDefs::as_written(alloc, within, common_types)?;
         let entity_types = EntityTypesDef::as_written(alloc, within, entity_types)?;
-        let actions = ActionsDef::as_written(alloc, within, actions)?;
+        let actions = ActionsDef::as_written(alloc, within, actions, unqualified)?;
         Ok(ValidatorNamespaceDef {
             namespace,
             common_types,
@@ -188,7 +175,8 @@ impl ValidatorNamespaceDef<RawName, RawName> {
 
 impl ValidatorSchemaFragment<RawName, RawName> {
     /// The fragment over the names that are written, with one definition for each that is written,
-    /// in order, be it empty. What is written is moved, and no type is gone over.
+    /// in order, be it empty. What is written is moved, and no type is gone over. Actions that are
+    /// declared in no namespace share the name of their type.
     ///
     /// It is refused with one of these kinds, also for external declarations:
     ///
@@ -196,7 +184,11 @@ impl ValidatorSchemaFragment<RawName, RawName> {
     ///   one definition, in order
     /// - `ActionEntityTypeDeclared`: an entity type has the id `Action`
     /// - `Memory`: memory ran out
-    pub fn as_written(alloc: Global, fragment: Fragment<RawName>) -> Result<Self, SchemaError>
+    pub fn as_written(
+        alloc: Global,
+        fragment: Fragment<RawName>,
+        unqualified: &UnqualifiedActionType,
+    ) -> Result<Self, SchemaError>
         ensures declarations { IfOk result (λ it.
             written_fragment Raw raw_reference it ≡ raw_fragment fragment) }
         ensures common_types { IfOk result (λ it.
@@ -214,7 +206,12 @@ impl ValidatorSchemaFragment<RawName, RawName> {
         let mut named = fragment.0;
         while let Some((name, written)) = named.pop_last() {
             let namespace = internal_namespace(name);
-            definitions.push(ValidatorNamespaceDef::as_written(alloc, namespace, written)?)?;
+            definitions.push(ValidatorNamespaceDef::as_written(
+                alloc,
+                namespace,
+                written,
+                unqualified,
+            )?)?;
         }
         definitions.reverse();
         Ok(ValidatorSchemaFragment { definitions })

@@ -28,39 +28,39 @@ loop-fragment-init c = (
 )
 
 -- what is refused as it is taken over is a fault of the bag
-pub returns-in_err-as_written-clause-built : goal.returns-in_err-as_written-clause-built
-returns-in_err-as_written-clause-built c =
+pub returns-in_err-written-clause-built : goal.returns-in_err-written-clause-built
+returns-in_err-written-clause-built c =
     let all = c.args.fragments.items in
     let given = c.args.extensions.now in
     let so_far = c.loop-fragment.invariant in
     let among = next_fragment all _ _ so_far.0 c.in-Some.fragment c.in-Some.ensures.steps.0 so_far.1 in
     let fault = refusal_included (raw_fragment c.in-Some.fragment) (raw_bag all) (flat_map-included raw_fragment all c.in-Some.fragment among) _
-    c.in_err-as_written.ensures.fault in
-    let refused = built_from (raw_bag all) given c.requires (Err (fault_of c.in_err-as_written.field-0.0))
+    c.in_err-written.ensures.fault in
+    let refused = built_from (raw_bag all) given c.requires (Err (fault_of c.in_err-written.field-0.0))
     (elim fault [ inl memory ↦ inl memory | inr at_fault ↦ inr (at_fault.1 given) ]) tt tt in
-    let p = err_from_is_err_and c.from_residual-in_err-as_written.result c.from_residual-in_err-as_written.ensures.1 in
+    let p = err_from_is_err_and c.from_residual-in_err-written.result c.from_residual-in_err-written.ensures.1 in
     rw (p.1, p.2) refused
 
 -- and names all actions with attributes of one definition
-pub returns-in_err-as_written-clause-all_named : goal.returns-in_err-as_written-clause-all_named
-returns-in_err-as_written-clause-all_named c =
+pub returns-in_err-written-clause-all_named : goal.returns-in_err-written-clause-all_named
+returns-in_err-written-clause-all_named c =
     let all = c.args.fragments.items in
     let so_far = c.loop-fragment.invariant in
     let among = next_fragment all _ _ so_far.0 c.in-Some.fragment c.in-Some.ensures.steps.0 so_far.1 in
-    exit_holds _ _ _ c.from_residual-in_err-as_written.ensures.1
-    (named_among all c.in-Some.fragment among _ c.in_err-as_written.ensures.all_named)
+    exit_holds _ _ _ c.from_residual-in_err-written.ensures.1
+    (named_among all c.in-Some.fragment among _ c.in_err-written.ensures.all_named)
 
 -- one more keeps its declarations, names and locations
 pub loop-fragment-preserved : goal.loop-fragment-preserved
 loop-fragment-preserved c =
     let so_far = c.loop-fragment.invariant in
-    let written = c.in_ok-as_written in (
-      so_far.0 ++ written.field-0 ∷ [],
-      ListedSoFar-more _ _ _ _ _ _ so_far.0 _ c.in-Some.fragment written.field-0 c.in-Some.ensures.steps.0 refl
+    let written = c.in_ok-written in (
+      so_far.0 ++ written.written ∷ [],
+      ListedSoFar-more _ _ _ _ _ _ so_far.0 _ c.in-Some.fragment written.written c.in-Some.ensures.steps.0 refl
           written.ensures.declarations written.ensures.sound so_far.1,
-      flat_one_more _ _ so_far.0 _ c.loop-fragment.yielded written.field-0 c.in-Some.fragment refl so_far.2
+      flat_one_more _ _ so_far.0 _ c.loop-fragment.yielded written.written c.in-Some.fragment refl so_far.2
           written.ensures.common_types,
-      flat_one_more _ _ so_far.0 _ c.loop-fragment.yielded written.field-0 c.in-Some.fragment refl so_far.3
+      flat_one_more _ _ so_far.0 _ c.loop-fragment.yielded written.written c.in-Some.fragment refl so_far.3
           written.ensures.namespaces,
       c.in_ok-taken-2.ensures so_far.0 so_far.4,
     )

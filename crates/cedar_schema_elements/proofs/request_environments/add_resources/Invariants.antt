@@ -8,5 +8,5 @@ abbrev pub invariant-loop-resource : goal.invariant-loop-resource
 invariant-loop-resource l =
     map owned_environment l.environments.items ≡ map owned_environment l.initial.environments.items
     ++ flat_map (resource_environments (uid_of l.requests.value.action) (ty_of l.requests.value.context)
-    (set_name_at l.requests.value.applies_to.value.principals l.principal))
+    (set_name_at l.requests.value.principals l.principal))
     (take l.resource (requested_resources l.requests.value))

@@ -30,7 +30,7 @@ loop-uid-preserved-in-Some-found c =
     (plain_action_entry (c.in-Some.uid.now, c.in-Some.action.now)) (ap (map plain_action_entry) c.in-Some.ensures.steps)
     (c.in_ok-add_principals.ensures ∙ ap (λ items. map owned_environment c.loop-uid.environments.items ++ items) same)
     (subst AreOnce same (pairs_once (uid_of requests.action) (ty_of requests.context) (requested_principals requests)
-    (requested_resources requests) (set_once requests.applies_to.value.principals) (set_once requests.applies_to.value.resources)))
+    (requested_resources requests) (set_once requests.principals) (set_once requests.resources)))
     c.loop-uid.invariant
 
 -- an action that isn't defined gives none

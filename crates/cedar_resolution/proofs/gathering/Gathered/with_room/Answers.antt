@@ -6,7 +6,7 @@ use Rattle.cedar_resolution.proofs.gathering.Gathered.with_room.Goals as goal
 pub returns : goal.returns
 returns g c =
     let names = c.in_ok-with_room.ensures in
-    let declarations = c.in_ok-none.ensures in
+    let declarations = c.in_ok-empty_with_room.ensures in
     let N = g.row.N.Denot in
     let refer = g.N.WrittenName.refer in record {
       names = record {

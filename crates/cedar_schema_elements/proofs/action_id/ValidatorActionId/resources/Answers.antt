@@ -5,11 +5,11 @@ use Rattle.cedar_schema_elements.proofs.action_id.ValidatorActionId.resources.Go
 
 pub returns-in-Defined-clause-once : goal.returns-in-Defined-clause-once
 returns-in-Defined-clause-once c =
-    rw (ap (λ parts. parts.kind) (sym c.deref.ensures) ∙ c.in-Defined.is) (set_once c.in-Defined.applies_to.value.resources)
+    rw (ap (λ parts. parts.kind) (sym c.deref.ensures) ∙ c.in-Defined.is) (set_once c.in-Defined.requests.value.resources)
 
 pub returns-in-Defined-clause-in_order : goal.returns-in-Defined-clause-in_order
 returns-in-Defined-clause-in_order c =
-    rw (ap (λ parts. parts.kind) (sym c.deref.ensures) ∙ c.in-Defined.is) c.in-Defined.applies_to.value.resources.sorted
+    rw (ap (λ parts. parts.kind) (sym c.deref.ensures) ∙ c.in-Defined.is) c.in-Defined.requests.value.resources.sorted
 
 pub returns-in-External-clause-in_order : goal.returns-in-External-clause-in_order
 unfolding IsStrictlySortedBy
