@@ -154,6 +154,21 @@ impl EntityUID {
         self.ty.is_action()
     }
 
+    /// The same uid, as written at the one place, or nowhere, and its type at the other.
+    pub fn with_locs(self, loc: Option<Loc>, type_loc: Option<Loc>) -> Self
+        ensures uid { uid_of result ≡ uid_of self }
+        ensures loc { uid_loc result ≡ loc }
+        ensures type_loc { uid_type_loc result ≡ type_loc }
+        ensures shared { is_uid_shared result ≡ is_uid_shared self }
+    {
+        let EntityUID { ty, eid, loc: _ } = self;
+        EntityUID {
+            ty: ty.with_loc(type_loc),
+            eid,
+            loc,
+        }
+    }
+
     /// An equal uid with the same locations, its own and its type's. What is shared of a uid is
     /// shared with its copy. Out of memory is the only refusal.
     pub fn clone(&self) -> M<Self>

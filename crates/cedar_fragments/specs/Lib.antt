@@ -1,4 +1,5 @@
 pub mod ActionDeclarations
+pub mod ActionTypeName
 pub mod DeclaredAs
 pub mod DefinitionFault
 pub mod DefinitionsPairwise

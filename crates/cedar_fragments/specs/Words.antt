@@ -24,6 +24,7 @@ pub use Rattle.cedar_names.specs.declared.json_schema.type_of.TypeOfAttribute.{T
 pub use Rattle.cedar_names.specs.declared.json_schema.type_of.TypeVariant.{Boolean, EntityOrCommon, Extension, Long, Record, Set, TypeVariant}
 pub use Rattle.cedar_declarations.specs.Words.{Bag, Fault, HasAttributes, HasToResolve, IsDefined, IsEntityTypePosition, IsFault, IsFirst, IsPrincipalOrResource, IsUnresolved, MembersRefer, Names, NamesAction, NamesNoAction, PositionsFit, Refers, Resolves, ResolvesBag, ResolvesBody, ResolvesDeclaration, ResolvesEntityBody, ResolvesMembers, ResolvesParent, ResolvesReference, ResolvesRequests, ResolvesTags, ResolvesTo, ShadowsAction, ShadowsType, action_attributes, action_entity_type, action_in, action_not_defined, action_uids, carried_action, common_in, declared_actions, declared_common, declared_entities, declared_name, declared_uid, entity_in, entity_parents, fault_of, out_of_memory, qualify_fault, reference_to_one, reserved_name, resolved_expr, resolved_record, resolved_reference, resolved_variant, resolves_extension, resolves_long, resolves_member, resolves_named, resolves_no_member, resolves_record, resolves_set, resolves_text, resolves_truth, type_not_defined}
 pub use Rattle.cedar_fragments.specs.ActionDeclarations.{action_fragment_body, action_fragment_declaration, action_fragment_declarations, fragment_parent, fragment_requests}
+pub use Rattle.cedar_fragments.specs.ActionTypeName.{unqualified_action_type}
 pub use Rattle.cedar_fragments.specs.DeclaredAs.{declared_action, declared_as, name_of_parts, namespace_of, within_part}
 pub use Rattle.cedar_fragments.specs.DefinitionFault.{GivesNoCause, HasNoDefinitionFault, IsDefinitionFault, IsEntityTypeNameFault, IsSound, NamesAllWithAttributes, NamesNoAttributes}
 pub use Rattle.cedar_fragments.specs.DefinitionsPairwise.{conditional_pairwise, entry_declarations, entry_namespace, located_namespace, located_namespaces, locs_pairwise, raw_located_namespaces, raw_pairwise, resolved_in_turn, written_pairwise}

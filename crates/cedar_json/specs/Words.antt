@@ -18,7 +18,7 @@ pub use Rattle.cedar_names.specs.declared.json_schema.type_of.TypeOfAttribute.{T
 pub use Rattle.cedar_declarations.specs.declared.schema_error.SchemaError.{SchemaError}
 pub use Rattle.cedar_json.specs.ActionFormat.{WrittenAction, WrittenParent, action_by, action_of, optional, pairs_in, parent_by, parent_of, parents_of, requests_by, requests_of, unless_null, written_action, written_pairs, written_parent, written_requests}
 pub use Rattle.cedar_json.specs.CedarExtensions.{Signature, cedar_function, cedar_type_names, signature, signatures, unqualified}
-pub use Rattle.cedar_json.specs.DefinitionFormat.{IsEntryPut, WrittenDefinition, WrittenFragment, actions_in, common_key, common_type_of, common_types_in, definition_by, definition_of, entity_types_in, entries_in, entries_of, fragment_of, id_key, namespace_key, written_actions, written_common_types, written_definition, written_entity_types, written_fragment, written_namespaces}
+pub use Rattle.cedar_json.specs.DefinitionFormat.{IsEntryPut, WrittenDefinition, WrittenFragment, actions_in, common_key, common_type_of, common_types_in, definition_by, definition_of, entity_types_in, entries_in, entries_of, fragment_of, id_key, namespace_key, written_actions, written_common_types, written_definition, written_entity_types, written_fragment}
 pub use Rattle.cedar_json.specs.EntityFormat.{WrittenEntity, at_least_one, body_by, choices_in, empty_record, entity_by, entity_of, entity_reference, parents_in, references_in, shape_in, standard_by, standard_of, tags_in, written_entity, written_kind}
 pub use Rattle.cedar_json.specs.ExtensionRows.{AreKinds, AreNames, AreRows, IsKind, IsRow, SpellsName, inserted, kind_type, row_signature}
 pub use Rattle.cedar_json.specs.Fields.{IsOther, annotations_fit, are_annotations, flag_or, further_fields, has_only, is_among, is_text_or_null, keys_among, known_fields, nth_member, own_fields, text_held, texts_of, type_fields, type_word}
@@ -31,12 +31,12 @@ unfoldable pub use Rattle.cedar_json.specs.Place.{IsFaultAt}
 pub use Rattle.cedar_json.specs.Reading.{IsPutUnder, IsReadFrom, IsReadWhere, IsSeenFrom}
 pub use Rattle.cedar_json.specs.RefusalPlace.{IsAttributedAction, IsAttributedPlace, IsExtensionType, IsFirstPlace, IsPlaceOf, IsSecondPlaceOf, IsShadowedPlace, IsSought}
 pub use Rattle.cedar_json.specs.Repeats.{IsRepeatIn, IsRepeated}
-pub use Rattle.cedar_json.specs.Table.{action_marks, common_type_marks, definition_marks, entity_type_marks, fragment_marks, full_name, kind_marks, namespace_of, requests_marks}
+pub use Rattle.cedar_json.specs.Table.{definition_marks, fragment_marks, full_name, kind_marks, namespace_of, requests_marks}
 pub use Rattle.cedar_json.specs.TextFormat.{Describes, IsFaultOf, too_long}
 pub use Rattle.cedar_json.specs.TypeFormat.{Attributes, additional_field, attribute_by, attributes_field, element_field, extension_in, if_so, later_field, record_of, reference_in, type_by, type_by_word, type_with}
 unfoldable pub use Rattle.cedar_json.specs.TypeFormat.{attribute_of, attributes_held, attributes_in, attributes_of, element_of, type_of}
 pub use Rattle.cedar_json.specs.TypeMarks.{MarksAt, attribute_marks, attribute_marks_step, record_marks, record_marks_step, type_marks, type_marks_step, variant_marks, variant_marks_step}
-pub use Rattle.cedar_json.specs.ValueFormat.{Pairs, call_by, call_of, object_by, record_of_pairs, sole_held, uid_by, uid_in, written_exprs}
+pub use Rattle.cedar_json.specs.ValueFormat.{Pairs, call_by, call_of, object_by, record_of_pairs, sole_held, uid_by, uid_in}
 unfoldable pub use Rattle.cedar_json.specs.ValueFormat.{argument_of, call_in, first_call, pairs_of, value_of, values_of}
 pub use Rattle.cedar_json.specs.WholeNumber.{are_digits, is_digit, is_long, whole_number}
 pub use Rattle.cedar_json.specs.WrittenName.{if_unreserved, is_reserved, is_unreserved, name_after, name_of_parts, pieces, plain_name_in, spelled_name, with_byte}

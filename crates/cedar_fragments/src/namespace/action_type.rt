@@ -1,7 +1,8 @@
 //! The name of the type of the actions of the empty namespace.
 
 ghost use Rattle.std.specs.Prelude.{◌≡◌, None};
-ghost use Rattle.cedar_fragments.specs.Words.{action_word, name_of, name_within};
+ghost use Rattle.cedar_below.specs.Words.{action_word, name_of};
+ghost use Rattle.cedar_names.specs.Words.{name_within};
 
 use crate::namespace::actions::action_type_name;
 use cedar_below::{InternalName, M};
@@ -24,10 +25,13 @@ impl Drop for UnqualifiedActionType {
 
 impl UnqualifiedActionType {
     ghost use Rattle.std.specs.Prelude.{◌≡◌, IfOk};
-    ghost use Rattle.cedar_fragments.specs.Words.{action_word, name_of, name_within, namespace_name};
+    ghost use Rattle.cedar_fragments.specs.Words.{action_word, name_of, name_within, namespace_name, unqualified_action_type};
 
     /// The name, which is made now. Out of memory is the only refusal.
-    pub fn new(alloc: Global) -> M<Self> {
+    pub fn new(alloc: Global) -> M<Self>
+        ensures { IfOk result (λ it.
+            unqualified_action_type it ≡ name_within None action_word) }
+    {
         Ok(UnqualifiedActionType {
             name: action_type_name(alloc, None)?,
         })

@@ -1,8 +1,8 @@
 //! Actions over names that aren't resolved yet become actions over full names.
 
-ghost use Rattle.std.specs.Prelude.{◌≡◌, IfOk, IfErr, OnOk, MatchOption, Some, map, Contains, string_bytes};
+ghost use Rattle.std.specs.Prelude.{◌≡◌, IfOk, IfErr, IfSome, OnOk, MatchOption, Some, map, Contains, string_bytes};
 ghost use Rattle.std.specs.List.{flat_map};
-ghost use Rattle.cedar_fragments.specs.Words.{HasToResolveFor, HoldsPairwise, IsFirst, IsPrincipalOrResource, IsRequested, IsRequestedIn, IsUnresolvable, IsUnresolvableBag, IsUnresolvableIn, NoneIsReserved, PlainName, ResolvesBag, ResolvesBody, ResolvesParent, ResolvesReference, ResolvesRequests, action, action_fragment_body, action_fragment_declarations, action_fragment_locs, actions_locs, fault_of, fragment_parent, fragment_requests, held_names, name_of, names_of, namespace_name, no_locs, parent_locs, positional_reference, requests_locs, resolved_action_type, resolved_reference, type_name};
+ghost use Rattle.cedar_fragments.specs.Words.{HasToResolveFor, HoldsPairwise, IsFirst, IsPrincipalOrResource, IsRequested, IsRequestedIn, IsUnresolvable, IsUnresolvableBag, IsUnresolvableIn, NoneIsReserved, PlainName, ResolvesBag, ResolvesBody, ResolvesParent, ResolvesReference, ResolvesRequests, StandsWhere, action, action_fragment_body, action_fragment_declarations, action_fragment_locs, actions_locs, fault_of, fragment_parent, fragment_requests, held_names, name_of, names_of, namespace_name, no_locs, parent_locs, positional_reference, requests_locs, resolved_action_type, resolved_reference, uid_loc, uid_of};
 ghost use Rattle.cedar_below.specs.declared.entity_type.EntityType.{EntityType as ActionEntityType};
 ghost use Rattle.cedar_below.specs.declared.internal_name.InternalName.{InternalName as Full};
 ghost use Rattle.cedar_names.specs.declared.json_schema.conditional_name.ConditionalName.{ConditionalName as Conditional};
@@ -12,51 +12,59 @@ use crate::defs::{AllDefs, WrittenName};
 use crate::namespace::action_def::ActionDef;
 use crate::namespace::actions::{ActionFragment, ActionParent, ActionRequests, ActionsDef};
 use crate::namespace::qualify_types::{qualify_entity_types, qualify_type};
-use cedar_below::{Eid, EntityType, EntityUID, InternalName, M, Name, NonEmpty};
+use cedar_below::{Eid, EntityType, EntityUID, InternalName, Loc, M, Name, NonEmpty};
 use cedar_declarations::SchemaError;
-use cedar_names::json_schema::{ActionEntityUID, ConditionalName, ReferenceType};
+use cedar_names::json_schema::ConditionalName;
 
-/// The type of the action that has the id and a type of the name, if there is one: shared with what
-/// declares the action, at the location of the name.
-fn action_type(name: &InternalName, id: &String, all_defs: &AllDefs) -> M<Option<EntityType>>
-    ensures { IfOk result (λ found. MatchOption found
-        (¬ Contains (held_names all_defs.now).actions
-        (record { ty = name_of name.now; eid = string_bytes id.now }))
-        (λ ty. (type_name ty ≡ name_of name.now)
-        × Contains (held_names all_defs.now).actions
-        (record { ty = name_of name.now; eid = string_bytes id.now }))) }
+/// The uid of the action that has the id and a type of the name, if there is one, at the location,
+/// and its type at that of the name. What is shared of the declared uid is shared with it.
+fn shared_uid(
+    name: InternalName,
+    id: &String,
+    loc: Option<Loc>,
+    all_defs: &AllDefs,
+) -> M<Option<EntityUID>>
+    ensures uid { IfOk result (StandsWhere uid_of
+        (record { ty = name_of name; eid = string_bytes id.now })
+        (Contains (held_names all_defs.now).actions
+        (record { ty = name_of name; eid = string_bytes id.now }))) }
+    ensures loc { IfOk result (λ found. IfSome found (λ uid. uid_loc uid ≡ loc)) }
 {
-    let loc = name.loc();
-    let Some(name) = Name::new(name.clone()?) else {
+    let type_loc = name.loc();
+    let Some(name) = Name::new(name) else {
         return Ok(None);
     };
     let uid = EntityUID::new(EntityType::new(name), Eid(id.clone()?), None);
     match all_defs.declared_action(&uid) {
         None => Ok(None),
-        Some(found) => Ok(Some(found.entity_type().clone()?.with_loc(loc))),
+        Some(found) => Ok(Some(found.clone()?.with_locs(loc, type_loc))),
     }
 }
 
-/// The type of the first action that has the id and a type of some names, if there is one.
-pub(crate) fn first_action_type(
-    names: &NonEmpty<InternalName>,
+/// The uid of the first action that has the id and a type of some names, if there is one, at the
+/// location.
+pub(crate) fn first_action(
+    names: NonEmpty<InternalName>,
     id: &String,
+    loc: Option<Loc>,
     all_defs: &AllDefs,
-) -> M<Option<EntityType>>
-    ensures { IfOk result (λ found. MatchOption found
-        ((name : PlainName) → Contains (names_of names.now) name
+) -> M<Option<EntityUID>>
+    ensures uid { IfOk result (λ found. MatchOption found
+        ((name : PlainName) → Contains (names_of names) name
         → ¬ Contains (held_names all_defs.now).actions
         (record { ty = name; eid = string_bytes id.now }))
-        (λ ty. IsFirst (λ name. Contains (held_names all_defs.now).actions
+        (λ uid. IsFirst (λ name. Contains (held_names all_defs.now).actions
         (record { ty = name; eid = string_bytes id.now }))
-        (names_of names.now) (type_name ty))) }
+        (names_of names) (uid_of uid).ty × ((uid_of uid).eid ≡ string_bytes id.now))) }
+    ensures loc { IfOk result (λ found. IfSome found (λ uid. uid_loc uid ≡ loc)) }
 {
-    if let Some(ty) = action_type(&names.head, id, all_defs)? {
-        return Ok(Some(ty));
+    let NonEmpty { head, tail } = names;
+    if let Some(uid) = shared_uid(head, id, loc, all_defs)? {
+        return Ok(Some(uid));
     }
-    for name in &names.tail {
-        if let Some(ty) = action_type(name, id, all_defs)? {
-            return Ok(Some(ty));
+    for name in tail {
+        if let Some(uid) = shared_uid(name, id, loc, all_defs)? {
+            return Ok(Some(uid));
         }
     }
     Ok(None)
@@ -79,20 +87,10 @@ fn qualify_parent<N: WrittenName + Drop>(
         (λ it. fragment_parent N (N.refer (namespace_name namespace.entry)) parent ≡ it)
         (λ reference. ⊥) (fault_of error)) }
 {
-    let ActionParent { id, ty, loc } = parent;
-    let kind = ReferenceType::Entity;
-    let reference = ty.reference_within(all_defs.alloc, kind, namespace)?;
-    match first_action_type(reference.possibilities(), &id, all_defs)? {
-        Some(ty) => Ok(ActionParent { id, ty, loc }),
-        None => Err(SchemaError::ActionNotDefined(NonEmpty {
-            head: ActionEntityUID {
-                id,
-                ty: Some(reference),
-                loc,
-            },
-            tail: Vec::new(all_defs.alloc),
-        })),
-    }
+    let uid = parent.named_within(namespace, all_defs)?;
+    let ty = uid.entity_type().clone()?;
+    let ActionParent { id, ty: _, loc } = parent;
+    Ok(ActionParent { id, ty, loc })
 }
 
 /// The same parents of an action, by the types of the actions that they name.
