@@ -1,8 +1,7 @@
 //! Names with numbers, of what is measured.
 
 use crate::stop::Stop;
-use cedar_schema::below::{EntityType, UnreservedId};
-use cedar_schema::json_schema::RawName;
+use cedar_schema::below::EntityType;
 use std::alloc::Global;
 use std::ops::Range;
 
@@ -20,20 +19,6 @@ pub(crate) const APART: &str = "FloodOf000017771VMgAjaq9";
 /// Some letters with a number after them.
 pub(crate) fn numbered(alloc: Global, letters: &str, number: usize) -> Result<String, Stop> {
     Ok(format!(in alloc; "{letters}{number}")?)
-}
-
-/// The identifier of some letters and a number.
-pub(crate) fn unreserved_id(
-    alloc: Global,
-    letters: &str,
-    number: usize,
-) -> Result<UnreservedId, Stop> {
-    Ok(UnreservedId::from_str(alloc, numbered(alloc, letters, number)?.as_str())?)
-}
-
-/// A reference to the name of some letters and a number.
-pub(crate) fn raw(alloc: Global, letters: &str, number: usize) -> Result<RawName, Stop> {
-    Ok(RawName::from_str(alloc, numbered(alloc, letters, number)?.as_str())?)
 }
 
 /// The entity type of a number.
