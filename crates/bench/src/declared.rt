@@ -2,6 +2,7 @@
 
 use crate::drawn::Drawn;
 use crate::graphs::right_above;
+use crate::names::Letters;
 use crate::stop::Stop;
 use cedar_schema::json_schema::{Fragment, RawName};
 use std::alloc::Global;
@@ -25,12 +26,34 @@ const BEFORE_ACTIONS: &str = "},\"actions\":{";
 /// What stands after the actions of a fragment.
 const END: &str = "}}}";
 
+/// What is declared.
+#[derive(Clone, Copy)]
+pub(crate) enum Declared {
+    /// As many entity types and actions, in one fragment.
+    Whole,
+    /// The same, of which those of every tenth number have another type of attribute.
+    Changed,
+    /// The same as `Whole`, one of each in a fragment.
+    Split,
+    /// As many common types, each another name for the next and the last one for numbers, and an
+    /// entity type with an attribute of the first.
+    CommonChain,
+    /// One action that applies to as many entity types as principals, and to as many others as
+    /// resources.
+    Crossing,
+    /// What `Whole` has, and an action that applies to all entity types as principals and as
+    /// resources.
+    ApplyingToAll,
+    /// As many entity types, each alone, whose names are some letters and a number of eight digits.
+    EightDigits(Letters),
+}
+
 /// A version of a schema.
 #[derive(Clone, Copy)]
 enum Version {
     /// The first.
     First,
-    /// The one in which every tenth number has another type of attributes.
+    /// The one in which every tenth number has another type of attribute.
     Changed,
 }
 
@@ -147,38 +170,16 @@ fn ended(alloc: Global, mut drawn: Drawn) -> Result<Fragment<RawName>, Stop> {
     drawn.read(alloc)
 }
 
-/// The same, as fragments.
-fn alone(alloc: Global, drawn: Drawn) -> Result<Vec<Fragment<RawName>>, Stop> {
-    let mut fragments = Vec::new(alloc);
-    fragments.push(ended(alloc, drawn)?)?;
-    Ok(fragments)
-}
-
 /// As many entity types and actions, as a fragment.
 pub(crate) fn whole_fragment(alloc: Global, count: usize) -> Result<Fragment<RawName>, Stop> {
     ended(alloc, declarations(alloc, 0..count, Version::First))
 }
 
-/// As many entity types and actions, in one fragment.
-pub(crate) fn whole(alloc: Global, count: usize) -> Result<Vec<Fragment<RawName>>, Stop> {
-    alone(alloc, declarations(alloc, 0..count, Version::First))
-}
-
-/// As many entity types and actions, in one fragment. Those of every tenth number have an attribute
-/// of another type than in `whole`, the action in its context.
-pub(crate) fn changed(alloc: Global, count: usize) -> Result<Vec<Fragment<RawName>>, Stop> {
-    alone(alloc, declarations(alloc, 0..count, Version::Changed))
-}
-
 /// The first number of eight digits.
 pub(crate) const FIRST: usize = 10_000_000;
 
-/// As many entity types, each alone, whose names are some letters and a number of eight digits.
-pub(crate) fn eight_digits(
-    alloc: Global,
-    letters: &str,
-    count: usize,
-) -> Result<Vec<Fragment<RawName>>, Stop> {
+/// The text of as many entity types, each alone, of some letters and a number of eight digits.
+fn eight_digits(alloc: Global, letters: &str, count: usize) -> Drawn {
     let mut drawn = Drawn::new(alloc);
     drawn.push_str(BEFORE_ENTITY_TYPES);
     for number in FIRST..FIRST.saturating_add(count) {
@@ -186,22 +187,12 @@ pub(crate) fn eight_digits(
         push_entity_type(&mut drawn, letters, number, 0..0, LONG);
     }
     drawn.push_str(BEFORE_ACTIONS);
-    alone(alloc, drawn)
+    drawn
 }
 
-/// As many entity types and actions, one of each in a fragment.
-pub(crate) fn split(alloc: Global, count: usize) -> Result<Vec<Fragment<RawName>>, Stop> {
-    let mut fragments = Vec::new(alloc);
-    for number in 0..count {
-        let drawn = declarations(alloc, number..number.saturating_add(1), Version::First);
-        fragments.push(ended(alloc, drawn)?)?;
-    }
-    Ok(fragments)
-}
-
-/// As many common types, each another name for the next and the last one for numbers, and an entity
-/// type with an attribute of the first.
-pub(crate) fn chain(alloc: Global, count: usize) -> Result<Vec<Fragment<RawName>>, Stop> {
+/// The text of as many common types in a chain, and of an entity type with an attribute of the
+/// first.
+fn chain(alloc: Global, count: usize) -> Drawn {
     let last = count.saturating_sub(1);
     let mut drawn = Drawn::new(alloc);
     drawn.push_str("{\"\":{\"commonTypes\":{");
@@ -221,25 +212,62 @@ pub(crate) fn chain(alloc: Global, count: usize) -> Result<Vec<Fragment<RawName>
         "{\"type\":\"EntityOrCommon\",\"name\":\"T0\"}",
     );
     drawn.push_str(BEFORE_ACTIONS);
-    alone(alloc, drawn)
+    drawn
 }
 
-/// As many entity types, and an action that applies to all of them as principals and as resources.
-pub(crate) fn applying_to_all(alloc: Global, count: usize) -> Result<Vec<Fragment<RawName>>, Stop> {
+/// The text of as many entity types and actions, and of an action that applies to all of them as
+/// principals and as resources.
+fn applying_to_all(alloc: Global, count: usize) -> Drawn {
     let mut drawn = declarations(alloc, 0..count, Version::First);
     push_comma(&mut drawn, count == 0);
     push_action(&mut drawn, "all", count, 0..count, 0..count, STRING);
-    alone(alloc, drawn)
+    drawn
 }
 
-/// One action that applies to as many entity types as principals, and to as many others as
-/// resources.
-pub(crate) fn crossing(alloc: Global, count: usize) -> Result<Vec<Fragment<RawName>>, Stop> {
+/// The text of one action that applies to as many entity types as principals, and to as many others
+/// as resources.
+fn crossing(alloc: Global, count: usize) -> Drawn {
     let end = count.saturating_mul(2);
     let mut drawn = Drawn::new(alloc);
     drawn.push_str(BEFORE_ENTITY_TYPES);
     push_entity_types(&mut drawn, 0..end, Version::First);
     drawn.push_str(BEFORE_ACTIONS);
     push_action(&mut drawn, "all", count, 0..count, count..end, STRING);
-    alone(alloc, drawn)
+    drawn
+}
+
+/// The text of what is declared in one fragment, but for its end.
+fn text_of(alloc: Global, declared: Declared, count: usize) -> Drawn {
+    match declared {
+        Declared::Whole | Declared::Split => declarations(alloc, 0..count, Version::First),
+        Declared::Changed => declarations(alloc, 0..count, Version::Changed),
+        Declared::CommonChain => chain(alloc, count),
+        Declared::Crossing => crossing(alloc, count),
+        Declared::ApplyingToAll => applying_to_all(alloc, count),
+        Declared::EightDigits(letters) => eight_digits(alloc, letters.text(), count),
+    }
+}
+
+/// As many entity types and actions, one of each in a fragment.
+fn split(alloc: Global, count: usize) -> Result<Vec<Fragment<RawName>>, Stop> {
+    let mut fragments = Vec::new(alloc);
+    for number in 0..count {
+        let of_number = declarations(alloc, number..number.saturating_add(1), Version::First);
+        fragments.push(ended(alloc, of_number)?)?;
+    }
+    Ok(fragments)
+}
+
+/// The fragments of what is declared.
+pub(crate) fn fragments_of(
+    alloc: Global,
+    declared: Declared,
+    count: usize,
+) -> Result<Vec<Fragment<RawName>>, Stop> {
+    if let Declared::Split = declared {
+        return split(alloc, count);
+    }
+    let mut fragments = Vec::new(alloc);
+    fragments.push(ended(alloc, text_of(alloc, declared, count))?)?;
+    Ok(fragments)
 }
