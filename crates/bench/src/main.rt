@@ -9,6 +9,7 @@ use std::{env, io};
 mod by_hand;
 mod command;
 mod declared;
+mod drawn;
 mod graphs;
 mod measured;
 mod memory;

@@ -1,39 +1,37 @@
 //! Names with numbers, of what is measured.
 
 use crate::stop::Stop;
-use cedar_schema::below::{EntityType, UnreservedId};
-use cedar_schema::json_schema::RawName;
+use cedar_schema::below::EntityType;
 use std::alloc::Global;
 use std::ops::Range;
 
-/// Letters with which all names of eight digits after them have one hash, where the seed is that of
-/// a hash map of std: the hasher multiplies what it has by the last sixteen bytes, of which the
-/// first eight are just what makes a factor zero.
-pub(crate) const ALIKE: &str = "FloodOf000017770VMgAjaq9";
+/// Letters, with a number of eight digits after them.
+#[derive(Clone, Copy)]
+pub(crate) enum Letters {
+    /// Those with which all names have one hash, where the seed is that of a hash map of std: the
+    /// hasher multiplies what it has by the last sixteen bytes, of which the first eight are just
+    /// what makes a factor zero.
+    Alike,
+    /// As many, with which they have one hash with the first seed of the tables of schemas.
+    AlikeInTables,
+    /// As many, with which they have unlike ones.
+    Apart,
+}
 
-/// Letters as many, with which they have one hash with the first seed of the tables of schemas.
-pub(crate) const ALIKE_IN_TABLES: &str = "FloodOf000178688m2N1v7BI";
-
-/// Letters as many, with which they have unlike ones.
-pub(crate) const APART: &str = "FloodOf000017771VMgAjaq9";
+impl Letters {
+    /// The letters.
+    pub(crate) fn text(self) -> &'static str {
+        match self {
+            Letters::Alike => "FloodOf000017770VMgAjaq9",
+            Letters::AlikeInTables => "FloodOf000178688m2N1v7BI",
+            Letters::Apart => "FloodOf000017771VMgAjaq9",
+        }
+    }
+}
 
 /// Some letters with a number after them.
 pub(crate) fn numbered(alloc: Global, letters: &str, number: usize) -> Result<String, Stop> {
     Ok(format!(in alloc; "{letters}{number}")?)
-}
-
-/// The identifier of some letters and a number.
-pub(crate) fn unreserved_id(
-    alloc: Global,
-    letters: &str,
-    number: usize,
-) -> Result<UnreservedId, Stop> {
-    Ok(UnreservedId::from_str(alloc, numbered(alloc, letters, number)?.as_str())?)
-}
-
-/// A reference to the name of some letters and a number.
-pub(crate) fn raw(alloc: Global, letters: &str, number: usize) -> Result<RawName, Stop> {
-    Ok(RawName::from_str(alloc, numbered(alloc, letters, number)?.as_str())?)
 }
 
 /// The entity type of a number.

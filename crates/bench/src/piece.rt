@@ -3,27 +3,67 @@
 ghost use Rattle.std.specs.Prelude.{◌≡◌, is_some, map};
 ghost use Rattle.bench.specs.Words.{is_among, piece_name, piece_names};
 
+use crate::declared::Declared;
+use crate::graphs::Shape;
+use crate::names::Letters;
+use cedar_schema::OpenTag;
+use cedar_schema::below::ValidationMode;
+
+/// What is asked of one type.
+#[derive(Clone, Copy)]
+pub(crate) enum OfOne {
+    /// Its text.
+    Print,
+    /// A copy of it.
+    Copy,
+}
+
+/// What is asked of two types.
+#[derive(Clone, Copy)]
+pub(crate) enum OfTwo {
+    /// Whether the first is a subtype of the second.
+    Subtype(ValidationMode),
+    /// Whether they are equal.
+    Equality,
+    /// Whether no value has both.
+    Disjointness,
+    /// Their join.
+    Join(ValidationMode),
+    /// A value that the first has and the second hasn't.
+    Separation,
+}
+
+/// What is asked of a schema.
+#[derive(Clone, Copy)]
+pub(crate) enum OfSchema {
+    /// The environments of its requests.
+    Environments,
+    /// The fragment that it is converted back as.
+    ConvertBack,
+    /// A copy of it.
+    Copy,
+}
+
+/// What is asked of a text that is JSON.
+#[derive(Clone, Copy)]
+pub(crate) enum OfText {
+    /// Its value.
+    Parse,
+    /// The fragment that it describes.
+    Read,
+}
+
 /// A piece of work.
 #[derive(Clone, Copy)]
 pub(crate) enum Piece {
-    /// Strict subtyping of two closed records of as many attributes.
-    SubtypeClosedStrict,
-    /// Permissive subtyping of two closed records of as many attributes.
-    SubtypeClosedPermissive,
-    /// Strict subtyping of two open records of as many attributes.
-    SubtypeOpenStrict,
-    /// Permissive subtyping of two open records of as many attributes.
-    SubtypeOpenPermissive,
+    /// What is asked of two equal records of as many attributes.
+    EqualRecords(OfTwo, OpenTag),
     /// Look-up of one attribute of as many.
     LookUp,
     /// Membership of a value of a record of as many attributes.
     Membership,
-    /// The text of a record of as many attributes.
-    Print,
-    /// Equality of two records of as many attributes.
-    Equality,
-    /// A copy of a record of as many attributes.
-    Copy,
+    /// What is asked of a record of as many attributes.
+    Record(OfOne),
     /// Inclusion of a union in one of as many entity types.
     UnionInclusion,
     /// Disjointness of two unions of as many entity types.
@@ -36,62 +76,41 @@ pub(crate) enum Piece {
     JoinPermissive,
     /// A value of a record of as many attributes that another record hasn't.
     Separation,
-    /// As many entity types and actions, built from one fragment.
-    BuildWhole,
-    /// As many entity types and actions, built from as many fragments.
-    BuildSplit,
-    /// As many common types, each another name for the next.
-    BuildCommonChain,
-    /// A chain of as many entity types closed.
-    CloseChain,
-    /// A ring of as many entity types closed.
-    CloseRing,
-    /// A star of as many entity types closed.
-    CloseStar,
-    /// Trees of as many entity types closed.
-    CloseTrees,
+    /// A schema of as many declarations, built.
+    Build(Declared),
+    /// A graph of as many entity types, closed.
+    Close(Shape),
     /// An entity type and an action looked up among as many of each.
     SchemaLookUp,
     /// An entity type and an action that aren't among them.
     LookUpLacking,
     /// The look-up that `SchemaLookUp` is, in two hash maps of std.
     LookUpHashed,
-    /// An entity type looked up among as many whose names hash alike with a table's first seed.
-    LookUpFlood,
-    /// An entity type looked up among as many with names as long that don't.
-    LookUpApart,
+    /// An entity type looked up among as many whose names begin with the same letters.
+    LookUpLettered(Letters),
     /// The environments of requests of as many principals on as many resources, each looked at.
     Environments,
     /// What is known of the attributes of a union of as many entity types.
     KnownAttributes,
     /// A schema of as many entity types and actions that was put together by hand, validated.
     Validate,
-    /// A schema of as many entity types and actions, converted back as a fragment.
-    ConvertBack,
-    /// One action of as many principals and as many resources, built from one fragment.
-    BuildEnvironments,
-    /// As many entity types whose names hash alike, built from one fragment.
-    BuildFlood,
-    /// As many entity types whose names hash alike with a table's first seed.
-    BuildTableFlood,
-    /// As many entity types with names as long that hash apart.
-    BuildApart,
-    /// A copy of a schema of as many entity types and actions.
-    CopySchema,
-    /// A schema of as many entity types and actions, compared with an equal one.
-    CompareSame,
-    /// The same, compared with one of which every tenth entity type and action is another.
-    CompareChanged,
-    /// As many entity types and actions, built from one fragment: more than a schema is thought to
-    /// have.
-    Scale,
-    /// A fragment of as many entity types and actions as JSON, parsed by the kit.
-    ParseJson,
-    /// The same, read as a fragment.
-    ReadJson,
+    /// What is asked of a schema of as many entity types and actions.
+    Schema(OfSchema),
+    /// A schema of as many entity types and actions, compared with another version.
+    Compare(Declared),
+    /// What is asked of a fragment of as many entity types and actions as JSON.
+    Text(OfText),
     /// The same, written from the fragment.
     WriteJson,
 }
+
+const STRICT: ValidationMode = ValidationMode::Strict;
+
+const PERMISSIVE: ValidationMode = ValidationMode::Permissive;
+
+const CLOSED_RECORD: OpenTag = OpenTag::ClosedAttributes;
+
+const OPEN_RECORD: OpenTag = OpenTag::OpenAttributes;
 
 /// Sizes at which a piece is timed, each with how often a run does it.
 type Sizes = &'static [(usize, u32)];
@@ -129,23 +148,35 @@ pub(crate) type Row = (&'static str, Piece, Sizes);
 
 /// The pieces, in the order in which they are measured.
 const ROWS: &[Row] = &[
-    ("subtype-closed-strict", Piece::SubtypeClosedStrict, QUICK),
     (
-        "subtype-closed-permissive",
-        Piece::SubtypeClosedPermissive,
+        "subtype-closed-strict",
+        Piece::EqualRecords(OfTwo::Subtype(STRICT), CLOSED_RECORD),
         QUICK,
     ),
-    ("subtype-open-strict", Piece::SubtypeOpenStrict, QUICK),
+    (
+        "subtype-closed-permissive",
+        Piece::EqualRecords(OfTwo::Subtype(PERMISSIVE), CLOSED_RECORD),
+        QUICK,
+    ),
+    (
+        "subtype-open-strict",
+        Piece::EqualRecords(OfTwo::Subtype(STRICT), OPEN_RECORD),
+        QUICK,
+    ),
     (
         "subtype-open-permissive",
-        Piece::SubtypeOpenPermissive,
+        Piece::EqualRecords(OfTwo::Subtype(PERMISSIVE), OPEN_RECORD),
         QUICK,
     ),
     ("look-up", Piece::LookUp, CONSTANT),
     ("membership", Piece::Membership, LINEAR),
-    ("print", Piece::Print, LINEAR),
-    ("equality", Piece::Equality, QUICK),
-    ("copy", Piece::Copy, CONSTANT),
+    ("print", Piece::Record(OfOne::Print), LINEAR),
+    (
+        "equality",
+        Piece::EqualRecords(OfTwo::Equality, CLOSED_RECORD),
+        QUICK,
+    ),
+    ("copy", Piece::Record(OfOne::Copy), CONSTANT),
     ("union-inclusion", Piece::UnionInclusion, QUICK),
     ("union-disjointness", Piece::UnionDisjointness, QUICK),
     (
@@ -156,30 +187,38 @@ const ROWS: &[Row] = &[
     ("join-strict", Piece::JoinStrict, LINEAR),
     ("join-permissive", Piece::JoinPermissive, LINEAR),
     ("separation", Piece::Separation, LINEAR),
-    ("build-whole", Piece::BuildWhole, OF_SCHEMAS),
-    ("build-split", Piece::BuildSplit, OF_SCHEMAS),
+    ("build-whole", Piece::Build(Declared::Whole), OF_SCHEMAS),
+    ("build-split", Piece::Build(Declared::Split), OF_SCHEMAS),
     (
         "build-common-chain",
-        Piece::BuildCommonChain,
+        Piece::Build(Declared::CommonChain),
         &[(10, 1000), (1000, 10), (100_000, 1)],
     ),
     (
         "close-chain",
-        Piece::CloseChain,
+        Piece::Close(Shape::Chain),
         &[(50, 200), (150, 20), (500, 2)],
     ),
     (
         "close-ring",
-        Piece::CloseRing,
+        Piece::Close(Shape::Ring),
         &[(30, 500), (100, 50), (300, 5)],
     ),
-    ("close-star", Piece::CloseStar, CLOSED),
-    ("close-trees", Piece::CloseTrees, CLOSED),
+    ("close-star", Piece::Close(Shape::Star), CLOSED),
+    ("close-trees", Piece::Close(Shape::Trees), CLOSED),
     ("schema-look-up", Piece::SchemaLookUp, LOOKED_UP),
     ("look-up-lacking", Piece::LookUpLacking, LOOKED_UP),
     ("look-up-hashed", Piece::LookUpHashed, LOOKED_UP),
-    ("look-up-flood", Piece::LookUpFlood, FLOOD),
-    ("look-up-apart", Piece::LookUpApart, FLOOD),
+    (
+        "look-up-flood",
+        Piece::LookUpLettered(Letters::AlikeInTables),
+        FLOOD,
+    ),
+    (
+        "look-up-apart",
+        Piece::LookUpLettered(Letters::Apart),
+        FLOOD,
+    ),
     (
         "environments",
         Piece::Environments,
@@ -191,25 +230,49 @@ const ROWS: &[Row] = &[
         &[(10, 10_000), (30, 1000), (100, 1000)],
     ),
     ("validate", Piece::Validate, OF_SCHEMAS),
-    ("write-back", Piece::ConvertBack, OF_SCHEMAS),
+    (
+        "write-back",
+        Piece::Schema(OfSchema::ConvertBack),
+        OF_SCHEMAS,
+    ),
     (
         "build-environments",
-        Piece::BuildEnvironments,
+        Piece::Build(Declared::Crossing),
         &[(30, 100), (100, 10), (300, 1), (1000, 1)],
     ),
-    ("build-flood", Piece::BuildFlood, BUILT_FLOOD),
-    ("build-table-flood", Piece::BuildTableFlood, BUILT_FLOOD),
-    ("build-apart", Piece::BuildApart, BUILT_FLOOD),
-    ("copy-schema", Piece::CopySchema, &[(1000, 10), (10_000, 1)]),
-    ("compare-same", Piece::CompareSame, OF_SCHEMAS),
-    ("compare-changed", Piece::CompareChanged, OF_SCHEMAS),
+    (
+        "build-flood",
+        Piece::Build(Declared::EightDigits(Letters::Alike)),
+        BUILT_FLOOD,
+    ),
+    (
+        "build-table-flood",
+        Piece::Build(Declared::EightDigits(Letters::AlikeInTables)),
+        BUILT_FLOOD,
+    ),
+    (
+        "build-apart",
+        Piece::Build(Declared::EightDigits(Letters::Apart)),
+        BUILT_FLOOD,
+    ),
+    (
+        "copy-schema",
+        Piece::Schema(OfSchema::Copy),
+        &[(1000, 10), (10_000, 1)],
+    ),
+    ("compare-same", Piece::Compare(Declared::Whole), OF_SCHEMAS),
+    (
+        "compare-changed",
+        Piece::Compare(Declared::Changed),
+        OF_SCHEMAS,
+    ),
     (
         "scale",
-        Piece::Scale,
+        Piece::Build(Declared::Whole),
         &[(10_000, 1), (30_000, 1), (100_000, 1), (200_000, 1)],
     ),
-    ("parse-json", Piece::ParseJson, JSON),
-    ("read-json", Piece::ReadJson, JSON),
+    ("parse-json", Piece::Text(OfText::Parse), JSON),
+    ("read-json", Piece::Text(OfText::Read), JSON),
     ("write-json", Piece::WriteJson, JSON),
 ];
 

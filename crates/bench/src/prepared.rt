@@ -3,12 +3,10 @@
 ghost use Rattle.cedar_below.specs.Words.{TypeNamesFit, extension_types};
 
 use crate::by_hand::{actions, growing_types, standard_types, uid};
-use crate::declared::{
-    FIRST, applying_to_all, chain, changed, crossing, eight_digits, split, whole, whole_fragment,
-};
+use crate::declared::{Declared, FIRST, fragments_of, whole_fragment};
 use crate::graphs::{Graph, Shape, graph};
-use crate::names::{ALIKE, ALIKE_IN_TABLES, APART, entity_type, lettered, numbered};
-use crate::piece::Piece;
+use crate::names::{Letters, entity_type, lettered, numbered};
+use crate::piece::{OfOne, OfSchema, OfText, OfTwo, Piece};
 use crate::stop::Stop;
 use crate::types::{
     attributes, closed_record, entities, record, record_value, record_with_text, union,
@@ -21,50 +19,6 @@ use cedar_schema::{
 };
 use std::alloc::Global;
 use std::collections::{BTreeMap, HashMap};
-
-/// What is asked of one type.
-#[derive(Clone, Copy)]
-pub(crate) enum OfOne {
-    /// Its text.
-    Print,
-    /// A copy of it.
-    Copy,
-}
-
-/// What is asked of two types.
-#[derive(Clone, Copy)]
-pub(crate) enum OfTwo {
-    /// Whether the first is a subtype of the second.
-    Subtype(ValidationMode),
-    /// Whether they are equal.
-    Equality,
-    /// Whether no value has both.
-    Disjointness,
-    /// Their join.
-    Join(ValidationMode),
-    /// A value that the first has and the second hasn't.
-    Separation,
-}
-
-/// What is asked of a schema.
-#[derive(Clone, Copy)]
-pub(crate) enum OfSchema {
-    /// The environments of its requests.
-    Environments,
-    /// The fragment that it is converted back as.
-    ConvertBack,
-    /// A copy of it.
-    Copy,
-}
-
-/// What is asked of a text that is JSON.
-#[derive(Clone, Copy)]
-pub(crate) enum OfText {
-    /// Its value.
-    Parse,
-    /// The fragment that it describes.
-    Read,
-}
 
 /// What is borrowed by the work, which may be done on it again.
 #[derive(Drop)]
@@ -191,6 +145,11 @@ pub(crate) fn built(
     Ok(ValidatorSchema::from_raw_fragments(alloc, fragments, &no_extensions(alloc))?)
 }
 
+/// The schema of what is declared.
+fn schema_of(alloc: Global, declared: Declared, count: usize) -> Result<ValidatorSchema, Stop> {
+    built(alloc, fragments_of(alloc, declared, count)?)
+}
+
 /// The schema that is put together by hand from entity types and actions.
 fn put_together(
     alloc: Global,
@@ -202,34 +161,34 @@ fn put_together(
 
 /// The environments of an action that applies to each pair of as many entity types.
 fn environments(alloc: Global, count: usize) -> Result<Prepared, Stop> {
-    let schema = built(alloc, applying_to_all(alloc, count)?)?;
+    let schema = schema_of(alloc, Declared::ApplyingToAll, count)?;
     on_borrowed(Borrowed::Schema(OfSchema::Environments, schema))
 }
 
 /// A schema of as many entity types and actions, of which something is asked.
 fn schema_alone(alloc: Global, question: OfSchema, count: usize) -> Result<Prepared, Stop> {
-    let schema = built(alloc, whole(alloc, count)?)?;
+    let schema = schema_of(alloc, Declared::Whole, count)?;
     on_borrowed(Borrowed::Schema(question, schema))
 }
 
-/// A schema of as many entity types and actions, to be compared with that of some fragments.
-fn versions(alloc: Global, count: usize, new: Vec<Fragment<RawName>>) -> Result<Prepared, Stop> {
-    let new = built(alloc, new)?;
-    let old = built(alloc, whole(alloc, count)?)?;
+/// A schema of as many entity types and actions, to be compared with another version.
+fn versions(alloc: Global, new: Declared, count: usize) -> Result<Prepared, Stop> {
+    let new = schema_of(alloc, new, count)?;
+    let old = schema_of(alloc, Declared::Whole, count)?;
     on_borrowed(Borrowed::Versions(old, new))
 }
 
 /// The entity type and the action of a number, to be looked up among as many of each.
 fn schema_look_up(alloc: Global, count: usize, number: usize) -> Result<Prepared, Stop> {
     let (ty, action) = (entity_type(alloc, number)?, uid(alloc, number)?);
-    let schema = built(alloc, whole(alloc, count)?)?;
+    let schema = schema_of(alloc, Declared::Whole, count)?;
     on_borrowed(Borrowed::Declared(schema, ty, action))
 }
 
 /// The entity type and the action of a number, to be looked up in hash maps of as many of each,
 /// under the names that a schema has, which are shared with it.
 fn hashed_look_up(alloc: Global, count: usize, number: usize) -> Result<Prepared, Stop> {
-    let schema = built(alloc, whole(alloc, count)?)?;
+    let schema = schema_of(alloc, Declared::Whole, count)?;
     let mut types = HashMap::new(alloc);
     for ty in schema.entity_types() {
         types.insert(ty.name().clone()?, count)?;
@@ -244,10 +203,10 @@ fn hashed_look_up(alloc: Global, count: usize, number: usize) -> Result<Prepared
 
 /// The last entity type of those of some letters and a number of eight digits, to be looked up, and
 /// an action where there are none.
-fn lettered_look_up(alloc: Global, letters: &str, count: usize) -> Result<Prepared, Stop> {
+fn lettered_look_up(alloc: Global, letters: Letters, count: usize) -> Result<Prepared, Stop> {
     let last = FIRST.saturating_add(count.saturating_sub(1));
-    let (ty, action) = (lettered(alloc, letters, last)?, uid(alloc, last)?);
-    let schema = built(alloc, eight_digits(alloc, letters, count)?)?;
+    let (ty, action) = (lettered(alloc, letters.text(), last)?, uid(alloc, last)?);
+    let schema = schema_of(alloc, Declared::EightDigits(letters), count)?;
     on_borrowed(Borrowed::Declared(schema, ty, action))
 }
 
@@ -259,8 +218,8 @@ fn known_attributes(alloc: Global, count: usize) -> Result<Prepared, Stop> {
 }
 
 /// Fragments that are built.
-fn build(fragments: Vec<Fragment<RawName>>) -> Result<Prepared, Stop> {
-    Ok(Prepared::Given(Given::Build(fragments)))
+fn build(alloc: Global, declared: Declared, count: usize) -> Result<Prepared, Stop> {
+    Ok(Prepared::Given(Given::Build(fragments_of(alloc, declared, count)?)))
 }
 
 /// A graph of a shape.
@@ -288,54 +247,32 @@ fn text(alloc: Global, question: OfText, count: usize) -> Result<Prepared, Stop>
 
 /// What a piece of work is done on, at a size.
 pub(crate) fn prepare(alloc: Global, piece: Piece, count: usize) -> Result<Prepared, Stop> {
-    let (closed, open) = (OpenTag::ClosedAttributes, OpenTag::OpenAttributes);
     let (strict, permissive) = (ValidationMode::Strict, ValidationMode::Permissive);
     match piece {
-        Piece::SubtypeClosedStrict => equal_records(alloc, OfTwo::Subtype(strict), count, closed),
-        Piece::SubtypeClosedPermissive => {
-            equal_records(alloc, OfTwo::Subtype(permissive), count, closed)
-        }
-        Piece::SubtypeOpenStrict => equal_records(alloc, OfTwo::Subtype(strict), count, open),
-        Piece::SubtypeOpenPermissive => {
-            equal_records(alloc, OfTwo::Subtype(permissive), count, open)
+        Piece::EqualRecords(question, openness) => {
+            equal_records(alloc, question, count, openness)
         }
         Piece::LookUp => look_up(alloc, count),
         Piece::Membership => membership(alloc, count),
-        Piece::Print => record_alone(alloc, OfOne::Print, count),
-        Piece::Equality => equal_records(alloc, OfTwo::Equality, count, closed),
-        Piece::Copy => record_alone(alloc, OfOne::Copy, count),
+        Piece::Record(question) => record_alone(alloc, question, count),
         Piece::UnionInclusion => unions(alloc, OfTwo::Subtype(permissive), count, 0),
         Piece::UnionDisjointness => unions(alloc, OfTwo::Disjointness, count, count),
         Piece::UnionJoins => joins(alloc, count),
         Piece::JoinStrict => join(alloc, count, 0, strict),
         Piece::JoinPermissive => join(alloc, count, count / 2, permissive),
         Piece::Separation => separation(alloc, count),
-        Piece::BuildWhole => build(whole(alloc, count)?),
-        Piece::BuildSplit => build(split(alloc, count)?),
-        Piece::BuildCommonChain => build(chain(alloc, count)?),
-        Piece::CloseChain => close(alloc, Shape::Chain, count),
-        Piece::CloseRing => close(alloc, Shape::Ring, count),
-        Piece::CloseStar => close(alloc, Shape::Star, count),
-        Piece::CloseTrees => close(alloc, Shape::Trees, count),
+        Piece::Build(declared) => build(alloc, declared, count),
+        Piece::Close(shape) => close(alloc, shape, count),
         Piece::SchemaLookUp => schema_look_up(alloc, count, count.saturating_sub(1)),
         Piece::LookUpLacking => schema_look_up(alloc, count, count),
         Piece::LookUpHashed => hashed_look_up(alloc, count, count.saturating_sub(1)),
-        Piece::LookUpFlood => lettered_look_up(alloc, ALIKE_IN_TABLES, count),
-        Piece::LookUpApart => lettered_look_up(alloc, APART, count),
+        Piece::LookUpLettered(letters) => lettered_look_up(alloc, letters, count),
         Piece::Environments => environments(alloc, count),
         Piece::KnownAttributes => known_attributes(alloc, count),
         Piece::Validate => validate(alloc, count),
-        Piece::ConvertBack => schema_alone(alloc, OfSchema::ConvertBack, count),
-        Piece::BuildEnvironments => build(crossing(alloc, count)?),
-        Piece::BuildFlood => build(eight_digits(alloc, ALIKE, count)?),
-        Piece::BuildTableFlood => build(eight_digits(alloc, ALIKE_IN_TABLES, count)?),
-        Piece::BuildApart => build(eight_digits(alloc, APART, count)?),
-        Piece::CopySchema => schema_alone(alloc, OfSchema::Copy, count),
-        Piece::CompareSame => versions(alloc, count, whole(alloc, count)?),
-        Piece::CompareChanged => versions(alloc, count, changed(alloc, count)?),
-        Piece::Scale => build(whole(alloc, count)?),
-        Piece::ParseJson => text(alloc, OfText::Parse, count),
-        Piece::ReadJson => text(alloc, OfText::Read, count),
+        Piece::Schema(question) => schema_alone(alloc, question, count),
+        Piece::Compare(new) => versions(alloc, new, count),
+        Piece::Text(question) => text(alloc, question, count),
         Piece::WriteJson => written(alloc, count),
     }
 }

@@ -5,7 +5,8 @@
 //! with the pieces that take some nanoseconds.
 
 use crate::graphs::Graph;
-use crate::prepared::{Borrowed, Given, OfOne, OfSchema, OfText, OfTwo, built, no_extensions};
+use crate::piece::{OfOne, OfSchema, OfText, OfTwo};
+use crate::prepared::{Borrowed, Given, built, no_extensions};
 use crate::stop::Stop;
 use cedar_compare::{Comparison, compare};
 use cedar_json::fragment_from_json;

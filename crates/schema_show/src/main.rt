@@ -1,7 +1,7 @@
 //! Shows the schemas of some built-in cases as sorted lines, and joins of some types.
 #![tactic(auto)]
 
-use schema_commands::{run, unread};
+use schema_lines::{run, unread};
 use std::alloc::AllocGlobal;
 use std::env::Env;
 use std::process::ExitCode;

@@ -1,0 +1,320 @@
+"""Inputs that are large, deep, or at fault in more than one way, and what `cedar_check` may say of
+them.
+
+What may be said is told by the rules and by the numbers that a row has, and never taken from the
+program. The documents are in Cedar's JSON schema format."""
+
+import json
+import subprocess
+from dataclasses import dataclass
+from pathlib import Path
+from typing import Callable
+
+from documents import LONG, action_below, entity, entity_type, fragment, named, record, set_of
+
+SECONDS = 60
+
+
+class Fault(Exception):
+    """A row of which something else is said."""
+
+
+# The inputs, each as its documents.
+
+
+def with_attribute(ty):
+    """An entity type with an attribute `a` of a type."""
+    return entity_type(shape=record({"a": ty}))
+
+
+def shadowed_and_unknown():
+    """A type that is shadowed, and a name that nothing declares."""
+    outer = fragment({"T": entity_type(), "U": with_attribute(entity("Gone"))})
+    return [outer | fragment({"T": entity_type()}, namespace="N")]
+
+
+def two_cycles():
+    """A cycle of common types, and one of actions."""
+    types = {"A": record({"x": {"type": "A"}})}
+    return [fragment(common_types=types, actions={"v": action_below("v")})]
+
+
+def below_and_twice():
+    """An external type below an enumerated one, and a second definition."""
+    tint = entity_type("Color", external=True)
+    first = {"Color": {"enum": ["red"]}, "Tint": tint, "U": entity_type()}
+    return [fragment(first), fragment({"U": entity_type()})]
+
+
+def common_types(count, last):
+    """Common types, each another name for the next, and the last one for a type."""
+    types = {f"T{number}": named(f"T{number + 1}") for number in range(count - 1)}
+    return types | {f"T{count - 1}": last}
+
+
+def common_chain(count):
+    """Common types in a chain, and an entity type with an attribute of the first."""
+    return [fragment({"U": with_attribute(named("T0"))}, common_types(count, LONG))]
+
+
+def common_loop(count, back):
+    """Common types in a chain, whose last is another name for that of a number."""
+    return [fragment(common_types=common_types(count, named(f"T{back}")))]
+
+
+def doubling(depth):
+    """Common types that name the next twice, and an entity type with an attribute of the first."""
+    types = {f"T{depth}": named("Long")}
+    for number in range(depth):
+        below = named(f"T{number + 1}")
+        types[f"T{number}"] = record({"l": below, "r": below})
+    return [fragment({"U": with_attribute(named("T0"))}, types)]
+
+
+def sets(depth):
+    """Common types that are sets of the next, and an entity type with an attribute of the first."""
+    elements = [named(f"T{number}") for number in range(1, depth)] + [LONG]
+    types = {f"T{number}": set_of(it) for number, it in enumerate(elements)}
+    return [fragment({"U": with_attribute(named("T0"))}, types)]
+
+
+def action_ring(count):
+    """Actions, each below the next and the last below the first."""
+    ring = {f"v{number}": action_below(f"v{(number + 1) % count}") for number in range(count)}
+    return [fragment(actions=ring)]
+
+
+def entity_chain(count):
+    """Entity types, each below the one before it."""
+    chain = {f"E{number}": entity_type(f"E{number - 1}") for number in range(1, count)}
+    return [fragment({"E0": entity_type()} | chain)]
+
+
+def requests(count):
+    """An action for requests of as many entity types on as many others."""
+    principals, resources = ([f"{it}{number}" for number in range(count)] for it in "PR")
+    types = {name: entity_type() for name in principals + resources}
+    view = {"appliesTo": {"principalTypes": principals, "resourceTypes": resources}}
+    return [fragment(types, actions={"view": view})]
+
+
+def attributes(count):
+    """An entity type with attributes of whole numbers."""
+    shape = record({f"a{number}": LONG for number in range(count)})
+    return [fragment({"U": entity_type(shape=shape)})]
+
+
+def fragments(count):
+    """An entity type in each of as many documents."""
+    return [fragment({f"E{number}": entity_type()}) for number in range(count)]
+
+
+def declarations(external, definitions):
+    """External declarations of one entity type, and definitions of it, each a document."""
+    outside = [fragment({"U": entity_type(external=True)})] * external
+    return outside + [fragment({"U": entity_type()})] * definitions
+
+
+def declared_in(namespaces):
+    """An entity type in each of some namespaces."""
+    return [{name: fragment({"U": entity_type()})[""] for name in namespaces}]
+
+
+# What may be said.
+
+
+def lines(*lines):
+    """Just these lines."""
+    text = "".join(f"{line}\n" for line in lines)
+    return lambda status, out: (status, out) == (0, text)
+
+
+def has_line(line):
+    """This line among others."""
+    return lambda status, out: status == 0 and line in out.splitlines()
+
+
+def number_of_lines(beginning, number):
+    """As many unlike lines that begin so."""
+    return lambda status, out: status == 0 and number == len(
+        {line for line in out.splitlines() if line.startswith(beginning)}
+    )
+
+
+def number_of_leaves(number):
+    """A type in which the type of whole numbers stands as often."""
+    return lambda status, out: status == 0 and out.count("Long") == number
+
+
+def refusal(*messages):
+    """A refusal with one of these messages."""
+
+    def is_right(status, out):
+        told = [json.loads(line) for line in out.splitlines()]
+        return status == 1 and len(told) == 1 and told[0]["message"] in messages
+
+    return is_right
+
+
+def cycle_of_types(first, last):
+    """A refusal for one of the common types of these numbers."""
+    names = [f"T{number}" for number in range(first, last + 1)]
+    return refusal(*[f"the definition of the common type {it} leads back to it" for it in names])
+
+
+def cycle_of_actions(first, last):
+    """A refusal for one of the actions of these numbers."""
+    uids = [f'Action::"v{number}"' for number in range(first, last + 1)]
+    return refusal(*[f"the action {uid} is its own ancestor" for uid in uids])
+
+
+ATTRIBUTE_OF_NUMBERS = lines("attr U a: Long", "entity U standard")
+SHADOWED_OR_UNKNOWN = refusal(
+    "the type N::T would shadow the type T", "no entity type is declared as Gone"
+)
+EITHER_CYCLE = refusal(
+    "the definition of the common type A leads back to it",
+    'the action Action::"v" is its own ancestor',
+)
+BELOW_OR_TWICE = refusal(
+    "the external type Tint is below the enumerated type Color",
+    "the entity type U is declared twice",
+)
+LONG_ID = "v" * 1_048_576
+LONG_UID = f'Action::"{LONG_ID}"'
+MANY = ["::".join([f"N{number}"] + ["M"] * 48) for number in range(1000)]
+DEEP = "::".join(["N0"] + ["M"] * 999)
+
+
+@dataclass
+class Row:
+    """Documents that are drawn, and commands that are run on their files, each with what may come
+    of it."""
+
+    name: str
+    draw: Callable
+    asked: list
+
+    def check(self, program: Path, folder: Path):
+        """Fails where something else comes of a command, run in a folder for the files."""
+        files = []
+        for number, document in enumerate(self.draw()):
+            files.append(f"{number}.json")
+            (folder / files[-1]).write_text(json.dumps(document), "utf-8")
+        for command, is_right in self.asked:
+            first, *rest = command.split()
+            words = [program, first, *files, *rest, "--json"]
+            how = {"cwd": folder, "stdin": subprocess.DEVNULL, "timeout": SECONDS}
+            ran = subprocess.run(words, capture_output=True, **how)
+            out, err = ran.stdout.decode(), ran.stderr.decode()
+            if err or not is_right(ran.returncode, out):
+                said = f"status {ran.returncode}\n{out[:1000]}\n{err[:1000]}"
+                raise Fault(f"{self.name}, {command[:100]}: {said}")
+
+
+def rows():
+    """The rows."""
+    return [
+        Row(
+            "a shadowed type and an unknown name",
+            shadowed_and_unknown,
+            [("build", SHADOWED_OR_UNKNOWN)],
+        ),
+        Row(
+            "a cycle of common types and one of actions",
+            two_cycles,
+            [("build", EITHER_CYCLE)],
+        ),
+        Row(
+            "an external type below an enumerated one and a second definition",
+            below_and_twice,
+            [("build", BELOW_OR_TWICE)],
+        ),
+        Row(
+            "1000 common types in a chain",
+            lambda: common_chain(1000),
+            [("show", ATTRIBUTE_OF_NUMBERS)],
+        ),
+        Row(
+            "100000 common types in a chain",
+            lambda: common_chain(100_000),
+            [("show", ATTRIBUTE_OF_NUMBERS)],
+        ),
+        Row(
+            "1000 common types whose last leads back to the 500th",
+            lambda: common_loop(1000, 500),
+            [("build", cycle_of_types(500, 999))],
+        ),
+        Row(
+            "common types that name the next twice, twelve deep",
+            lambda: doubling(12),
+            [("type --entity U --attribute a", number_of_leaves(4096))],
+        ),
+        Row(
+            "common types that name the next twice, 64 deep",
+            lambda: doubling(64),
+            [("build", has_line("entity types: 1, 0 of them external"))],
+        ),
+        Row(
+            "200 sets in one another",
+            lambda: sets(200),
+            [("show", lines(f"attr U a: {'Set<' * 200}Long{'>' * 200}", "entity U standard"))],
+        ),
+        Row(
+            "65 actions in a ring",
+            lambda: action_ring(65),
+            [("build", cycle_of_actions(0, 64))],
+        ),
+        Row(
+            "2000 entity types in a chain",
+            lambda: entity_chain(2000),
+            [("show", number_of_lines("descendant ", 1_999_000))],
+        ),
+        Row(
+            "1000 principals and 1000 resources of one action",
+            lambda: requests(1000),
+            [("build", has_line("environments: 1000000"))],
+        ),
+        Row(
+            "a record of 100000 attributes",
+            lambda: attributes(100_000),
+            [("show", number_of_lines("attr U a", 100_000))],
+        ),
+        Row(
+            "an id of a mebibyte",
+            lambda: [fragment(actions={LONG_ID: {}})],
+            [("show", lines(f'action {LONG_UID} defined', f'context {LONG_UID} {{}}'))],
+        ),
+        Row(
+            "10000 fragments of one entity type each",
+            lambda: fragments(10_000),
+            [("build", has_line("entity types: 10000, 0 of them external"))],
+        ),
+        Row(
+            "999 external declarations and a definition of one name",
+            lambda: declarations(999, 1),
+            [("show", lines("entity U standard"))],
+        ),
+        Row(
+            "998 external declarations and two definitions of one name",
+            lambda: declarations(998, 2),
+            [("build", refusal("the entity type U is declared twice"))],
+        ),
+        Row(
+            "1000 names of 50 parts that differ in the first",
+            lambda: declared_in(MANY),
+            [
+                ("show", lines(*[f"entity {it}::U standard" for it in sorted(MANY)])),
+                (f"type --entity {MANY[0]}::U", lines("{}")),
+                (f"type --entity {MANY[-1]}::U", lines("{}")),
+            ],
+        ),
+        Row(
+            "a namespace of 1000 parts",
+            lambda: declared_in([DEEP]),
+            [
+                ("show", lines(f"entity {DEEP}::U standard")),
+                (f"type --entity {DEEP}::U", lines("{}")),
+            ],
+        ),
+    ]

@@ -1,6 +1,0 @@
-use Rattle.std.proofs.Common.{◌≡◌, drop, map}
-use Rattle.schema_commands.specs.Words.{is_among, row_name}
-use Rattle.schema_commands.proofs.command.named.Given as goal
-
-abbrev pub invariant-loop-row : goal.invariant-loop-row
-invariant-loop-row g l = is_among l.name (map row_name l.rows) ≡ is_among l.name (map row_name (drop l.row-index l.rows))

@@ -1,7 +1,0 @@
-use Rattle.std.proofs.Common.{subst, sym}
-use Rattle.cedar_below.specs.TypeNames.{TypeNamesFit}
-use Rattle.schema_commands.proofs.SampleLemmas.{sample_type_fits}
-use Rattle.schema_commands.proofs.outcome.schema_of.Goals as goal
-
-pub from_raw_fragments-requires : goal.from_raw_fragments-requires
-from_raw_fragments-requires c = subst TypeNamesFit (sym c.in_ok-extensions.ensures) sample_type_fits
