@@ -45,6 +45,12 @@ fn copies_of_ids_are_equal(rt: HostRuntime) -> Result<(), Fail> {
     holds(ids.clone()? == ids, "x and y")
 }
 
+/// Names at places.
+const NAMES: &[&str] = &["A@1", "N::M::A@1"];
+
+/// A reserved name at a place.
+const RESERVED: &str = "A::__cedar::B@1";
+
 /// Whether a copy of a name is equal to it and at its place, before it is shared and after.
 fn is_name_kept(alloc: Global, text: &str) -> Result<bool, Fail> {
     let name = internal_name(alloc, text)?;
@@ -65,13 +71,13 @@ fn is_type_kept(alloc: Global, text: &str) -> Result<bool, Fail> {
 #[test]
 fn copies_of_names_are_equal_and_shared_ones_too(rt: HostRuntime) -> Result<(), Fail> {
     let alloc = rt.alloc();
-    for text in ["A@1", "N::M::A@1", "A::__cedar::B@1"] {
-        holds(is_name_kept(alloc, text)?, text)?;
+    for text in NAMES {
+        holds(
+            is_name_kept(alloc, text)? && is_type_kept(alloc, text)?,
+            text,
+        )?;
     }
-    for text in ["A@1", "N::M::A@1"] {
-        holds(is_type_kept(alloc, text)?, text)?;
-    }
-    Ok(())
+    holds(is_name_kept(alloc, RESERVED)?, RESERVED)
 }
 
 /// The uid `N::A::"b c"` at a place.
@@ -89,10 +95,13 @@ fn copies_of_uids_are_equal_wherever_they_were_written(rt: HostRuntime) -> Resul
     holds(located == uid(alloc, "N::A::b c")?, "elsewhere")
 }
 
+/// A record and a set.
+const VALUES: &[&str] = &["{a:1,b:x}", "[1;ip=x"];
+
 #[test]
 fn copies_of_values_are_shown_alike(rt: HostRuntime) -> Result<(), Fail> {
     let alloc = rt.alloc();
-    for word in ["{a:1,b:x}", "[1;ip=x"] {
+    for word in VALUES {
         let value = Value::new(value(alloc, word)?);
         holds(is_alike(alloc, value.clone(), &value)?, word)?;
     }

@@ -17,10 +17,13 @@ fn spells(alloc: Global, word: &str) -> Result<bool, Fail> {
     Ok(is_spelled && id.to_string(alloc)?.as_str() == word && copy.into_id().as_str() == word)
 }
 
+/// Identifiers that aren't words of Cedar's own.
+const WORDS: &[&str] = &["Foo", "bool", "Strings", "Int"];
+
 #[test]
 fn identifiers_name_common_types(rt: HostRuntime) -> Result<(), Fail> {
     let alloc = rt.alloc();
-    for word in ["Foo", "bool", "Strings", "Int"] {
+    for word in WORDS {
         holds(spells(alloc, word)?, word)?;
     }
     Ok(())
@@ -35,10 +38,13 @@ fn is_kept(alloc: Global, name: RawName, base: &str, length: usize) -> Result<bo
     Ok(is_alike && is_base && name.into_internal().path().len() == length)
 }
 
+/// Names, each with its base name, and the length of its path.
+const NAMES: &[(&str, &str, usize)] = &[("Shop::User@1", "User", 1), ("User", "User", 0)];
+
 #[test]
 fn raw_names_keep_the_name(rt: HostRuntime) -> Result<(), Fail> {
     let alloc = rt.alloc();
-    for (text, base, length) in [("Shop::User@1", "User", 1), ("User", "User", 0)] {
+    for &(text, base, length) in NAMES {
         holds(is_kept(alloc, raw(alloc, text)?, base, length)?, text)?;
     }
     Ok(())

@@ -39,10 +39,11 @@ fn push_names(shown: &mut String, values: &BTreeMap<String, Value>) -> M<()> {
 
 /// The steps to where two types part, if they do and the first is sampled.
 fn parted(alloc: Global, known: &Known, a: &Type, b: &Type) -> M<String> {
-    if !known.is_sampled(a) {
+    let (extensions, samples) = (&known.extensions, known.samples.as_slice());
+    if !a.is_sampled(extensions, samples) {
         return Ok(String::from_str(alloc, "not sampled")?);
     }
-    match outside(alloc, a, b, &known.extensions, &known.samples)? {
+    match outside(alloc, a, b, extensions, samples)? {
         Some(found) => steps_text(alloc, &found.steps),
         None => Ok(String::from_str(alloc, "within")?),
     }
@@ -100,10 +101,10 @@ fn attributes_text(alloc: Global, found: Option<AttributesOutside>) -> M<String>
 
 /// What is told of the attributes of two record types, if the first is sampled.
 fn parted_attributes(alloc: Global, known: &Known, lower: &Type, upper: &Type) -> M<String> {
-    let Known {
-        extensions,
-        samples,
-    } = known;
+    let (extensions, samples) = (&known.extensions, known.samples.as_slice());
+    if !lower.is_sampled(extensions, samples) {
+        return Ok(String::from_str(alloc, "not sampled")?);
+    }
     match (lower, upper) {
         (
             Type::Record {
@@ -114,11 +115,11 @@ fn parted_attributes(alloc: Global, known: &Known, lower: &Type, upper: &Type) -
                 attrs: b,
                 open_attributes: upper_open,
             },
-        ) if known.is_sampled(lower) => {
+        ) => {
             let found = attributes_outside(alloc, a, *open, b, *upper_open, extensions, samples)?;
             attributes_text(alloc, found)
         }
-        _ => Ok(String::from_str(alloc, "not sampled")?),
+        _ => Ok(String::from_str(alloc, "no record types")?),
     }
 }
 
@@ -150,11 +151,12 @@ fn attributes_part_as_their_record_types_do(rt: HostRuntime) -> Result<(), Fail>
 
 /// Whether the sample of a type is of it, if there is one.
 fn sampled(alloc: Global, known: &Known, ty: &Type) -> M<&'static str> {
-    if !known.is_sampled(ty) {
+    let (extensions, samples) = (&known.extensions, known.samples.as_slice());
+    if !ty.is_sampled(extensions, samples) {
         return Ok("not sampled");
     }
-    let value = sample_value(alloc, ty, &known.extensions, &known.samples)?;
-    let has = ty.typecheck_value(&value, &known.extensions).ok();
+    let value = sample_value(alloc, ty, extensions, samples)?;
+    let has = ty.typecheck_value(&value, extensions).ok();
     Ok(if has == Some(true) {
         "a sample of it"
     } else {
@@ -192,13 +194,15 @@ fn samples_are_of_their_types(rt: HostRuntime) -> Result<(), Fail> {
 
 /// The names of the samples of the attributes of a record type, if it is sampled.
 fn sample_names(alloc: Global, known: &Known, ty: &Type) -> M<String> {
+    let (extensions, samples) = (&known.extensions, known.samples.as_slice());
     let mut shown = String::new(alloc);
-    match ty {
-        Type::Record { attrs, .. } if known.is_sampled(ty) => {
-            let values = sample_attributes(alloc, attrs, &known.extensions, &known.samples)?;
-            push_names(&mut shown, &values)?;
-        }
-        _ => shown.push_str("not sampled")?,
+    if !ty.is_sampled(extensions, samples) {
+        shown.push_str("not sampled")?;
+        return Ok(shown);
+    }
+    if let Type::Record { attrs, .. } = ty {
+        let values = sample_attributes(alloc, attrs, extensions, samples)?;
+        push_names(&mut shown, &values)?;
     }
     Ok(shown)
 }

@@ -56,18 +56,6 @@ pub(crate) fn what_is_known(alloc: Global) -> Result<Known, Fail> {
     })
 }
 
-impl Known {
-    /// Whether the samples are enough for a type.
-    pub(crate) fn is_sampled(&self, ty: &Type) -> bool {
-        ty.is_sampled(&self.extensions, &self.samples)
-    }
-
-    /// Whether the samples are enough for a type without optional attributes.
-    fn is_stated(&self, ty: &Type) -> bool {
-        ty.is_stated(&self.extensions, &self.samples)
-    }
-}
-
 /// Whether a value was found that by membership is of the one type and not of the other.
 fn found(known: &Known, a: &Type, b: &Type, value: Option<Value>) -> &'static str {
     let Some(value) = value else {
@@ -84,19 +72,21 @@ fn found(known: &Known, a: &Type, b: &Type, value: Option<Value>) -> &'static st
 
 /// Whether a value separates the one type from the other, if both are stated.
 fn separated(alloc: Global, known: &Known, a: &Type, b: &Type) -> M<&'static str> {
-    if !known.is_stated(a) || !known.is_stated(b) {
+    let (extensions, samples) = (&known.extensions, known.samples.as_slice());
+    if !a.is_stated(extensions, samples) || !b.is_stated(extensions, samples) {
         return Ok("not stated");
     }
-    let value = separating_value(alloc, a, b, &known.extensions, &known.samples)?;
+    let value = separating_value(alloc, a, b, extensions, samples)?;
     Ok(found(known, a, b, value))
 }
 
 /// Whether a value of the one type is outside the other, if the one is sampled.
 fn outside(alloc: Global, known: &Known, a: &Type, b: &Type) -> M<&'static str> {
-    if !known.is_sampled(a) {
+    let (extensions, samples) = (&known.extensions, known.samples.as_slice());
+    if !a.is_sampled(extensions, samples) {
         return Ok("not sampled");
     }
-    let value = value_outside(alloc, a, b, &known.extensions, &known.samples)?;
+    let value = value_outside(alloc, a, b, extensions, samples)?;
     Ok(found(known, a, b, value))
 }
 
@@ -182,6 +172,7 @@ fn extension_types_are_stated_with_samples_alone(rt: HostRuntime) -> Result<(), 
     let alloc = rt.alloc();
     let known = what_is_known(alloc)?;
     let addresses = sample(alloc, "set-ipaddr")?;
+    let is_stated = addresses.is_stated(&known.extensions, &known.samples);
     holds(!addresses.is_stated(&known.extensions, &[]), "no samples")?;
-    holds(known.is_stated(&addresses), "a sample")
+    holds(is_stated, "a sample")
 }

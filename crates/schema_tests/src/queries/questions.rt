@@ -12,8 +12,8 @@
 //! - of what is known of types, and of where things were written: as `known` and `locations` say
 //!
 //! A list stands between commas, with `-` for an empty one. An answer's items stand between blanks,
-//! each with `@` and the number of the text behind it where it has a location, and `None` stands for
-//! no answer. Principals, resources, leaves, environments, and the types in
+//! each with `@` and the number of the text behind it where it has a location, and `None` stands
+//! for no answer. Principals, resources, leaves, environments, and the types in
 //! an entity type but for the last are sorted, since their order is open. A text that asks nothing
 //! of these fails by name.
 

@@ -180,8 +180,8 @@ const VALID: &[(&str, &str)] = &[
     ),
 ];
 
-/// Schemas, how they are refused, with ` or ` between answers that are allowed, and the nearest
-/// schema that is valid.
+/// Schemas, how they are refused, with ` or else ` between answers that are allowed, and the
+/// nearest schema that is valid.
 const REFUSED: &[(&str, &str, &str)] = &[
     (
         "entity Group > Mid; entity Mid > Leaf; enum Leaf",

@@ -1,5 +1,5 @@
 //! Declarations that are refused, with what the refusal carries. Where more than one answer is
-//! right, ` or ` stands between them.
+//! right, ` or else ` stands between them.
 
 use crate::vectors::answers::{Row, check_rows};
 use std::test::Fail;

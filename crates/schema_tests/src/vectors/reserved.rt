@@ -1,10 +1,8 @@
 //! Declarations in reserved namespaces, which no fragment of plain data can hold.
 
-ghost use Rattle.cedar_schema.specs.Words.{TypeNamesFit, extension_types};
-
 use crate::vectors::answers::answer_text;
-use cedar_schema::below::{Extensions, InternalName};
-use cedar_schema::json_schema::{NamespaceDefinition, RawName};
+use cedar_schema::below::InternalName;
+use cedar_schema::json_schema::{ConditionalName, NamespaceDefinition, RawName};
 use cedar_schema::namespace::{ValidatorNamespaceDef, ValidatorSchemaFragment};
 use cedar_schema::{SchemaError, ValidatorSchema};
 use shorthand::checked::one_of;
@@ -15,6 +13,9 @@ use std::test::Fail;
 
 /// A definition, and the name of its namespace.
 type Definition = (Option<InternalName>, NamespaceDefinition<RawName>);
+
+/// A fragment over conditional names.
+type Conditional = ValidatorSchemaFragment<ConditionalName, ConditionalName>;
 
 /// The definition of one declaration in its namespace.
 fn definition(alloc: Global, text: &str) -> Result<Definition, Fail> {
@@ -34,23 +35,20 @@ fn definitions(alloc: Global, text: &str) -> Result<Vec<Definition>, Fail> {
     Ok(definitions)
 }
 
-/// What is built of some definitions, each in a fragment of its own.
-fn built(
+/// A fragment of each definition, or the first refusal.
+fn conditionals(
     alloc: Global,
     definitions: Vec<Definition>,
-    extensions: &Extensions,
-) -> Result<ValidatorSchema, SchemaError>
-    requires { TypeNamesFit (extension_types extensions.now) }
-{
+) -> Result<Vec<Conditional>, SchemaError> {
     let mut fragments = Vec::new(alloc);
     for (namespace, definition) in definitions {
         let one = ValidatorNamespaceDef::from_namespace_definition(alloc, namespace, definition)?;
         fragments.push(ValidatorSchemaFragment::from_namespaces(alloc, [one])?)?;
     }
-    ValidatorSchema::from_schema_fragments(alloc, fragments, extensions)
+    Ok(fragments)
 }
 
-/// Declarations, and the answers that are allowed, with ` or ` between them.
+/// Declarations, and the answers that are allowed, with ` or else ` between them.
 const ROWS: &[(&str, &str)] = &[
     (
         "__cedar: entity X",
@@ -107,8 +105,11 @@ const ROWS: &[(&str, &str)] = &[
 /// What is answered of the declarations of a text.
 fn answer(alloc: Global, text: &str) -> Result<String, Fail> {
     let extensions = sample_extensions(alloc)?;
-    let definitions = definitions(alloc, text)?;
-    Ok(answer_text(alloc, built(alloc, definitions, &extensions))?)
+    let built = match conditionals(alloc, definitions(alloc, text)?) {
+        Ok(fragments) => ValidatorSchema::from_schema_fragments(alloc, fragments, &extensions),
+        Err(refused) => Err(refused),
+    };
+    Ok(answer_text(alloc, built)?)
 }
 
 #[test]
