@@ -21,9 +21,9 @@ pub fn holds(is_so: bool, row: &str) -> Result<(), Fail> {
 }
 
 /// Fails, with the row, where an answer is none of the texts that are allowed, between which stands
-/// ` or `.
+/// ` or else `.
 pub fn one_of(row: &str, answer: &str, allowed: &str) -> Result<(), Fail> {
-    for text in allowed.split(" or ") {
+    for text in allowed.split(" or else ") {
         if text == answer {
             return Ok(());
         }

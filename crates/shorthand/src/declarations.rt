@@ -1,8 +1,7 @@
 //! Fragments that a short form of text spells, as plain data.
 //!
-//! Declarations stand between `;`, and fragments between `|`. Inside one fragment `|` parts
-//! declarations as `;` does. A declaration in a namespace begins with the namespace's name and a
-//! colon.
+//! Declarations stand between `;`, and fragments between `|`. A declaration in a namespace begins
+//! with the namespace's name and a colon.
 //!
 //! - `entity U in A,N::B {a: n:T, b?: Set<Long>} tags e:V`, `entity U shape c:S`, `entity U enum
 //!   red,green`
@@ -36,18 +35,25 @@ pub fn nothing(alloc: Global) -> NamespaceDefinition<RawName> {
     }
 }
 
-/// Adds an entry to a map. Answers whether its key is new.
-pub(crate) fn add<K: Ord + Drop, V: Drop>(map: &mut BTreeMap<K, V>, key: K, value: V) -> M<bool> {
-    let old = map.insert(key, value)?;
-    Ok(old.is_none())
+/// Adds an entry to a map. A key that is there already fails by the text that spells it.
+pub(crate) fn add<K: Ord + Drop, V: Drop>(
+    map: &mut BTreeMap<K, V>,
+    key: K,
+    value: V,
+    text: &str,
+) -> Result<(), Fail> {
+    match map.insert(key, value)? {
+        None => Ok(()),
+        Some(_) => Err(Fail::new(format_args!("an id twice: {text}"))),
+    }
 }
 
-/// Declares the common type `T = type`. Answers whether its name is new.
+/// Declares the common type `T = type`.
 fn add_common_type(
     alloc: Global,
     definition: &mut NamespaceDefinition<RawName>,
     text: &str,
-) -> Result<bool, Fail> {
+) -> Result<(), Fail> {
     let Some((name, body)) = text.split_once(" = ") else {
         return Err(Fail::new(format_args!("no body: {text}")));
     };
@@ -55,39 +61,40 @@ fn add_common_type(
     let id = CommonTypeId::from_str(alloc, name)?;
     let ty = written_type(alloc, body)?;
     let declared = CommonType { ty, loc };
-    Ok(add(&mut definition.common_types, id, declared)?)
+    add(&mut definition.common_types, id, declared, text)
 }
 
-/// Declares an entity type. Answers whether its name is new.
+/// Declares an entity type.
 fn add_entity_type(
     alloc: Global,
     definition: &mut NamespaceDefinition<RawName>,
     text: &str,
     external: bool,
-) -> Result<bool, Fail> {
+) -> Result<(), Fail> {
     let (name, declared) = entity_type(alloc, text, external)?;
     let id = unreserved_id(alloc, name)?;
-    Ok(add(&mut definition.entity_types, id, declared)?)
+    add(&mut definition.entity_types, id, declared, text)
 }
 
-/// Declares an action. Answers whether its id is new.
+/// Declares an action.
 fn add_action(
     alloc: Global,
     definition: &mut NamespaceDefinition<RawName>,
     text: &str,
     external: bool,
-) -> Result<bool, Fail> {
+) -> Result<(), Fail> {
     let (id, declared) = action(alloc, text, external)?;
     let id = id_text(alloc, id)?;
-    Ok(add(&mut definition.actions, id, declared)?)
+    add(&mut definition.actions, id, declared, text)
 }
 
-/// Adds a declaration without its namespace to a definition. Answers whether its id is new there.
+/// Adds a declaration without its namespace to a definition. An id that is declared there already
+/// fails.
 pub fn declare(
     alloc: Global,
     definition: &mut NamespaceDefinition<RawName>,
     text: &str,
-) -> Result<bool, Fail> {
+) -> Result<(), Fail> {
     if let Some(rest) = text.strip_prefix("entity ") {
         return add_entity_type(alloc, definition, rest, false);
     }
@@ -119,12 +126,12 @@ pub fn within_namespace(text: &str) -> (&str, Option<&str>) {
     }
 }
 
-/// Adds a declaration to the definition of its namespace. Answers whether its id is new there.
+/// Adds a declaration to the definition of its namespace.
 fn add_declaration(
     alloc: Global,
     fragment: &mut Fragment<RawName>,
     text: &str,
-) -> Result<bool, Fail> {
+) -> Result<(), Fail> {
     let (within, declaration) = within_namespace(text);
     let (within, loc) = located_at(within);
     let within = namespace(alloc, within)?;
@@ -132,32 +139,18 @@ fn add_declaration(
     definition.loc = loc.or(definition.loc);
     match declaration {
         Some(declaration) => declare(alloc, definition, declaration),
-        None => Ok(true),
+        None => Ok(()),
     }
 }
 
-/// Adds the declarations that stand between `;`. Answers whether each of their ids is new.
-fn add_declarations(
-    alloc: Global,
-    fragment: &mut Fragment<RawName>,
-    text: &str,
-) -> Result<bool, Fail> {
-    let mut fresh = true;
-    for declaration in text.split(';') {
-        fresh = add_declaration(alloc, fragment, declaration.trim())? && fresh;
-    }
-    Ok(fresh)
-}
-
-/// The one fragment of all declarations of a text, or None where one of its definitions would
-/// declare an id twice.
-pub fn fragment_of(alloc: Global, text: &str) -> Result<Option<Fragment<RawName>>, Fail> {
+/// The one fragment of the declarations of a text, which stand between `;`. A definition that
+/// would declare an id twice fails.
+pub fn fragment_of(alloc: Global, text: &str) -> Result<Fragment<RawName>, Fail> {
     let mut fragment = Fragment(BTreeMap::new(alloc));
-    let mut fresh = true;
-    for piece in text.split('|') {
-        fresh = add_declarations(alloc, &mut fragment, piece)? && fresh;
+    for declaration in text.split(';') {
+        add_declaration(alloc, &mut fragment, declaration.trim())?;
     }
-    Ok(if fresh { Some(fragment) } else { None })
+    Ok(fragment)
 }
 
 /// The texts of the fragments of a text, which stand between `|`, or none of the empty text.
@@ -172,15 +165,11 @@ pub fn written(alloc: Global, text: &str) -> M<Vec<&str>> {
     Ok(fragments)
 }
 
-/// A fragment of each text. A definition that would declare an id twice fails by its fragment's
-/// text.
+/// A fragment of each text.
 pub fn fragments_of(alloc: Global, texts: &[&str]) -> Result<Vec<Fragment<RawName>>, Fail> {
     let mut fragments = Vec::new(alloc);
     for text in texts {
-        match fragment_of(alloc, text)? {
-            Some(fragment) => fragments.push(fragment)?,
-            None => return Err(Fail::new(format_args!("an id twice: {text}"))),
-        }
+        fragments.push(fragment_of(alloc, text)?)?;
     }
     Ok(fragments)
 }

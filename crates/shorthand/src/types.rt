@@ -105,10 +105,7 @@ fn add_attribute(
     };
     let attribute = TypeOfAttribute { ty, required, loc };
     let name = String::from_str(alloc, name)?;
-    if add(&mut record.attributes, name, attribute)? {
-        return Ok(());
-    }
-    Err(Fail::new(format_args!("an attribute twice: {written}")))
+    add(&mut record.attributes, name, attribute, written)
 }
 
 /// The name of an attribute, and the text of its type.

@@ -9,7 +9,7 @@
 //! The types are those of the entities of the listed types, or one of `Long`, `{*}` (any record)
 //! and `any` (any entity).
 
-use crate::queries::questions::unknown;
+use crate::queries::questions::{unknown, with_place};
 use cedar_schema::below::{M, ValidationMode};
 use cedar_schema::lookup::{KnownAttrs, SchemaLookup, known_attribute, literal_attributes};
 use cedar_schema::{AttributeType, EntityKind, Type, ValidatorSchema};
@@ -45,12 +45,23 @@ fn known(alloc: Global, schema: &ValidatorSchema, ty: &Type) -> Result<String, F
     }
 }
 
-/// The type of an attribute, with a question mark before it where it is optional.
+/// The word before a type of entities, since one may have the name of another type.
+fn kind_word(ty: &Type) -> &'static str {
+    match ty {
+        Type::Entity(_) => "entity ",
+        _ => "",
+    }
+}
+
+/// The type of an attribute, with a question mark before it where it is optional, and with its
+/// location.
 fn attribute_text(alloc: Global, found: Option<AttributeType>) -> M<String> {
     match found {
         Some(found) => {
             let flag = if found.is_required() { "" } else { "?" };
-            Ok(format!(in alloc; "{flag}{}", found.attr_type)?)
+            let kind = kind_word(&found.attr_type);
+            let text = format!(in alloc; "{flag}{kind}{}", found.attr_type)?;
+            with_place(alloc, text, found.loc)
         }
         None => Ok(String::from_str(alloc, "None")?),
     }

@@ -4,9 +4,7 @@
 //!   `type_at U`, `attr_at U a`, `tags_at U a`
 //! - of actions, their uids, and an attribute of their contexts: `action_at Action::view`, `uid_at
 //!   Action::view`, `context_at Action::view a`
-//! - of an attribute that is known of types, as it is listed and as it is looked up: `listed_at A,B
-//!   a`, `looked_up_at A,B a`
-//! - of the first declaration that is lacking: `lacking_at`
+//! - of an attribute that is listed of types: `listed_at A,B a`
 //! - of all common types and namespaces that a schema shows: `common_types`, `namespaces`
 //!
 //! A location is answered as the number of its text, and no location as 0.
@@ -15,13 +13,13 @@ use crate::queries::known::type_of;
 use crate::queries::questions::{two_parts, unknown};
 use cedar_schema::below::{Loc, M};
 use cedar_schema::lookup::SchemaLookup;
-use cedar_schema::{CompleteError, Type, ValidatorActionId, ValidatorEntityType, ValidatorSchema};
+use cedar_schema::{Type, ValidatorActionId, ValidatorEntityType, ValidatorSchema};
 use shorthand::names::{entity_type, uid};
 use std::alloc::Global;
 use std::test::Fail;
 
 /// The number of the text of a location, or 0.
-pub(crate) fn number_of(loc: Option<Loc>) -> u32 {
+fn number_of(loc: Option<Loc>) -> u32 {
     loc.map_or(0, |loc| loc.source)
 }
 
@@ -64,17 +62,6 @@ fn listed(
     Ok(listed.get_attr(name).ok_or("no attribute")?.loc)
 }
 
-/// Where an attribute is that is looked up of a type.
-fn looked_up(
-    alloc: Global,
-    schema: &ValidatorSchema,
-    ty: &Type,
-    name: &str,
-) -> Result<Option<Loc>, Fail> {
-    let found = Type::lookup_attribute_type(alloc, schema, ty, name)?;
-    Ok(found.ok_or("no attribute")?.loc)
-}
-
 /// Where a thing of a name is that stands in another.
 fn inner_loc(
     alloc: Global,
@@ -93,7 +80,6 @@ fn inner_loc(
         "tags" => in_record(declared(alloc, schema, outer)?.tag_type(), name),
         "context" => in_record(action(alloc, schema, outer)?.context(), name),
         "listed" => listed(alloc, schema, &type_of(alloc, outer)?, name),
-        "looked_up" => looked_up(alloc, schema, &type_of(alloc, outer)?, name),
         _ => Err(unknown(thing)),
     }
 }
@@ -112,14 +98,6 @@ pub(crate) fn location(
         _ => inner_loc(alloc, schema, thing, of)?,
     };
     Ok(number_of(loc).to_string(alloc)?)
-}
-
-/// Where the first declaration is that is lacking.
-pub(crate) fn lacking_at(alloc: Global, schema: &ValidatorSchema) -> Result<String, Fail> {
-    match schema.check_complete(alloc) {
-        Err(CompleteError::Incomplete(error)) => Ok(number_of(error.loc).to_string(alloc)?),
-        _ => Err(Fail::from("no incomplete schema")),
-    }
 }
 
 /// The common types of a schema: each with its base name and its full name, where it was declared,

@@ -9,25 +9,21 @@
 //! - of the whole: `names`, `uids`, `principals`, `resources`, `groups`, `entities`, `leaves` of
 //!   all types, `lacks`, `is_complete`, `check`, `copy`, and for the environments of requests in
 //!   either mode `strict` and `permissive`
-//! - of what is known of types, of where things were written, and of where the names were that are
-//! borrowed: as `known`,
-//!   `locations` and `borrowed` say
+//! - of what is known of types, and of where things were written: as `known` and `locations` say
 //!
 //! A list stands between commas, with `-` for an empty one. An answer's items stand between blanks,
-//! and `None` stands for no answer. Principals, resources, leaves, environments, and the types in
+//! each with `@` and the number of the text behind it where it has a location, and `None` stands
+//! for no answer. Principals, resources, leaves, environments, and the types in
 //! an entity type but for the last are sorted, since their order is open. A text that asks nothing
 //! of these fails by name.
 
 ghost use Rattle.std.specs.Iterator.{IsFinite};
 
-use crate::queries::borrowed::{borrowed, borrowed_above};
 use crate::queries::known::{of_literal, of_literal_entity, of_types};
-use crate::queries::locations::{common_types, lacking_at, location, namespaces};
+use crate::queries::locations::{common_types, location, namespaces};
 use crate::queries::schemas::shown;
-use cedar_schema::below::{Entity, EntityType, EntityUID, M, ValidationMode};
-use cedar_schema::{
-    CompleteError, IncompleteSchemaError, RequestTypes, UnresolvedDeclaration, ValidatorSchema,
-};
+use cedar_schema::below::{Entity, EntityType, EntityUID, Loc, M, ValidationMode};
+use cedar_schema::{CompleteError, RequestTypes, UnresolvedDeclaration, ValidatorSchema};
 use schema_lines::uid_text;
 use shorthand::names::{entity_type, entity_types, uid, uids};
 use shorthand::sample_extensions;
@@ -59,6 +55,24 @@ fn joined(alloc: Global, texts: &[String]) -> M<String> {
     Ok(joined)
 }
 
+/// A text with its location behind it, if it has one.
+pub(crate) fn with_place(alloc: Global, text: String, loc: Option<Loc>) -> M<String> {
+    match loc {
+        Some(loc) => Ok(format!(in alloc; "{text}@{}", loc.source)?),
+        None => Ok(text),
+    }
+}
+
+/// The name of an entity type, with its location.
+fn located_type(alloc: Global, ty: &EntityType) -> M<String> {
+    with_place(alloc, ty.to_string(alloc)?, ty.loc())
+}
+
+/// A uid, with its location.
+fn located_uid(alloc: Global, uid: &EntityUID) -> M<String> {
+    with_place(alloc, uid_text(alloc, uid)?, uid.loc())
+}
+
 /// The names of some entity types, one after another.
 fn names<'a, I: Iterator<Item = &'a EntityType> + Drop>(alloc: Global, types: I) -> M<Vec<String>>
     requires can { I.can_next types }
@@ -66,7 +80,7 @@ fn names<'a, I: Iterator<Item = &'a EntityType> + Drop>(alloc: Global, types: I)
 {
     let mut names = Vec::new(alloc);
     for ty in types {
-        names.push(ty.to_string(alloc)?)?;
+        names.push(located_type(alloc, ty)?)?;
     }
     Ok(names)
 }
@@ -88,7 +102,7 @@ fn uid_texts<'a, I: Iterator<Item = &'a EntityUID> + Drop>(alloc: Global, uids: 
 {
     let mut texts = Vec::new(alloc);
     for uid in uids {
-        texts.push(uid_text(alloc, uid)?)?;
+        texts.push(located_uid(alloc, uid)?)?;
     }
     joined(alloc, &texts)
 }
@@ -216,34 +230,34 @@ fn lacks(alloc: Global, schema: &ValidatorSchema) -> M<String> {
     let mut texts = Vec::new(alloc);
     for declaration in schema.unresolved_declarations() {
         texts.push(match declaration {
-            UnresolvedDeclaration::EntityType(ty) => ty.name().to_string(alloc)?,
-            UnresolvedDeclaration::Action(action) => uid_text(alloc, action.name())?,
+            UnresolvedDeclaration::EntityType(ty) => located_type(alloc, ty.name())?,
+            UnresolvedDeclaration::Action(action) => located_uid(alloc, action.name())?,
         })?;
     }
     joined(alloc, &texts)
 }
 
-/// What an incomplete schema lacks: the entity types, and then the actions after a bar.
-fn lacking(alloc: Global, error: &IncompleteSchemaError) -> M<String> {
-    let types = joined(alloc, &names(alloc, error.entity_types.iter())?)?;
-    let actions = uid_texts(alloc, error.actions.iter())?;
-    Ok(format!(in alloc; "{types} | {actions}")?)
-}
-
-/// That a schema is complete, or else what it lacks.
-fn check(alloc: Global, schema: &ValidatorSchema) -> Result<String, Fail> {
+/// That a schema is complete, or else what is printed of what it lacks, with its location.
+fn check(alloc: Global, schema: &ValidatorSchema) -> M<String> {
     match schema.check_complete(alloc) {
         Ok(()) => Ok(String::from_str(alloc, "complete")?),
-        Err(CompleteError::Incomplete(error)) => Ok(lacking(alloc, &error)?),
-        Err(CompleteError::Memory(memory)) => Err(Fail::from(memory)),
+        Err(CompleteError::Incomplete(error)) => {
+            with_place(alloc, error.to_string(alloc)?, error.loc)
+        }
+        Err(CompleteError::Memory(memory)) => Err(memory),
     }
 }
 
-/// The uid of an entity, and those of its ancestors.
+/// The uid of an entity, and those of its ancestors without their locations.
 fn entity_text(alloc: Global, entity: &Entity) -> M<String> {
-    let uid = uid_text(alloc, entity.uid())?;
-    let above = uid_texts(alloc, entity.ancestors())?;
-    Ok(format!(in alloc; "{uid} in {above};")?)
+    let mut text = located_uid(alloc, entity.uid())?;
+    text.push_str(" in")?;
+    for above in entity.ancestors() {
+        text.push(' ')?;
+        text.push_str(uid_text(alloc, above)?.as_str())?;
+    }
+    text.push(';')?;
+    Ok(text)
 }
 
 /// The entities of the actions.
@@ -261,7 +275,7 @@ fn entities(alloc: Global, schema: &ValidatorSchema) -> Result<String, Fail> {
 fn environments(alloc: Global, schema: &ValidatorSchema, mode: ValidationMode) -> M<String> {
     let mut texts = Vec::new(alloc);
     for it in schema.unlinked_request_envs(mode) {
-        let action = uid_text(alloc, it.action)?;
+        let action = located_uid(alloc, it.action)?;
         let (principal, resource, context) = (it.principal, it.resource, it.context);
         texts.push(format!(in alloc; "{principal} {action} {resource} {context};")?)?;
     }
@@ -297,7 +311,6 @@ fn of_all(alloc: Global, schema: &ValidatorSchema, question: &str) -> Result<Str
         "copy" => copy(alloc, schema),
         "common_types" => Ok(common_types(alloc, schema)?),
         "namespaces" => Ok(namespaces(alloc, schema)?),
-        "lacking_at" => lacking_at(alloc, schema),
         "principals" => Ok(sorted(alloc, schema.principals())?),
         "resources" => Ok(sorted(alloc, schema.resources())?),
         "groups" => Ok(uid_texts(alloc, schema.action_groups())?),
@@ -305,7 +318,7 @@ fn of_all(alloc: Global, schema: &ValidatorSchema, question: &str) -> Result<Str
         "leaves" => Ok(leaves(alloc, schema)?),
         "lacks" => Ok(lacks(alloc, schema)?),
         "is_complete" => Ok(schema.is_complete().to_string(alloc)?),
-        "check" => check(alloc, schema),
+        "check" => Ok(check(alloc, schema)?),
         "strict" => Ok(environments(alloc, schema, ValidationMode::Strict)?),
         "permissive" => Ok(environments(alloc, schema, ValidationMode::Permissive)?),
         _ => Err(unknown(question)),
@@ -327,8 +340,6 @@ pub(crate) fn answer(
         "actions_in" => actions_in(alloc, schema, of),
         "literal" => of_literal(alloc, schema, of),
         "attributes_of" => of_literal_entity(alloc, schema, of),
-        "lent" => borrowed(alloc, schema, of),
-        "lent_above" => borrowed_above(alloc, schema, of),
         "find" | "ancestors" | "types_in" | "is_type" => of_type(alloc, schema, word, of),
         "known"
         | "known_one"

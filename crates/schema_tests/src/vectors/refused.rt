@@ -1,512 +1,560 @@
 //! Declarations that are refused, with what the refusal carries. Where more than one answer is
-//! right, ` or ` stands between them.
+//! right, ` or else ` stands between them.
 
-use crate::vectors::answers::{check_as_written, check_row};
+use crate::vectors::answers::{Row, check_rows};
 use std::test::Fail;
 
 /// References that resolve to nothing, or to something else.
-const UNKNOWN: &[(&str, &str, &str)] = &[
+const UNKNOWN: &[Row] = &[
     (
         "an entity type that nothing declares",
         "entity U {a: e:Ghost}",
-        "refused: TypeNotDefined Ghost",
+        "TypeNotDefined(no entity type is declared as Ghost)",
     ),
     (
         "a namespace around the own one isn't looked at",
         "N: entity T | N::M: entity U {a: e:T}",
-        "refused: TypeNotDefined T",
+        "TypeNotDefined(no entity type is declared as N::M::T or T)",
     ),
     (
         "a path isn't continued from the own namespace",
         "N::M: entity T | N: entity U {a: e:M::T}",
-        "refused: TypeNotDefined M::T",
+        "TypeNotDefined(no entity type is declared as M::T)",
     ),
     (
         "unknown tags",
         "entity U tags n:What",
-        "refused: TypeNotDefined What",
+        "TypeNotDefined(no type is declared as What)",
     ),
     (
         "a common type of an entity type",
         "type A = c:U; entity U",
-        "refused: TypeNotDefined U",
+        "TypeNotDefined(no common type is declared as U)",
     ),
     (
         "an entity type of a common type",
         "type T = Long; entity U {t: e:T}",
-        "refused: TypeNotDefined T",
+        "TypeNotDefined(no entity type is declared as T)",
     ),
     (
         "an unknown element",
         "type T = Set<n:Gone>",
-        "refused: TypeNotDefined Gone",
+        "TypeNotDefined(no type is declared as Gone)",
     ),
     (
         "an unknown parent",
         "entity X in Gone",
-        "refused: TypeNotDefined Gone",
+        "TypeNotDefined(no entity type is declared as Gone)",
     ),
     (
         "a common type as parent",
         "type T = Long; entity X in T",
-        "refused: TypeNotDefined T",
+        "TypeNotDefined(no entity type is declared as T)",
     ),
     (
         "an unknown parent of an external entity type",
         "external entity X in Gone",
-        "refused: TypeNotDefined Gone",
-    ),
-    (
-        "an unknown parent of an external declaration beside a definition",
-        "external entity X in Gone | entity X",
-        "refused: TypeNotDefined Gone",
+        "TypeNotDefined(no entity type is declared as Gone)",
     ),
     (
         "an unknown principal",
         "action view P Gone R -",
-        "refused: TypeNotDefined Gone",
+        "TypeNotDefined(no entity type is declared as Gone)",
     ),
     (
         "an unknown resource",
         "entity U; action view P U R Gone",
-        "refused: TypeNotDefined Gone",
+        "TypeNotDefined(no entity type is declared as Gone)",
     ),
     (
         "a principal of another namespace that isn't there",
         "N: entity P; M: action view P N::Q R N::P",
-        "refused: TypeNotDefined N::Q",
+        "TypeNotDefined(no entity type is declared as N::Q)",
     ),
     (
         "a resource of another namespace that isn't there",
         "N: entity P; M: entity R; M: action view P N::P R N::R",
-        "refused: TypeNotDefined N::R",
+        "TypeNotDefined(no entity type is declared as N::R)",
     ),
     (
         "a parent of another namespace that isn't there",
         "N: entity G; M: entity H; M: entity U in N::H",
-        "refused: TypeNotDefined N::H",
+        "TypeNotDefined(no entity type is declared as N::H)",
     ),
     (
         "a common type that nothing declares",
         "N: type T = Long; entity U {a: c:T}",
-        "refused: TypeNotDefined T",
+        "TypeNotDefined(no common type is declared as T)",
     ),
     (
         "two unknown groups of one action",
         "action view in gone,lost",
-        "refused: ActionNotDefined Action::\"gone\" or refused: ActionNotDefined Action::\"lost\" \
-         or \
-         refused: ActionNotDefined Action::\"gone\" Action::\"lost\" or \
-         refused: ActionNotDefined Action::\"lost\" Action::\"gone\"",
+        "ActionNotDefined(no action is declared as \"gone\" of type Action) or else \
+         ActionNotDefined(no action is declared as \"lost\" of type Action) or else \
+         ActionNotDefined(no action is declared as \"gone\" of type Action, or as \"lost\" of \
+         type Action) or else ActionNotDefined(no action is declared as \"lost\" of type \
+         Action, or as \"gone\" of type Action)",
     ),
     (
         "an unknown type in a context",
         "action view P - R - context {a: n:Gone}",
-        "refused: TypeNotDefined Gone",
+        "TypeNotDefined(no type is declared as Gone)",
     ),
     (
         "a built-in type as principal",
         "action view P __cedar::Long R -",
-        "refused: TypeNotDefined __cedar::Long",
+        "TypeNotDefined(no entity type is declared as __cedar::Long)",
     ),
     (
         "the type of actions as a common type",
         "type T = c:Action; action view",
-        "refused: TypeNotDefined Action",
+        "TypeNotDefined(no common type is declared as Action)",
     ),
     (
         "two unknown names",
         "entity U {a: e:Gone, b: e:Lost}",
-        "refused: TypeNotDefined Gone or refused: TypeNotDefined Lost or refused: TypeNotDefined \
-         Gone Lost or \
-         refused: TypeNotDefined Lost Gone",
+        "TypeNotDefined(no entity type is declared as Gone) or else \
+         TypeNotDefined(no entity type is declared as Lost) or else \
+         TypeNotDefined(no entity type is declared as Gone, no entity type is declared as Lost) \
+         or else TypeNotDefined(no entity type is declared as Lost, no entity type is declared \
+         as Gone)",
     ),
     (
         "the type of actions of another namespace",
         "N: action view; entity U {a: e:Action}",
-        "refused: TypeNotDefined Action",
+        "TypeNotDefined(no entity type is declared as Action)",
     ),
     (
         "the type of no actions",
         "entity U {a: e:Action}",
-        "refused: TypeNotDefined Action",
+        "TypeNotDefined(no entity type is declared as Action)",
     ),
     (
         "an unknown group",
         "action view in gone",
-        "refused: ActionNotDefined Action::\"gone\"",
+        "ActionNotDefined(no action is declared as \"gone\" of type Action)",
     ),
     (
         "a group of another namespace",
         "N: action read; action view in read",
-        "refused: ActionNotDefined Action::\"read\"",
+        "ActionNotDefined(no action is declared as \"read\" of type Action)",
     ),
     (
         "an unknown group of an external action",
         "external action view in gone",
-        "refused: ActionNotDefined Action::\"gone\"",
+        "ActionNotDefined(no action is declared as \"gone\" of type Action)",
     ),
     (
         "an unknown group of an external declaration beside a definition",
         "external action view in N::Action::gone | action view",
-        "refused: ActionNotDefined N::Action::\"gone\"",
+        "ActionNotDefined(no action is declared as \"gone\" of type N::Action)",
     ),
     (
         "a built-in type that isn't there",
         "type T = n:__cedar::T",
-        "refused: TypeNotDefined __cedar::T",
+        "TypeNotDefined(no type is declared as __cedar::T)",
     ),
     (
         "an unknown extension type that is used nowhere",
         "type X = x:nosuch",
-        "refused: UnknownExtensionType nosuch",
+        "UnknownExtensionType(the extension type nosuch is not known)",
     ),
     (
         "an unknown extension type in a context",
         "action view P - R - context {a: Set<x:nosuch>}",
-        "refused: UnknownExtensionType nosuch",
+        "UnknownExtensionType(the extension type nosuch is not known)",
     ),
 ];
 
 /// Types of actions where an entity type has to stand.
-const OF_ACTIONS: &[(&str, &str, &str)] = &[
+const OF_ACTIONS: &[Row] = &[
     (
         "the type of actions as principal",
         "entity U {a: e:Action}; action view P Action R -",
-        "refused: UndeclaredEntityTypes Action",
+        "UndeclaredEntityTypes(no entity type is declared as Action)",
     ),
     (
         "the type of actions as resource",
         "N: entity U; N: action view P U R Action",
-        "refused: UndeclaredEntityTypes N::Action",
+        "UndeclaredEntityTypes(no entity type is declared as N::Action)",
     ),
     (
         "the type of actions as parent",
         "entity U in Action; action view",
-        "refused: UndeclaredEntityTypes Action",
+        "UndeclaredEntityTypes(no entity type is declared as Action)",
     ),
     (
         "the type of actions as parent of an external entity type",
         "external entity U in Action; external action view",
-        "refused: UndeclaredEntityTypes Action",
+        "UndeclaredEntityTypes(no entity type is declared as Action)",
     ),
     (
         "types of actions as parents in two namespaces",
         "entity U in Action; N: entity V in Action; action a; N: action b",
-        "refused: UndeclaredEntityTypes Action or refused: UndeclaredEntityTypes N::Action or \
-         refused: UndeclaredEntityTypes Action N::Action or \
-         refused: UndeclaredEntityTypes N::Action Action",
+        "UndeclaredEntityTypes(no entity type is declared as Action) or else \
+         UndeclaredEntityTypes(no entity type is declared as N::Action) or else \
+         UndeclaredEntityTypes(no entity type is declared as Action, or as N::Action) or else \
+         UndeclaredEntityTypes(no entity type is declared as N::Action, or as Action)",
     ),
     (
         "an external entity type with the base name of actions' types",
         "N: external entity Action",
-        "refused: ActionEntityTypeDeclared N::Action",
+        "ActionEntityTypeDeclared(the entity type N::Action has the name of an action type)",
     ),
 ];
 
 /// Names that are declared twice, or that shadow one another.
-const TWICE: &[(&str, &str, &str)] = &[
+const TWICE: &[Row] = &[
     (
         "two definitions of an entity type",
         "entity T | entity T",
-        "refused: DuplicateEntityType T",
+        "DuplicateEntityType(the entity type T is declared twice)",
     ),
     (
         "a standard and an enumerated definition",
         "N: entity T | N: entity T enum red",
-        "refused: DuplicateEntityType N::T",
+        "DuplicateEntityType(the entity type N::T is declared twice)",
     ),
     (
         "two definitions beside an external declaration",
         "entity U | entity U | external entity U",
-        "refused: DuplicateEntityType U",
+        "DuplicateEntityType(the entity type U is declared twice)",
     ),
     (
         "two equal common types",
         "N: type T = Long | N: type T = Long",
-        "refused: DuplicateCommonType N::T",
+        "DuplicateCommonType(the common type N::T is declared twice)",
     ),
     (
         "two definitions of an action",
         "action view | action view",
-        "refused: DuplicateAction Action::\"view\"",
-    ),
-    (
-        "two definitions of an action beside an external declaration",
-        "N: action view | external action all | N: action view | N: external action view",
-        "refused: DuplicateAction N::Action::\"view\"",
+        "DuplicateAction(the action Action::\"view\" is declared twice)",
     ),
     (
         "a common type shadows an entity type",
         "entity User | N: type User = Long",
-        "refused: TypeShadowing User N::User",
+        "TypeShadowing(the type N::User would shadow the type User)",
     ),
     (
         "an entity type shadows another",
         "entity T | N: entity T",
-        "refused: TypeShadowing T N::T",
+        "TypeShadowing(the type N::T would shadow the type T)",
     ),
     (
         "an entity type shadows a common type",
         "type T = Long | N::M: entity T",
-        "refused: TypeShadowing T N::M::T",
+        "TypeShadowing(the type N::M::T would shadow the type T)",
     ),
     (
         "a common type shadows another",
         "type T = Long | N: type T = Long",
-        "refused: TypeShadowing T N::T",
+        "TypeShadowing(the type N::T would shadow the type T)",
     ),
     (
         "an external entity type is shadowed",
         "external entity T | N: external entity T",
-        "refused: TypeShadowing T N::T",
+        "TypeShadowing(the type N::T would shadow the type T)",
     ),
     (
         "an action shadows another",
         "action a | N: external action a",
-        "refused: ActionShadowing Action::\"a\" N::Action::\"a\"",
-    ),
-    (
-        "a definition in one of two namespaces shadows",
-        "entity T; N: entity T; M: entity T",
-        "refused: TypeShadowing T N::T or refused: TypeShadowing T M::T",
+        "ActionShadowing(the action N::Action::\"a\" would shadow the action Action::\"a\")",
     ),
 ];
 
 /// What is on a cycle, and what stands below enumerated entity types.
-const CHAINS: &[(&str, &str, &str)] = &[
+const CHAINS: &[Row] = &[
     (
         "common types that lead back to one another",
         "type A = {b: n:B, n: n:Long}; type B = Set<n:A>",
-        "refused: CycleInCommonTypeReferences A or refused: CycleInCommonTypeReferences B",
+        "CycleInCommonTypeReferences(the definition of the common type A leads back to it) \
+         or else CycleInCommonTypeReferences(the definition of the common type B leads back to it)",
     ),
     (
         "a common type that leads to another that leads back",
         "type A = {b: c:B}; type B = {b: c:B}",
-        "refused: CycleInCommonTypeReferences B",
+        "CycleInCommonTypeReferences(the definition of the common type B leads back to it)",
     ),
     (
         "common types of two namespaces that lead back",
         "N: type A = n:M::B | M: type B = {a?: Set<n:N::A>} | type C = n:N::A",
-        "refused: CycleInCommonTypeReferences N::A or refused: CycleInCommonTypeReferences M::B",
+        "CycleInCommonTypeReferences(the definition of the common type N::A leads back to it) \
+         or else CycleInCommonTypeReferences(the definition of the common type M::B leads back \
+         to it)",
     ),
     (
         "a common type named as an extension type that leads to itself",
         "N: type ipaddr = n:ipaddr; entity U {a: n:ipaddr}",
-        "refused: CycleInCommonTypeReferences N::ipaddr",
+        "CycleInCommonTypeReferences(the definition of the common type N::ipaddr leads back to \
+         it)",
     ),
     (
         "an action in itself",
         "action view in view",
-        "refused: CycleInActionHierarchy Action::\"view\"",
+        "CycleInActionHierarchy(the action Action::\"view\" is its own ancestor)",
     ),
     (
         "an action above a ring isn't named, nor one below it",
         "action top; action a in b,top; action b in a; action low in b",
-        "refused: CycleInActionHierarchy Action::\"a\" or refused: CycleInActionHierarchy \
-         Action::\"b\"",
-    ),
-    (
-        "a ring of actions through an external declaration",
-        "external action a in b | action a | action b in a",
-        "refused: CycleInActionHierarchy Action::\"a\" or refused: CycleInActionHierarchy \
-         Action::\"b\"",
+        "CycleInActionHierarchy(the action Action::\"a\" is its own ancestor) or else \
+         CycleInActionHierarchy(the action Action::\"b\" is its own ancestor)",
     ),
     (
         "an external entity type below an enumerated one by a chain",
         "entity Color enum red; entity Shade in Color; external entity Tint in Shade",
-        "refused: ExternalWithEnumAncestor Tint Color",
+        "ExternalWithEnumAncestor(the external type Tint is below the enumerated type Color)",
     ),
     (
         "an external entity type right below an enumerated one",
         "external entity Shade in Color | entity Color enum red",
-        "refused: ExternalWithEnumAncestor Shade Color",
+        "ExternalWithEnumAncestor(the external type Shade is below the enumerated type Color)",
     ),
     (
         "an external entity type below an enumerated one by an external declaration beside a \
          definition",
         "external entity T in S | external entity S in C | entity S | entity C enum red",
-        "refused: ExternalWithEnumAncestor T C",
+        "ExternalWithEnumAncestor(the external type T is below the enumerated type C)",
     ),
     (
         "an enumerated entity type below another by an external declaration",
         "external entity Color in Paint | entity Color enum red | entity Paint",
-        "refused: EnumEntityInHierarchy Color Paint",
-    ),
-    (
-        "an enumerated entity type below two others",
-        "external entity C in A | external entity C in B | entity C enum red | entity A; \
-         entity B enum blue",
-        "refused: EnumEntityInHierarchy C A or refused: EnumEntityInHierarchy C B",
+        "EnumEntityInHierarchy(the enumerated type Color is below the type Paint)",
     ),
     (
         "an enumerated entity type in a ring",
         "N: external entity C in S | N: entity C enum red | N: entity S in C",
-        "refused: EnumEntityInHierarchy N::C N::S",
+        "EnumEntityInHierarchy(the enumerated type N::C is below the type N::S)",
     ),
 ];
 
 /// Forms that have no place where they stand.
-const FORMS: &[(&str, &str, &str)] = &[
+const FORMS: &[Row] = &[
     (
         "a shape that is a common type of numbers",
         "type S = Long; entity U shape c:S",
-        "refused: ContextOrShapeNotRecord shape U",
+        "ContextOrShapeNotRecord(the shape of the entity type U is no record type)",
     ),
     (
         "a shape of numbers",
         "N: entity U shape Long",
-        "refused: ContextOrShapeNotRecord shape N::U",
+        "ContextOrShapeNotRecord(the shape of the entity type N::U is no record type)",
     ),
     (
         "a context that is a common type of numbers",
         "type S = Long; action view P - R - context c:S",
-        "refused: ContextOrShapeNotRecord context Action::\"view\"",
+        "ContextOrShapeNotRecord(the context of the action Action::\"view\" is no record type)",
     ),
     (
         "a shape that is an entity type",
         "entity U shape e:U",
-        "refused: ContextOrShapeNotRecord shape U",
+        "ContextOrShapeNotRecord(the shape of the entity type U is no record type)",
     ),
     (
         "an open record inside a shape",
         "entity U {r: {x: Long *}}",
-        "refused: UnsupportedFeature OpenRecordsAndEntities",
+        "UnsupportedFeature(records that admit more than their listed attributes are not \
+         supported)",
     ),
     (
         "an open shape",
         "entity U {*}",
-        "refused: UnsupportedFeature OpenRecordsAndEntities",
+        "UnsupportedFeature(records that admit more than their listed attributes are not \
+         supported)",
     ),
     (
         "an open record that is used nowhere",
         "type X = {*}",
-        "refused: UnsupportedFeature OpenRecordsAndEntities",
+        "UnsupportedFeature(records that admit more than their listed attributes are not \
+         supported)",
     ),
     (
         "an open context",
         "action view P - R - context {a: Long *}",
-        "refused: UnsupportedFeature OpenRecordsAndEntities",
+        "UnsupportedFeature(records that admit more than their listed attributes are not \
+         supported)",
     ),
     (
         "open tags",
         "entity U tags {*}",
-        "refused: UnsupportedFeature OpenRecordsAndEntities",
+        "UnsupportedFeature(records that admit more than their listed attributes are not \
+         supported)",
     ),
     (
         "an external action with attributes",
         "external action view attributes",
-        "refused: UnsupportedFeature ActionAttributes view",
+        "UnsupportedFeature(attributes of actions are not supported: \"view\")",
     ),
     (
         "an external action with attributes beside a definition",
         "external action a attributes | action a",
-        "refused: UnsupportedFeature ActionAttributes a",
+        "UnsupportedFeature(attributes of actions are not supported: \"a\")",
     ),
 ];
 
 /// Actions with attributes, of which a refusal names all those of one definition.
-const OF_ONE_DEFINITION: &[(&str, &str, &str)] = &[
+const OF_ONE_DEFINITION: &[Row] = &[
     (
         "two actions with attributes",
         "action b attributes; action a attributes; action c",
-        "refused: UnsupportedFeature ActionAttributes a b",
+        "UnsupportedFeature(attributes of actions are not supported: \"a\", \"b\")",
     ),
     (
         "actions with attributes in two fragments",
         "action b attributes; action a attributes | action c attributes",
-        "refused: UnsupportedFeature ActionAttributes a b or refused: UnsupportedFeature \
-         ActionAttributes c",
+        "UnsupportedFeature(attributes of actions are not supported: \"a\", \"b\") or else \
+         UnsupportedFeature(attributes of actions are not supported: \"c\")",
     ),
 ];
 
 /// Several faults at once, each of which may be named.
-const SEVERAL: &[(&str, &str, &str)] = &[
+const SEVERAL: &[Row] = &[
     (
         "a shadow and an unknown name",
         "entity T | N: entity T | entity U {a: e:Gone}",
-        "refused: TypeShadowing T N::T or refused: TypeNotDefined Gone",
+        "TypeShadowing(the type N::T would shadow the type T) or else \
+         TypeNotDefined(no entity type is declared as Gone)",
     ),
     (
         "a common type that shadows what it seems to name, and leads to itself",
         "type Foo = Long | N: type Foo = n:Foo",
-        "refused: TypeShadowing Foo N::Foo or refused: CycleInCommonTypeReferences N::Foo",
+        "TypeShadowing(the type N::Foo would shadow the type Foo) or else \
+         CycleInCommonTypeReferences(the definition of the common type N::Foo leads back to it)",
     ),
     (
         "an enumerated entity type below an unknown one",
         "external entity C in Gone | entity C enum red",
-        "refused: TypeNotDefined Gone or refused: EnumEntityInHierarchy C Gone",
+        "TypeNotDefined(no entity type is declared as Gone) or else \
+         EnumEntityInHierarchy(the enumerated type C is below the type Gone)",
     ),
     (
         "two chains that lead back",
         "type A = {x: c:A}; action v in v",
-        "refused: CycleInCommonTypeReferences A or refused: CycleInActionHierarchy Action::\"v\"",
-    ),
-    (
-        "a wrong chain and a repeat",
-        "entity Color enum red | external entity Tint in Color | entity U | entity U",
-        "refused: ExternalWithEnumAncestor Tint Color or refused: DuplicateEntityType U",
+        "CycleInCommonTypeReferences(the definition of the common type A leads back to it) \
+         or else CycleInActionHierarchy(the action Action::\"v\" is its own ancestor)",
     ),
     (
         "two faults of a definition alone",
         "entity Action; action view attributes",
-        "refused: ActionEntityTypeDeclared Action or refused: UnsupportedFeature ActionAttributes \
-         view",
+        "ActionEntityTypeDeclared(the entity type Action has the name of an action type) \
+         or else UnsupportedFeature(attributes of actions are not supported: \"view\")",
+    ),
+];
+
+/// What refusals name in full, in a namespace.
+const IN_A_NAMESPACE: &[Row] = &[
+    (
+        "actions with attributes, in the order of their ids",
+        "action b attributes; action a attributes",
+        "UnsupportedFeature(attributes of actions are not supported: \"a\", \"b\")",
+    ),
+    (
+        "a type of actions in a namespace",
+        "N: action a P Action R -",
+        "UndeclaredEntityTypes(no entity type is declared as N::Action)",
+    ),
+    (
+        "a name that is looked for in a namespace",
+        "N: type T = n:S",
+        "TypeNotDefined(no type is declared as N::S or S)",
+    ),
+    (
+        "a name that is looked for in a namespace",
+        "N: entity U {a: e:S}",
+        "TypeNotDefined(no entity type is declared as N::S or S)",
+    ),
+    (
+        "a name that is looked for in a namespace",
+        "N: entity U {a: c:M::S}",
+        "TypeNotDefined(no common type is declared as M::S)",
+    ),
+    (
+        "an action that is looked for in a namespace",
+        "N: action a in b",
+        "ActionNotDefined(no action is declared as \"b\" of type N::Action or Action)",
+    ),
+    (
+        "an action that is looked for in a namespace",
+        "N: action a in M::Action::b",
+        "ActionNotDefined(no action is declared as \"b\" of type M::Action)",
+    ),
+    (
+        "a common type in a namespace",
+        "entity T | N: type T = Long",
+        "TypeShadowing(the type N::T would shadow the type T)",
+    ),
+    (
+        "an action in a namespace",
+        "action a | N: action a",
+        "ActionShadowing(the action N::Action::\"a\" would shadow the action Action::\"a\")",
+    ),
+    (
+        "an entity type in a namespace",
+        "N: entity T | N: entity T",
+        "DuplicateEntityType(the entity type N::T is declared twice)",
+    ),
+    (
+        "an action in a namespace, twice",
+        "N: action a | N: action a",
+        "DuplicateAction(the action N::Action::\"a\" is declared twice)",
+    ),
+    (
+        "an action in a namespace, in itself",
+        "N: action a in a",
+        "CycleInActionHierarchy(the action N::Action::\"a\" is its own ancestor)",
+    ),
+    (
+        "a common type in a namespace, of itself",
+        "N: type T = n:T",
+        "CycleInCommonTypeReferences(the definition of the common type N::T leads back to it)",
+    ),
+    (
+        "a type of actions, declared in a namespace",
+        "N: entity Action",
+        "ActionEntityTypeDeclared(the entity type N::Action has the name of an action type)",
+    ),
+    (
+        "a form in a namespace",
+        "N: action a P - R - context Long",
+        "ContextOrShapeNotRecord(the context of the action N::Action::\"a\" is no record type)",
     ),
 ];
 
 #[test]
 fn unknown_names_are_refused(rt: HostRuntime) -> Result<(), Fail> {
-    for (row, text, answers) in UNKNOWN {
-        check_row(rt.alloc(), row, text, answers)?;
-    }
-    Ok(())
+    check_rows(rt.alloc(), UNKNOWN)
 }
 
 #[test]
 fn types_of_actions_are_no_entity_types(rt: HostRuntime) -> Result<(), Fail> {
-    for (row, text, answers) in OF_ACTIONS {
-        check_row(rt.alloc(), row, text, answers)?;
-    }
-    Ok(())
+    check_rows(rt.alloc(), OF_ACTIONS)
 }
 
 #[test]
 fn repeats_and_shadows_are_refused(rt: HostRuntime) -> Result<(), Fail> {
-    for (row, text, answers) in TWICE {
-        check_row(rt.alloc(), row, text, answers)?;
-    }
-    Ok(())
+    check_rows(rt.alloc(), TWICE)
 }
 
 #[test]
 fn wrong_chains_are_refused(rt: HostRuntime) -> Result<(), Fail> {
-    for (row, text, answers) in CHAINS {
-        check_row(rt.alloc(), row, text, answers)?;
-    }
-    Ok(())
+    check_rows(rt.alloc(), CHAINS)
 }
 
 #[test]
 fn forms_out_of_place_are_refused(rt: HostRuntime) -> Result<(), Fail> {
-    for (row, text, answers) in FORMS {
-        check_row(rt.alloc(), row, text, answers)?;
-    }
-    Ok(())
+    check_rows(rt.alloc(), FORMS)
 }
 
 #[test]
 fn actions_with_attributes_are_named_by_definition(rt: HostRuntime) -> Result<(), Fail> {
-    for (row, text, answers) in OF_ONE_DEFINITION {
-        check_as_written(rt.alloc(), row, text, answers)?;
-    }
-    Ok(())
+    check_rows(rt.alloc(), OF_ONE_DEFINITION)
 }
 
 #[test]
 fn one_of_several_faults_is_named(rt: HostRuntime) -> Result<(), Fail> {
-    for (row, text, answers) in SEVERAL {
-        check_row(rt.alloc(), row, text, answers)?;
-    }
-    Ok(())
+    check_rows(rt.alloc(), SEVERAL)
+}
+
+#[test]
+fn refusals_name_all_in_full(rt: HostRuntime) -> Result<(), Fail> {
+    check_rows(rt.alloc(), IN_A_NAMESPACE)
 }

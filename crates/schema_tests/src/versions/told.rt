@@ -4,19 +4,15 @@
 //! `attributes a.b`, `tags []`, where `[]` is the step to the elements of a set. Behind it stands
 //! the witness's uid, or those of its principal and its resource.
 
+use crate::queries::schemas::schema_of;
 use cedar_compare::{Cause, Comparison, Difference, compare};
 use cedar_counterexample::Step;
 use cedar_schema::ValidatorSchema;
-use cedar_schema::below::{EntityType, EntityUID, M, RestrictedExpr, Value};
+use cedar_schema::below::{M, RestrictedExpr, Value};
 use shorthand::names::name;
-use shorthand::{fragments_of, sample_extensions, written};
+use shorthand::sample_extensions;
 use std::alloc::Global;
 use std::test::Fail;
-
-/// A uid as it is printed.
-fn uid_text(alloc: Global, uid: &EntityUID) -> M<String> {
-    Ok(uid.to_string(alloc)?)
-}
 
 /// Steps, one behind another.
 fn steps_text(alloc: Global, word: &str, steps: &[Step]) -> M<String> {
@@ -46,36 +42,25 @@ fn cause_text(alloc: Global, cause: &Cause) -> M<String> {
     }
 }
 
-/// The types of a request, and its action.
-fn environment_text(
-    alloc: Global,
-    principal: &EntityType,
-    action: &EntityUID,
-    resource: &EntityType,
-) -> M<String> {
-    Ok(format!(in alloc; "{principal} {action} {resource}")?)
-}
-
 /// A difference.
 fn difference_text(alloc: Global, difference: &Difference) -> M<String> {
     match difference {
         Difference::EntityType { witness, cause } => {
             let cause = cause_text(alloc, cause)?;
-            let uid = uid_text(alloc, witness.uid())?;
-            let ty = witness.uid().entity_type();
+            let uid = witness.uid();
+            let ty = uid.entity_type();
             Ok(format!(in alloc; "{ty}: {cause}, {uid}")?)
         }
         Difference::Action { witness, cause } => {
             let cause = cause_text(alloc, cause)?;
-            let uid = uid_text(alloc, witness.uid())?;
+            let uid = witness.uid();
             Ok(format!(in alloc; "{uid}: {cause}")?)
         }
         Difference::Environment { witness, cause } => {
             let cause = cause_text(alloc, cause)?;
             let principal = witness.principal.entity_type();
-            let resource = witness.resource.entity_type();
-            let environment = environment_text(alloc, principal, &witness.action, resource)?;
-            Ok(format!(in alloc; "{environment}: {cause}")?)
+            let (action, resource) = (&witness.action, witness.resource.entity_type());
+            Ok(format!(in alloc; "{principal} {action} {resource}: {cause}")?)
         }
     }
 }
@@ -87,20 +72,9 @@ fn differences_text(alloc: Global, differences: &[Difference]) -> M<String> {
         if !text.is_empty() {
             text.push_str("; ")?;
         }
-        let one = difference_text(alloc, difference)?;
-        text.push_str(one.as_str())?;
+        text.push_str(difference_text(alloc, difference)?.as_str())?;
     }
     Ok(text)
-}
-
-/// The schema of some declarations.
-fn schema_of(alloc: Global, text: &str) -> Result<ValidatorSchema, Fail> {
-    let extensions = sample_extensions(alloc)?;
-    let fragments = fragments_of(alloc, &written(alloc, text)?)?;
-    match ValidatorSchema::from_raw_fragments(alloc, fragments, &extensions) {
-        Ok(schema) => Ok(schema),
-        Err(_) => Err(Fail::new(format_args!("no schema: {text}"))),
-    }
 }
 
 /// A value of the sample extension's type.

@@ -1,0 +1,15 @@
+//! Tests of types, of entity types and of actions.
+
+mod actions;
+mod attributes;
+mod copies;
+mod core_types;
+mod edges;
+mod entity_types;
+mod joins;
+mod members;
+mod parting;
+mod requests;
+mod separate;
+pub(crate) mod test_values;
+mod types;
