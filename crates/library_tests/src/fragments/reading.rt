@@ -105,6 +105,7 @@ const OWN: &str = "the name is that of a type of Cedar's own";
 const IDS: &[(&str, &str, &str, &str)] = &[
     ("a", "a", "a", "a"),
     ("_9", "_9", "_9", "_9"),
+    ("a9_", "a9_", "a9_", "a9_"),
     ("if", "if", "if", "if"),
     ("__cedar", "__cedar", RESERVED, RESERVED),
     ("Bool", "Bool", "Bool", OWN),
@@ -147,6 +148,7 @@ const NO_IDS: &[(&str, usize)] = &[
     ("é", 0),
     ("::", 0),
     ("a b", 1),
+    ("a-b", 1),
     ("a::b", 1),
     ("aé", 1),
 ];

@@ -163,6 +163,14 @@ const DECLARED: &[(&str, &str)] = &[
             {\"type\": \"Record\",\"attributes\": {},\"additionalAttributes\": true}},\
             \"memberOf\": [{\"id\": \"a\"},{\"id\": \"b\",\"type\": \"N::Action\"}]}}}}",
     ),
+    (
+        "type T = {a: c:N::Long, b: c:N::Boolean, c: c:N::Set, d: c:N::Record, e: c:N::Entity, \
+         f: c:N::Extension}",
+        "{\"\": {\"entityTypes\": {},\"actions\": {},\"commonTypes\": {\"T\": {\"type\": \
+            \"Record\",\"attributes\": {\"a\": {\"type\": \"N::Long\"},\"b\": {\"type\": \
+            \"N::Boolean\"},\"c\": {\"type\": \"N::Set\"},\"d\": {\"type\": \"N::Record\"},\"e\": \
+            {\"type\": \"N::Entity\"},\"f\": {\"type\": \"N::Extension\"}}}}}}",
+    ),
     ("type T = c:String", "Unwritable(TypeWord(\"String\"))"),
     ("type T = c:Long", "Unwritable(TypeWord(\"Long\"))"),
     ("type T = c:Boolean", "Unwritable(TypeWord(\"Boolean\"))"),

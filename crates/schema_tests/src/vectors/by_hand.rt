@@ -275,6 +275,17 @@ const REFUSED: &[(&str, &str, &str)] = &[
         "action User::Action::x",
     ),
     (
+        "action N::User::x",
+        "InvalidActionType(the action N::User::\"x\" has no action type)",
+        "action N::Action::x",
+    ),
+    (
+        "action N::Action::read > Action::gone",
+        "UndeclaredActionsDescendant(the action Action::\"gone\" is a descendant, but not \
+         declared)",
+        "action N::Action::read > Action::gone; action Action::gone",
+    ),
+    (
         "action Action::read > Action::gone",
         "UndeclaredActionsDescendant(the action Action::\"gone\" is a descendant, but not \
          declared)",
