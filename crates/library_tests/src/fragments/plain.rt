@@ -3,8 +3,9 @@
 use crate::fragments::shown::is_alike;
 use cedar_below::{Loc, M};
 use cedar_names::json_schema::{
-    ActionType, AttributesOrContext, CommonType, EntityType, EntityTypeKind, NamespaceDefinition,
-    RawName, StandardEntityType, Type, TypeVariant, copied_names,
+    ActionEntityUID, ActionType, ApplySpec, AttributesOrContext, CommonType, EntityType,
+    EntityTypeKind, NamespaceDefinition, RawName, StandardEntityType, Type, TypeVariant,
+    copied_names,
 };
 use shorthand::checked::holds;
 use shorthand::fragment_of;
@@ -40,10 +41,27 @@ fn is_standard_copied(alloc: Global, it: &StandardEntityType<RawName>) -> M<bool
 
 /// Whether the copies of what an entity type is declared as are shown alike.
 fn is_kind_copied(alloc: Global, it: &EntityTypeKind<RawName>) -> M<bool> {
+    let is_copied = is_alike(alloc, it.clone(), it)?;
     match it {
-        EntityTypeKind::Enum { .. } => Ok(true),
-        EntityTypeKind::Standard(standard) => is_standard_copied(alloc, standard),
+        EntityTypeKind::Enum { .. } => Ok(is_copied),
+        EntityTypeKind::Standard(standard) => {
+            Ok(is_standard_copied(alloc, standard)? && is_copied)
+        }
     }
+}
+
+/// Whether the copies of an action, of its parents and of what it is for are shown alike.
+fn is_action_copied(alloc: Global, it: &ActionType<RawName>) -> M<bool> {
+    let mut are_alike = is_alike(alloc, it.clone(), it)?;
+    if let Some(parents) = &it.member_of {
+        for parent in parents {
+            are_alike = is_alike(alloc, ActionEntityUID::clone(parent), parent)? && are_alike;
+        }
+    }
+    if let Some(requests) = &it.applies_to {
+        are_alike = is_alike(alloc, ApplySpec::clone(requests), requests)? && are_alike;
+    }
+    Ok(are_alike)
 }
 
 /// Whether the copies of all that a definition declares are shown alike.
@@ -54,7 +72,7 @@ fn is_definition_copied(alloc: Global, it: &NamespaceDefinition<RawName>) -> M<b
         are_alike = is_alike(alloc, EntityType::clone(it), it)? && are_alike;
     }
     for it in it.actions.values() {
-        are_alike = is_alike(alloc, ActionType::clone(it), it)? && are_alike;
+        are_alike = is_action_copied(alloc, it)? && are_alike;
     }
     for it in it.common_types.values() {
         are_alike = is_alike(alloc, CommonType::clone(it), it)? && are_alike;

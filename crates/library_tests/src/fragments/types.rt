@@ -87,6 +87,10 @@ fn copies_of_names_are_shown_alike(rt: HostRuntime) -> Result<(), Fail> {
         "an entity type",
     )?;
     holds(
+        is_copied(alloc, raw(alloc, "N::T@1")?)?,
+        "a name as it is written",
+    )?;
+    holds(
         is_copied(alloc, internal_name(alloc, "N::T@1")?)?,
         "a full name",
     )?;

@@ -27,6 +27,13 @@ fn a_list_becomes_attributes(rt: HostRuntime) -> Result<(), Fail> {
     same("the attributes", shown.as_str(), "{bar: Long,foo: String,}")
 }
 
+#[test]
+fn no_attributes_are_shown_as_none(rt: HostRuntime) -> Result<(), Fail> {
+    let none = Attributes::empty(rt.alloc())?;
+    let shown = format!(in rt.alloc(); "{none}")?;
+    same("no attributes", shown.as_str(), "{}")
+}
+
 /// The closed record type of numbers at `bar` and of the type of a word at `foo`, both declared at
 /// the place.
 fn located(alloc: Global, foo: &str) -> Result<Type, Fail> {
