@@ -90,6 +90,11 @@ def entity_chain(count):
     return [fragment({"E0": entity_type()} | chain)]
 
 
+def entity_ring(count):
+    """Entity types, each below the one before it and the first below the last."""
+    return [fragment({f"E{it}": entity_type(f"E{(it - 1) % count}") for it in range(count)})]
+
+
 def requests(count):
     """An action for requests of as many entity types on as many others."""
     principals, resources = ([f"{it}{number}" for number in range(count)] for it in "PR")
@@ -212,9 +217,25 @@ class Row:
                 raise Fault(f"{self.name}, {command[:100]}: {said}")
 
 
+# How many descendants entity types in a chain have, all together, by how many they are.
+CHAINS = {1: 0, 63: 1953, 64: 2016, 65: 2080, 130: 8385}
+
+
+def chains():
+    """The rows of short chains, about as long as a word of a machine has bits."""
+    return [
+        Row(
+            f"{count} entity types in a chain",
+            lambda count=count: entity_chain(count),
+            [("show", number_of_lines("descendant ", descendants))],
+        )
+        for count, descendants in CHAINS.items()
+    ]
+
+
 def rows():
     """The rows."""
-    return [
+    return chains() + [
         Row(
             "a shadowed type and an unknown name",
             shadowed_and_unknown,
@@ -264,6 +285,11 @@ def rows():
             "65 actions in a ring",
             lambda: action_ring(65),
             [("build", cycle_of_actions(0, 64))],
+        ),
+        Row(
+            "65 entity types in a ring",
+            lambda: entity_ring(65),
+            [("show", number_of_lines("descendant ", 4225))],
         ),
         Row(
             "2000 entity types in a chain",

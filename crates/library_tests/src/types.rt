@@ -7,6 +7,7 @@ mod core_types;
 mod edges;
 mod entity_types;
 mod joins;
+mod large;
 mod members;
 mod parting;
 mod requests;
