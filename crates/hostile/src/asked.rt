@@ -1,6 +1,7 @@
 //! What is asked of a schema that was put together by hand.
 
-use crate::by_hand::{chain, no_extensions};
+use crate::by_hand::chain;
+use crate::extensions::no_extensions;
 use crate::names::{action_uid, entity_type};
 use crate::scenario::Question;
 use crate::stop::{Stop, refused_where};

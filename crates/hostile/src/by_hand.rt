@@ -1,17 +1,15 @@
 //! A schema that is put together by hand: three entity types in a chain, and two actions.
 
-ghost use Rattle.cedar_below.specs.Words.{TypeNamesFit, extension_types};
-
+use crate::extensions::no_extensions;
 use crate::names::{action_uid, entity_type, entity_types};
 use crate::stop::Stop;
-use cedar_schema::below::{EntityUID, Extensions, M};
+use cedar_schema::below::{EntityUID, M};
 use cedar_schema::{
     AttributeType, Attributes, OpenTag, Type, ValidatorActionId, ValidatorEntityType,
     ValidatorSchema,
 };
 use schema_lines::lines_of;
 use std::alloc::Global;
-use std::collections::BTreeMap;
 use std::ops::Range;
 use std::rc::Rc;
 
@@ -94,13 +92,6 @@ pub(crate) fn chain(alloc: Global) -> Result<ValidatorSchema, Stop> {
     let types = types(alloc)?;
     let actions = actions(alloc)?;
     Ok(ValidatorSchema::new(alloc, types, actions)?)
-}
-
-/// No extension types and functions.
-pub(crate) fn no_extensions(alloc: Global) -> Extensions
-    ensures { TypeNamesFit (extension_types result) }
-{
-    Extensions::new(Vec::new(alloc), BTreeMap::new(alloc))
 }
 
 /// The lines of the chain once it is validated.

@@ -10,6 +10,7 @@ use std::{env, io};
 mod asked;
 mod by_hand;
 mod copied;
+mod extensions;
 mod left;
 mod names;
 mod run;
