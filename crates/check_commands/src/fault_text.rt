@@ -2,10 +2,10 @@
 
 use crate::cedar_syntax::is_cedar;
 use crate::repeating::Repeated;
+use crate::shape::Shape;
 use crate::slip::push_slip;
 use crate::text::Text;
-use crate::unwrapped::is_unwrapped;
-use cedar_below::{Loc, M, Memory};
+use cedar_below::{Loc, M};
 use cedar_json::{FaultKind, JsonSchemaFault, Place, Wanted};
 use std::alloc::Global;
 
@@ -108,16 +108,11 @@ fn push_no_json(words: &mut Text, text: &str, up_to: usize) {
     }
 }
 
-/// Adds what is said of a document in which definitions don't stand below their namespaces, as far
-/// as its fields tell.
-fn push_no_namespaces(words: &mut Text, text: &str) {
-    match is_unwrapped(words.alloc(), text) {
-        Ok(true) => {
-            words.push_str("the level of namespaces is missing, ");
-            words.push_str("so wrap the document in `{\"\": ..}`; as it stands, ");
-        }
-        Ok(false) => {}
-        Err(Memory) => words.refuse(),
+/// Adds what may be meant where a namespace is named as a field of a definition.
+fn push_no_namespace(words: &mut Text, pointer: &str) {
+    let key = pointer.strip_prefix('/').unwrap_or("");
+    if !matches!(Shape::Definition.of_member(key), Shape::Other) {
+        words.push_str("; to declare in no namespace, wrap the document in `{\"\": ..}`");
     }
 }
 
@@ -141,8 +136,8 @@ fn push_fault(words: &mut Text, text: &str, fault: &JsonSchemaFault) {
             push_pointer(words, at);
         }
         JsonSchemaFault::OutOfShape { at, fault } => {
-            push_no_namespaces(words, text);
             push_shape(words, text, at, *fault);
+            push_no_namespace(words, at.pointer.as_str());
         }
         JsonSchemaFault::Memory => words.push_str("out of memory"),
     }

@@ -35,7 +35,6 @@ mod slip;
 mod status;
 mod steps;
 mod text;
-mod unwrapped;
 mod unwritable;
 mod walk;
 mod witness;
