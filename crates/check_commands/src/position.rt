@@ -48,14 +48,28 @@ fn shown(character: char) -> char {
     }
 }
 
-/// Adds what stands below a character, as wide as it is shown: a tab below a tab, and else blanks.
-fn push_below(text: &mut Text, character: char) {
-    if character == '\t' {
-        text.push('\t');
-        return;
+/// Adds characters as they can be shown.
+fn push_shown(text: &mut Text, characters: &str) {
+    for character in characters.chars() {
+        text.push(shown(character));
     }
-    for _ in 0..shown(character).width().unwrap_or(0) {
-        text.push(' ');
+}
+
+/// What stands below a character, as wide as it is shown: a tab below a tab, and else blanks.
+fn below(character: char) -> &'static str {
+    match shown(character).width() {
+        _ if character == '\t' => "\t",
+        Some(1) => " ",
+        Some(2) => "  ",
+        Some(3) => "   ",
+        _ => "",
+    }
+}
+
+/// Adds what stands below characters.
+fn push_below(text: &mut Text, characters: &str) {
+    for character in characters.chars() {
+        text.push_str(below(character));
     }
 }
 
@@ -85,12 +99,8 @@ pub(crate) fn push_line_with_caret(text: &mut Text, source: &str, position: Posi
     let line = line_at(source, position.line);
     let before = position.column.saturating_sub(1);
     let start = before.saturating_sub(SHOWN_BEFORE);
-    for character in part(line, start, start.saturating_add(SHOWN)).chars() {
-        text.push(shown(character));
-    }
+    push_shown(text, part(line, start, start.saturating_add(SHOWN)));
     text.push('\n');
-    for character in part(line, start, before).chars() {
-        push_below(text, character);
-    }
+    push_below(text, part(line, start, before));
     text.push_str("^\n");
 }
