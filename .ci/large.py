@@ -125,6 +125,16 @@ def declared_in(namespaces):
     return [{name: fragment({"U": entity_type()})[""] for name in namespaces}]
 
 
+def undeclared_entity_type(name):
+    """An attribute of an entity type that nothing declares."""
+    return [fragment({"U": with_attribute(entity(name))})]
+
+
+def undeclared_action(id):
+    """An action below one that nothing declares."""
+    return [fragment(actions={"v": action_below(id)})]
+
+
 # What may be said.
 
 
@@ -187,6 +197,7 @@ BELOW_OR_TWICE = refusal(
 )
 LONG_ID = "v" * 1_048_576
 LONG_UID = f'Action::"{LONG_ID}"'
+WORDY_ID = "v w " * 100
 MANY = ["::".join([f"N{number}"] + ["M"] * 48) for number in range(1000)]
 DEEP = "::".join(["N0"] + ["M"] * 999)
 
@@ -310,6 +321,16 @@ def rows():
             "an id of a mebibyte",
             lambda: [fragment(actions={LONG_ID: {}})],
             [("show", lines(f'action {LONG_UID} defined', f'context {LONG_UID} {{}}'))],
+        ),
+        Row(
+            "a name of a mebibyte that nothing declares",
+            lambda: undeclared_entity_type(LONG_ID),
+            [("build", refusal(f"no entity type is declared as {LONG_ID[:200]}.."))],
+        ),
+        Row(
+            "an id of 400 characters that nothing declares",
+            lambda: undeclared_action(WORDY_ID),
+            [("build", refusal(f'no action is declared as "{WORDY_ID[:199]}.." of type Action'))],
         ),
         Row(
             "10000 fragments of one entity type each",

@@ -2,6 +2,7 @@
 
 use crate::finding::{Finding, file_of};
 use crate::outcome::Outcome;
+use crate::repeating::{Repeated, shortened};
 use crate::text::Text;
 use cedar_below::{EntityType, EntityUID, M, Memory, NameFault};
 use cedar_schema::{CompleteError, IncompleteSchemaError, RequestEnv, ValidatorSchema};
@@ -69,7 +70,7 @@ pub(crate) fn counts(alloc: Global, schema: &ValidatorSchema) -> M<Outcome> {
 
 /// What is external, at the first place where something is declared so.
 fn lacking(alloc: Global, error: &IncompleteSchemaError) -> M<Option<Finding>> {
-    let message = format!(in alloc; "{error}")?;
+    let message = shortened(format!(in alloc; "{error}")?)?;
     Ok(Some(Finding {
         file: file_of(error.loc),
         loc: error.loc,
@@ -126,7 +127,7 @@ impl Answer {
 fn bad_word(alloc: Global, word: &str, fault: NameFault) -> Answer {
     let text = match fault {
         NameFault::Memory(refused) => Err(refused),
-        fault => format!(in alloc; "{word}: {fault}").or(Err(Memory)),
+        fault => format!(in alloc; "{}: {fault}", Repeated(word)).or(Err(Memory)),
     };
     let kind = AnswerKind::BadWord;
     Answer { kind, text }
@@ -178,8 +179,10 @@ impl Wanted {
 
 /// The line of an environment.
 fn line_of(alloc: Global, env: &RequestEnv<'_>) -> M<String> {
-    let line = format!(in alloc; "{} {} {}\n", env.principal, env.action, env.resource);
-    line.or(Err(Memory))
+    let mut line = Text::new(alloc);
+    line.write_escaped(format_args!("{} {} {}", env.principal, env.action, env.resource));
+    line.push('\n');
+    line.whole()
 }
 
 /// The environments that are asked for, a line each.

@@ -15,6 +15,7 @@ use crate::laying_out::format;
 use crate::linking::{is_read, link};
 use crate::outcome::{Manner, Outcome, refused};
 use crate::reading::well_formed;
+use crate::repeating::Repeated;
 use crate::status::Status;
 use crate::text::Text;
 use cedar_below::{EntityType, EntityUID, M, Memory};
@@ -193,9 +194,10 @@ fn over_schema<F: FileAccess>(
 fn overwrites(alloc: Global, output: &str) -> M<Outcome>
     ensures { IfOk result (λ outcome. outcome.status ≡ Status.Usage) }
 {
+    let name = Repeated(output);
     usage(
         alloc,
-        format_args!("{output}: the file to be written is one of those read"),
+        format_args!("{name}: the file to be written is one of those read"),
     )
 }
 

@@ -1,24 +1,49 @@
 //! The types of attributes, of tags and of contexts.
 
 use crate::answers::{Answer, type_named, uid_named};
+use crate::repeating::{Repeated, shortened};
 use crate::text::Text;
-use cedar_below::{EntityType, EntityUID, Memory};
+use cedar_below::{EntityType, EntityUID, Memory, Quoted};
 use cedar_schema::lookup::SchemaLookup;
 use cedar_schema::{Type, ValidatorEntityType, ValidatorSchema};
 use std::alloc::Global;
 use std::fmt::Display;
 
+/// The text of a type.
+fn type_text(alloc: Global, ty: &Type) -> Text {
+    let mut text = Text::new(alloc);
+    text.push_type(ty);
+    text
+}
+
 /// One line with the text of a type.
 fn type_line(alloc: Global, ty: &Type) -> Answer {
     let mut line = Text::new(alloc);
-    line.write_escaped(ty);
+    line.push_text(&type_text(alloc, ty));
     line.push('\n');
     Answer::lines(line.whole())
 }
 
+/// That a type has no attribute of a name.
+fn no_attribute(alloc: Global, ty: &Type, name: &str) -> Answer {
+    let mut why = Text::new(alloc);
+    why.push_beginning(&type_text(alloc, ty));
+    let name = Repeated(name);
+    write!(
+        why,
+        " has no attribute {}{}",
+        Quoted(name.beginning()),
+        name.rest()
+    );
+    Answer::nothing(why.whole())
+}
+
 /// That a schema has nothing of a kind.
 fn nothing<T: Display + Drop>(alloc: Global, why: T) -> Answer {
-    Answer::nothing(String::format(alloc, why).or(Err(Memory)))
+    Answer::nothing(match String::format(alloc, why) {
+        Ok(why) => shortened(why),
+        Err(_) => Err(Memory),
+    })
 }
 
 /// A type, or the type at the end of a chain of attributes that begins with one of it.
@@ -28,7 +53,7 @@ fn type_below(alloc: Global, schema: &ValidatorSchema, ty: &Type, names: &[&str]
     };
     match Type::lookup_attribute_type(alloc, schema, ty, name) {
         Ok(Some(attribute)) => type_below(alloc, schema, &attribute.attr_type, others),
-        Ok(None) => nothing(alloc, format_args!("{ty} has no attribute \"{name}\"")),
+        Ok(None) => no_attribute(alloc, ty, name),
         Err(refused) => Answer::lines(Err(refused)),
     }
 }

@@ -4,6 +4,8 @@ use crate::files::FileAccess;
 use crate::finding::{Finding, Source, file_of};
 use crate::outcome::{Manner, Outcome, refused};
 use crate::reading::{ReadFiles, source_number, well_formed};
+use crate::repeating::{Repeated, shortened};
+use crate::text::Text;
 use cedar_below::{Loc, M, Memory};
 use cedar_json::{
     JsonSchemaFault, Places, cedar_extensions, fragment_from_json, place_of, second_place_of,
@@ -70,34 +72,94 @@ fn file_at(sources: &[Source], loc: Option<Loc>) -> Option<usize> {
     }
 }
 
+/// Whether a refusal is of two definitions of one thing.
+fn is_of_two_definitions(error: &SchemaError) -> bool {
+    matches!(
+        error,
+        SchemaError::DuplicateEntityType(_)
+            | SchemaError::DuplicateCommonType(_)
+            | SchemaError::DuplicateAction(_)
+    )
+}
+
+/// Whether two names are of one file.
+fn is_one_file<F: FileAccess>(files: &mut F, one: &str, other: &str) -> bool {
+    one != "-" && other != "-" && files.is_same(one, other)
+}
+
+/// The numbers of two of the files that are one file, where the definitions that a refusal is of
+/// stand in these.
+fn given_twice<F: FileAccess>(
+    files: &mut F,
+    sources: &[Source],
+    error: &SchemaError,
+    places: TwoPlaces,
+) -> Option<(usize, usize)> {
+    let (one, other) = (file_of(places.second)?, file_of(places.first)?);
+    let (first, second) = (sources.get(one)?, sources.get(other)?);
+    let is_twice = one != other
+        && is_of_two_definitions(error)
+        && is_one_file(files, first.name.as_str(), second.name.as_str());
+    if is_twice { Some((one, other)) } else { None }
+}
+
+/// What is told of a file that is given a second time.
+fn twice_finding(alloc: Global, sources: &[Source], one: usize, other: usize) -> M<Finding> {
+    let mut why = Text::new(alloc);
+    why.push_str("the file is given twice");
+    if let (Some(first), Some(second)) = (sources.get(one), sources.get(other))
+        && first.name.as_str() != second.name.as_str()
+    {
+        write!(why, ", also as {}", Repeated(first.name.as_str()));
+    }
+    Ok(Finding::in_file(other, None, "GivenTwice", why.whole()?))
+}
+
 /// What is told of declarations that no schema is built of.
-fn schema_finding(alloc: Global, sources: &[Source], error: &SchemaError) -> M<Finding> {
-    let TwoPlaces { first, second } = places_of_refusal(alloc, sources, error)?;
+fn schema_finding(
+    alloc: Global,
+    sources: &[Source],
+    error: &SchemaError,
+    places: TwoPlaces,
+) -> M<Finding> {
+    let TwoPlaces { first, second } = places;
     Ok(Finding {
         file: file_at(sources, first),
         loc: first,
         kind: error.kind(),
-        message: format!(in alloc; "{error}")?,
+        message: shortened(format!(in alloc; "{error}")?)?,
         other: second,
     })
 }
 
 /// What is told where no schema is built.
-fn not_built(alloc: Global, manner: Manner, sources: &[Source], error: &SchemaError) -> M<Outcome> {
+fn not_built<F: FileAccess>(
+    alloc: Global,
+    files: &mut F,
+    manner: Manner,
+    sources: &[Source],
+    error: &SchemaError,
+) -> M<Outcome> {
     if let SchemaError::Memory(_) = error {
         return Err(Memory);
     }
-    refused(
-        alloc,
-        manner,
-        sources,
-        schema_finding(alloc, sources, error)?,
-    )
+    let places = places_of_refusal(alloc, sources, error)?;
+    let finding = match given_twice(files, sources, error, places) {
+        Some((one, other)) => twice_finding(alloc, sources, one, other)?,
+        None => schema_finding(alloc, sources, error, places)?,
+    };
+    refused(alloc, manner, sources, finding)
 }
 
 /// The same of a refusal that is done with then.
-fn refusal(alloc: Global, manner: Manner, sources: &[Source], error: SchemaError) -> M<Outcome> {
-    not_built(alloc, manner, sources, &error)
+fn refusal<F: FileAccess>(
+    alloc: Global,
+    files: &mut F,
+    manner: Manner,
+    sources: &[Source],
+    error: SchemaError,
+) -> M<Outcome> {
+    not_built(alloc, files, manner, sources, &error)
 }
 
 /// The schema that fragments declare, over the extensions of Cedar.
@@ -123,6 +185,6 @@ pub(crate) fn built<F: FileAccess>(
     } = well_formed(alloc, files, names, manner)?;
     match schema_of(alloc, fragments) {
         Ok(schema) => Ok(BuiltFiles { sources, schema }),
-        Err(error) => Err(refusal(alloc, manner, &sources, error)),
+        Err(error) => Err(refusal(alloc, files, manner, &sources, error)),
     }
 }

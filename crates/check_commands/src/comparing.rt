@@ -4,7 +4,8 @@ ghost use Rattle.std.specs.Prelude.{◌≡◌, ◌↔◌, ◌⊎◌, [], IfOk};
 ghost use Rattle.cedar_compare.specs.Keeps.{Keeps};
 ghost use Rattle.cedar_schema.specs.ValidatorSchema.{schema_of};
 
-use crate::building::built;
+use crate::answers::incomplete;
+use crate::building::{BuiltFiles, built};
 use crate::difference_json::push_objects;
 use crate::difference_lines::push_lines;
 use crate::files::FileAccess;
@@ -170,16 +171,50 @@ fn with_new_faults<F: FileAccess>(
     }
 }
 
+/// What is told of a version that leaves something external, if it does.
+fn told_external(
+    alloc: Global,
+    manner: Manner,
+    it: &BuiltFiles,
+    version: &str,
+) -> M<Option<Outcome>> {
+    match incomplete(alloc, &it.schema)? {
+        Some(finding) => {
+            let why = finding.message.as_str();
+            let message = format!(in alloc; "the {version} version isn't compared: {why}")?;
+            let finding = Finding { message, ..finding };
+            Ok(Some(refused(alloc, manner, &it.sources, finding)?))
+        }
+        None => Ok(None),
+    }
+}
+
+/// Compares the schemas of two versions, unless one leaves something external.
+fn compare_complete(
+    alloc: Global,
+    telling: Telling,
+    old: &BuiltFiles,
+    new: &BuiltFiles,
+) -> M<Outcome> {
+    let manner = telling.manner;
+    let of_old = told_external(alloc, manner, old, "old")?;
+    match (of_old, told_external(alloc, manner, new, "new")?) {
+        (Some(told), Some(other)) => told.with(&other),
+        (Some(told), None) | (None, Some(told)) => Ok(told),
+        (None, None) => compare_schemas(alloc, telling, &old.schema, &new.schema),
+    }
+}
+
 /// Compares the schema of old files with the one that new files declare.
 fn compare_built<F: FileAccess>(
     alloc: Global,
     files: &mut F,
-    old: &ValidatorSchema,
+    old: &BuiltFiles,
     new: &[&str],
     telling: Telling,
 ) -> M<Outcome> {
     match built(alloc, files, new, telling.manner) {
-        Ok(new) => compare_schemas(alloc, telling, old, &new.schema),
+        Ok(new) => compare_complete(alloc, telling, old, &new),
         Err(told) => told,
     }
 }
@@ -194,7 +229,7 @@ pub(crate) fn compare_files<F: FileAccess>(
     telling: Telling,
 ) -> M<Outcome> {
     match built(alloc, files, old, telling.manner) {
-        Ok(old) => compare_built(alloc, files, &old.schema, new, telling),
+        Ok(old) => compare_built(alloc, files, &old, new, telling),
         Err(Ok(told)) => with_new_faults(alloc, files, told, new, telling.manner),
         Err(Err(refused)) => Err(refused),
     }

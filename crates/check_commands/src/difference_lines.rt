@@ -47,7 +47,8 @@ impl<'a> Run<'a> {
             && rest > 0
         {
             let word = if rest == 1 { "request" } else { "requests" };
-            write!(text, "  .. and {rest} more {word} of {action}\n");
+            text.write_escaped(format_args!("  .. and {rest} more {word} of {action}"));
+            text.push('\n');
         }
     }
 
@@ -80,10 +81,15 @@ fn push_witness(text: &mut Text, witness: &str) {
 
 /// Adds the lines of a difference: what it is of, why, and a witness.
 fn push_difference(text: &mut Text, sides: &Sides<'_>, difference: &Difference) {
+    let alloc = text.alloc();
+    let mut subject = Text::new(alloc);
+    push_subject(&mut subject, difference);
+    let mut cause = Text::new(alloc);
+    push_cause(&mut cause, sides, difference);
     write!(text, "{} ", sides.change);
-    push_subject(text, difference);
+    text.push_text(&subject);
     text.push_str("\n  ");
-    push_cause(text, sides, difference);
+    text.push_text(&cause);
     text.push('\n');
     match witness_text(text.alloc(), difference) {
         Ok(Some(witness)) => push_witness(text, witness.as_str()),

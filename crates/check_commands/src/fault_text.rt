@@ -1,5 +1,9 @@
 //! Why a text isn't read as a fragment, in words.
 
+use crate::cedar_syntax::is_cedar;
+use crate::repeating::Repeated;
+use crate::shape::Shape;
+use crate::slip::push_slip;
 use crate::text::Text;
 use cedar_below::{Loc, M};
 use cedar_json::{FaultKind, JsonSchemaFault, Place, Wanted};
@@ -64,8 +68,7 @@ fn push_pointer(words: &mut Text, place: &Place) {
     if place.pointer.is_empty() {
         words.push_str("at the top");
     } else {
-        words.push_str("at ");
-        words.push_str(place.pointer.as_str());
+        write!(words, "at {}", Repeated(place.pointer.as_str()));
     }
 }
 
@@ -86,41 +89,31 @@ fn push_shape(words: &mut Text, text: &str, place: &Place, kind: FaultKind) {
             words.push_str(", ");
         }
         _ => {
-            words.push_str(written_at(text, place.loc));
-            words.push_str(": ");
-            words.push_str(shape_words(kind));
-            words.push_str(", ");
+            let written = Repeated(written_at(text, place.loc));
+            write!(words, "{written}: {}, ", shape_words(kind));
         }
     }
     push_pointer(words, place);
 }
 
-/// Why a text is no JSON; where it is Cedar's own syntax of schemas, how to convert it.
-fn no_json_words(text: &str, too_deep: bool) -> &'static str {
-    if too_deep {
-        "this is nested deeper than 128 levels"
-    } else if text.starts_with('\u{feff}') {
-        "the file begins with a byte order mark, which JSON doesn't have"
-    } else if begins_as_cedar(text) {
-        "this is no JSON but Cedar's schema syntax: \
-         convert it by `cedar translate-schema --direction cedar-to-json`"
+/// Adds why a text is no JSON; where it is Cedar's own syntax of schemas, how to convert it.
+fn push_no_json(words: &mut Text, text: &str, up_to: usize) {
+    if text.starts_with('\u{feff}') {
+        words.push_str("the file begins with a byte order mark, which JSON doesn't have");
+    } else if is_cedar(text) {
+        words.push_str("this is no JSON but Cedar's schema syntax: ");
+        words.push_str("convert it by `cedar translate-schema --direction cedar-to-json`");
     } else {
-        "from here on this is no JSON"
+        push_slip(words, text, up_to);
     }
 }
 
-/// The words with which a declaration in Cedar's schema syntax may begin.
-const CEDAR_WORDS: &[&str] = &["namespace", "entity", "action", "type", "@", "//"];
-
-/// Whether a text begins as Cedar's schema syntax does.
-fn begins_as_cedar(text: &str) -> bool {
-    let text = text.trim_start();
-    for word in CEDAR_WORDS {
-        if text.starts_with(*word) {
-            return true;
-        }
+/// Adds what may be meant where a namespace is named as a field of a definition.
+fn push_no_namespace(words: &mut Text, pointer: &str) {
+    let key = pointer.strip_prefix('/').unwrap_or("");
+    if !matches!(Shape::Definition.of_member(key), Shape::Other) {
+        words.push_str("; to declare in no namespace, wrap the document in `{\"\": ..}`");
     }
-    false
 }
 
 /// Adds what is at fault, in words.
@@ -133,16 +126,19 @@ fn push_fault(words: &mut Text, text: &str, fault: &JsonSchemaFault) {
                 "byte {valid_up_to} (from 0) belongs to no UTF-8 character"
             );
         }
-        JsonSchemaFault::NotJson { too_deep, .. } => {
-            words.push_str(no_json_words(text, *too_deep));
+        JsonSchemaFault::NotJson { too_deep: true, .. } => {
+            words.push_str("this is nested deeper than 128 levels");
         }
+        JsonSchemaFault::NotJson { up_to, .. } => push_no_json(words, text, *up_to),
         JsonSchemaFault::TwiceInObject { at, .. } => {
-            words.push_str("the key ");
-            words.push_str(written_at(text, at.loc));
-            words.push_str(" comes twice in the object ");
+            let key = Repeated(written_at(text, at.loc));
+            write!(words, "the key {key} comes twice in the object ");
             push_pointer(words, at);
         }
-        JsonSchemaFault::OutOfShape { at, fault } => push_shape(words, text, at, *fault),
+        JsonSchemaFault::OutOfShape { at, fault } => {
+            push_shape(words, text, at, *fault);
+            push_no_namespace(words, at.pointer.as_str());
+        }
         JsonSchemaFault::Memory => words.push_str("out of memory"),
     }
 }

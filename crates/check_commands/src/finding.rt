@@ -2,6 +2,7 @@
 
 use crate::json_lines::Object;
 use crate::position::{Position, position_of, push_line_with_caret};
+use crate::repeating::Repeated;
 use crate::text::Text;
 use cedar_below::Loc;
 
@@ -80,13 +81,19 @@ fn position_in(source: &Source, loc: Option<Loc>) -> Option<Position> {
     Some(position_of(source.text.as_str(), at))
 }
 
-/// Adds `FILE:LINE:COLUMN: `, or `FILE: ` where there is no position.
+/// Adds `FILE:LINE:COLUMN: `, or `FILE: ` where there is no position. With a position the name is
+/// whole however long it is, so that an editor finds the file.
 fn push_where(text: &mut Text, source: &Source, position: Option<Position>) {
-    text.push_escaped(source.name.as_str());
-    if let Some(Position { line, column }) = position {
-        write!(text, ":{line}:{column}");
+    match position {
+        Some(Position { line, column }) => {
+            text.push_escaped(source.name.as_str());
+            write!(text, ":{line}:{column}: ");
+        }
+        None => {
+            text.write_escaped(Repeated(source.name.as_str()));
+            text.push_str(": ");
+        }
     }
-    text.push_str(": ");
 }
 
 /// Adds the line of a position with `^` below it, if there is one.

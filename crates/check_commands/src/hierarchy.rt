@@ -6,13 +6,14 @@ ghost use Rattle.std.specs.Bool.{OnFalse};
 
 use cedar_below::{M, Memory};
 use cedar_schema::ValidatorSchema;
+use schema_lines::escaped;
 use std::alloc::Global;
 use std::collections::{BTreeMap, BTreeSet, hash_set};
 use std::fmt::Display;
 
-/// The text of a name.
+/// The text of a name, with escapes for what would control a terminal.
 pub(crate) fn text_of<T: Display>(alloc: Global, name: &T) -> M<String> {
-    format!(in alloc; "{name}").or(Err(Memory))
+    escaped(alloc, format!(in alloc; "{name}")?.as_str())
 }
 
 /// The texts of some names.

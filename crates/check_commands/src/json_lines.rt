@@ -3,6 +3,7 @@
 use crate::text::Text;
 use cedar_below::{M, Memory};
 use json::{Error, Scratch, Value, Writer};
+use schema_lines::is_hidden;
 use std::alloc::Global;
 
 /// An object of JSON that is being written. Where memory runs out, that is remembered, and told at
@@ -108,15 +109,34 @@ impl Object {
     }
 }
 
-/// Adds a line of JSON, with JSON's escape in the place of each character that would control a
-/// terminal, and a line end.
-pub(crate) fn push_line(text: &mut Text, line: &str) {
-    for character in line.chars() {
-        if character.is_control() {
+/// Whether a character would control a terminal otherwise than by ending a line.
+fn is_hidden_in_json(character: char) -> bool {
+    is_hidden(character) && character != '\n'
+}
+
+/// Adds JSON, with JSON's escape in the place of each such character.
+fn push_json(text: &mut Text, json: &str) {
+    for character in json.chars() {
+        if is_hidden_in_json(character) {
             write!(text, "\\u{:04x}", u32::from(character));
         } else {
             text.push(character);
         }
     }
+}
+
+/// Adds a line of JSON so, and a line end.
+pub(crate) fn push_line(text: &mut Text, line: &str) {
+    push_json(text, line);
     text.push('\n');
+}
+
+/// A text of JSON as it is shown: with such escapes where it has such characters.
+pub(crate) fn shown_json(json: String) -> M<String> {
+    if !json.as_str().chars().any(is_hidden_in_json) {
+        return Ok(json);
+    }
+    let mut text = Text::new(*json.allocator());
+    push_json(&mut text, json.as_str());
+    text.whole()
 }

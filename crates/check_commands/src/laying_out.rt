@@ -4,6 +4,7 @@ ghost use Rattle.std.specs.Prelude.{◌≡◌, IfOk};
 
 use crate::files::FileAccess;
 use crate::finding::{Finding, Source};
+use crate::json_lines::shown_json;
 use crate::layout::laid_out;
 use crate::outcome::{Manner, Outcome, refused};
 use crate::reading::well_formed;
@@ -21,6 +22,14 @@ fn differs(alloc: Global, manner: Manner, sources: &[Source]) -> M<Outcome>
     refused(alloc, manner, sources, finding)
 }
 
+/// The layout of a text as it is printed, or None where it is no JSON.
+fn shown_layout(alloc: Global, text: &str) -> M<Option<String>> {
+    match laid_out(alloc, text)? {
+        Some(layout) => Ok(Some(shown_json(layout)?)),
+        None => Ok(None),
+    }
+}
+
 /// The layout of a file; or, where it is only tested, nothing where the file has it, and else a
 /// refusal.
 fn told_layout(
@@ -30,7 +39,7 @@ fn told_layout(
     source: &Source,
     is_test: bool,
 ) -> M<Outcome> {
-    match laid_out(alloc, source.text.as_str()) {
+    match shown_layout(alloc, source.text.as_str()) {
         Ok(Some(text)) if !is_test => Ok(Outcome::done(alloc, text)),
         Ok(Some(text)) if text.as_str() == source.text.as_str() => {
             Ok(Outcome::done(alloc, String::new(alloc)))

@@ -6,10 +6,13 @@ ghost use Rattle.check_commands.specs.Linked.{IsLinked, fragment_text};
 use crate::building::{BuiltFiles, built};
 use crate::files::{FileAccess, FileFault};
 use crate::finding::{Finding, Source};
+use crate::json_lines::shown_json;
 use crate::left_out::{LeftOut, left_out};
 use crate::outcome::{Manner, Outcome, refused};
+use crate::repeating::Repeated;
 use crate::status::Status;
 use crate::text::Text;
+use crate::unwritable::unwritable_text;
 use cedar_below::{M, Memory};
 use cedar_json_writer::{WriteFault, fragment_to_json};
 use cedar_names::json_schema::{Fragment, RawName};
@@ -60,25 +63,19 @@ fn left_out_note(alloc: Global, sources: &[Source]) -> M<String> {
 }
 
 /// What is told of a schema that no fragment declares again.
-fn unwritable(alloc: Global, manner: Manner, sources: &[Source]) -> M<Outcome>
+fn unwritable(alloc: Global, manner: Manner, it: &BuiltFiles) -> M<Outcome>
     ensures { IfOk result (λ outcome. outcome.status ≡ Status.Refused) }
 {
-    let why = "no file declares this schema again: a name without a namespace would be \
-        another one where it has to be written, or types nest too deep";
-    let message = String::from_str(alloc, why)?;
-    refused(
-        alloc,
-        manner,
-        sources,
-        Finding::general("Unwritable", message),
-    )
+    let why = unwritable_text(alloc, &it.schema)?;
+    let finding = Finding::general("Unwritable", why);
+    refused(alloc, manner, &it.sources, finding)
 }
 
 /// What is said of a file that couldn't be written.
 fn unwritten_note(alloc: Global, name: &str, why: &str) -> M<String> {
     let mut note = Text::new(alloc);
-    note.push_escaped(name);
-    write!(note, ": Unwritten: {why}\n");
+    note.write_escaped(format_args!("{}: Unwritten: {why}", Repeated(name)));
+    note.push('\n');
     note.whole()
 }
 
@@ -100,7 +97,7 @@ fn written<F: FileAccess>(
     }
 }
 
-/// Where a text goes: to standard output, or to a file of a name.
+/// Where a text goes: to standard output, as it is shown there, or to a file of a name.
 fn put<F: FileAccess>(
     alloc: Global,
     files: &mut F,
@@ -111,7 +108,7 @@ fn put<F: FileAccess>(
     match output {
         Some(name) => written(alloc, files, name, text.as_str(), notes),
         None => Ok(Outcome {
-            text,
+            text: shown_json(text)?,
             notes,
             status: Status::Done,
         }),
@@ -141,7 +138,7 @@ fn link_built<F: FileAccess>(
             let notes = left_out_note(alloc, &it.sources)?;
             put(alloc, files, output, text, notes)
         }
-        None => unwritable(alloc, manner, &it.sources),
+        None => unwritable(alloc, manner, it),
     }
 }
 

@@ -1,6 +1,8 @@
 //! Places in texts, as people count them.
 
 use crate::text::Text;
+use schema_lines::is_hidden;
+use unicode_width::UnicodeWidthChar;
 
 /// A place in a text: its line and its column, both from 1 on, columns in characters.
 #[derive(Clone, Copy, Drop)]
@@ -36,37 +38,53 @@ pub(crate) fn position_of(text: &str, at: usize) -> Position {
     Position { line, column }
 }
 
-/// A character as it can be shown in one column: a sign in the place of a byte order mark, and of
-/// one that controls a terminal, but for tabs.
+/// A character as it can be shown: a sign in the place of a byte order mark, and of one that
+/// controls a terminal, but for tabs.
 fn shown(character: char) -> char {
-    let is_hidden = character == '\u{feff}' || character.is_control();
-    if is_hidden && character != '\t' {
+    if (character == '\u{feff}' || is_hidden(character)) && character != '\t' {
         '\u{fffd}'
     } else {
         character
     }
 }
 
-/// The blank below a character: a tab below a tab.
-fn blank(character: char) -> char {
-    if character == '\t' { '\t' } else { ' ' }
+/// Adds characters as they can be shown.
+fn push_shown(text: &mut Text, characters: &str) {
+    for character in characters.chars() {
+        text.push(shown(character));
+    }
 }
 
-/// Adds the characters of a line from one number up to another, each as it can be shown, or the
-/// blank below each.
-fn push_part(text: &mut Text, line: &str, start: usize, stop: usize, is_shown: bool) {
-    for (number, character) in line.chars().enumerate() {
-        if number >= stop {
-            return;
-        }
-        if number >= start {
-            text.push(if is_shown {
-                shown(character)
-            } else {
-                blank(character)
-            });
-        }
+/// What stands below a character, as wide as it is shown: a tab below a tab, and else blanks.
+fn below(character: char) -> &'static str {
+    match shown(character).width() {
+        _ if character == '\t' => "\t",
+        Some(1) => " ",
+        Some(2) => "  ",
+        Some(3) => "   ",
+        _ => "",
     }
+}
+
+/// Adds what stands below characters.
+fn push_below(text: &mut Text, characters: &str) {
+    for character in characters.chars() {
+        text.push_str(below(character));
+    }
+}
+
+/// The byte at which the character of a number begins, or the end of the line where it has none.
+fn start_of(line: &str, number: usize) -> usize {
+    match line.char_indices().nth(number) {
+        Some((start, _)) => start,
+        None => line.len(),
+    }
+}
+
+/// The characters of a line from one number up to another.
+fn part(line: &str, start: usize, stop: usize) -> &str {
+    let range = start_of(line, start)..start_of(line, stop);
+    line.get(range).unwrap_or("")
 }
 
 /// The line of a number, from 1 on.
@@ -76,13 +94,13 @@ fn line_at(text: &str, number: usize) -> &str {
 }
 
 /// Adds the line of a position, of a long one the part around it, and below it a `^` under the
-/// column.
+/// character that stands there.
 pub(crate) fn push_line_with_caret(text: &mut Text, source: &str, position: Position) {
     let line = line_at(source, position.line);
     let before = position.column.saturating_sub(1);
     let start = before.saturating_sub(SHOWN_BEFORE);
-    push_part(text, line, start, start.saturating_add(SHOWN), true);
+    push_shown(text, part(line, start, start.saturating_add(SHOWN)));
     text.push('\n');
-    push_part(text, line, start, before, false);
+    push_below(text, part(line, start, before));
     text.push_str("^\n");
 }

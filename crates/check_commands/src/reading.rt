@@ -102,10 +102,12 @@ fn push_text(alloc: Global, read: &mut ReadFiles, source: Source) {
     }
 }
 
-/// Adds a file in UTF-16, as its first bytes say.
-fn push_wide(alloc: Global, read: &mut ReadFiles, name: String) {
-    let why = "the file begins with a byte order mark of UTF-16, and has to be UTF-8";
-    match String::from_str(alloc, why) {
+/// Adds a file in another encoding, as its first bytes say.
+fn push_encoded(alloc: Global, read: &mut ReadFiles, name: String, encoding: &str) {
+    let why = format!(in alloc;
+        "the file begins with a byte order mark of {encoding}, and has to be UTF-8"
+    );
+    match why {
         Ok(why) => read.push_no_text(name, "NotUtf8", why),
         Err(_) => read.is_refused = true,
     }
@@ -128,19 +130,39 @@ fn push_no_utf8(
     }
 }
 
-/// Whether bytes begin with a byte order mark of UTF-16.
-fn is_wide(bytes: &[u8]) -> bool {
-    bytes.starts_with(b"\xff\xfe") || bytes.starts_with(b"\xfe\xff")
+/// The encoding whose byte order mark some bytes begin with, if they begin with one. That of UTF-32
+/// may begin as that of UTF-16 does.
+fn encoding_of(bytes: &[u8]) -> Option<&'static str> {
+    if bytes.starts_with(b"\xff\xfe\0\0") || bytes.starts_with(b"\0\0\xfe\xff") {
+        Some("UTF-32")
+    } else if bytes.starts_with(b"\xff\xfe") || bytes.starts_with(b"\xfe\xff") {
+        Some("UTF-16")
+    } else {
+        None
+    }
+}
+
+/// Adds a file whose bytes are no UTF-8 from a number on.
+fn push_no_text(
+    alloc: Global,
+    read: &mut ReadFiles,
+    name: String,
+    bytes: &[u8],
+    valid_up_to: usize,
+) {
+    match encoding_of(bytes) {
+        Some(encoding) => push_encoded(alloc, read, name, encoding),
+        None => push_no_utf8(alloc, read, name, bytes, valid_up_to),
+    }
 }
 
 /// Adds a file whose bytes were read.
 fn push_bytes(alloc: Global, read: &mut ReadFiles, name: String, bytes: Vec<u8>) {
     match String::from_utf8(bytes) {
         Ok(text) => push_text(alloc, read, Source { name, text }),
-        Err(error) if is_wide(error.as_bytes()) => push_wide(alloc, read, name),
         Err(error) => {
             let valid_up_to = error.utf8_error().valid_up_to();
-            push_no_utf8(alloc, read, name, error.as_bytes(), valid_up_to);
+            push_no_text(alloc, read, name, error.as_bytes(), valid_up_to);
         }
     }
 }

@@ -5,11 +5,13 @@ ghost use Rattle.std.specs.Prelude.{◌≡◌, ◌<◌, ◌⊎◌, IfOk, OnErr};
 use crate::asked::outcome_of;
 use crate::files::FileAccess;
 use crate::outcome::Outcome;
+use crate::repeating::Repeated;
 use crate::status::Status;
 use crate::words::program;
 use cedar_below::{M, Memory};
 use clap::ArgMatches;
 use clap::error::{Error, ErrorKind};
+use schema_lines::{escaped, is_hidden};
 use std::alloc::Global;
 use std::io;
 use std::io::Write;
@@ -27,15 +29,52 @@ fn asked<F: FileAccess>(alloc: Global, files: &mut F, matches: &ArgMatches<'_>) 
     }
 }
 
+/// Whether a message may repeat a word as it is.
+fn is_repeated(word: &str) -> bool {
+    Repeated(word).is_whole() && !word.chars().any(is_hidden)
+}
+
+/// A word as messages repeat it.
+fn repeated_word(alloc: Global, word: &str) -> M<String> {
+    escaped(alloc, format!(in alloc; "{}", Repeated(word))?.as_str())
+}
+
+/// The words as messages repeat them. The first is the program's own name, of which they repeat
+/// the end.
+fn repeated_words(alloc: Global, words: &[String]) -> M<Vec<String>> {
+    let mut repeated = Vec::new(alloc);
+    let Some((program, others)) = words.split_first() else {
+        return Ok(repeated);
+    };
+    repeated.push(escaped(alloc, program.as_str())?)?;
+    for word in others {
+        repeated.push(repeated_word(alloc, word.as_str())?)?;
+    }
+    Ok(repeated)
+}
+
+/// What is said of words that give no command.
+fn error_text(alloc: Global, words: &[String], error: &Error) -> M<String> {
+    if words.iter().all(|word| is_repeated(word.as_str())) {
+        return Ok(format!(in alloc; "{error}")?);
+    }
+    let words = repeated_words(alloc, words)?;
+    match matches_of(alloc, &words) {
+        Err(error) if error.kind() != ErrorKind::OutOfMemory => Ok(format!(in alloc; "{error}")?),
+        Err(_) => Err(Memory),
+        Ok(_) => Ok(String::from_str(alloc, "error: the words give no command\n")?),
+    }
+}
+
 /// The outcome where the words give no command: help or the version, or why they give none.
-fn no_command(alloc: Global, error: &Error) -> M<Outcome>
+fn no_command(alloc: Global, words: &[String], error: &Error) -> M<Outcome>
     ensures { IfOk result (λ outcome. (outcome.status ≡ Status.Usage)
         ⊎ (outcome.status ≡ Status.Done)) }
 {
     if error.kind() == ErrorKind::OutOfMemory {
         return Err(Memory);
     }
-    let text = format!(in alloc; "{error}")?;
+    let text = error_text(alloc, words, error)?;
     Ok(if error.use_stderr() {
         Outcome::noted(alloc, text, Status::Usage)
     } else {
@@ -89,7 +128,7 @@ pub fn run<F: FileAccess, O: Write, E: Write>(
 {
     let outcome = match matches_of(alloc, words) {
         Ok(matches) => asked(alloc, files, &matches),
-        Err(error) => no_command(alloc, &error),
+        Err(error) => no_command(alloc, words, &error),
     };
     finish(outcome, out, err).code()
 }

@@ -11,7 +11,7 @@ pub(crate) fn push_steps(text: &mut Text, steps: &[Step]) {
         match step {
             Step::Attribute(name) => {
                 text.push('.');
-                text.push_escaped(name.as_str());
+                text.push_name(name.as_str());
             }
             Step::Element => text.push_str("[]"),
         }
@@ -23,7 +23,7 @@ pub(crate) fn push_attribute_path(text: &mut Text, steps: &[Step]) {
     match steps.split_first() {
         Some((Step::Attribute(name), others)) => {
             text.push_str("attribute ");
-            text.push_escaped(name.as_str());
+            text.push_name(name.as_str());
             push_steps(text, others);
         }
         _ => {
@@ -106,7 +106,10 @@ fn last_words(own: Part<'_>, other: Part<'_>, steps: &[Step]) -> Option<&'static
 
 /// Adds that a type has values that another hasn't.
 fn push_types(text: &mut Text, own: &Type, other: &Type) {
-    text.write_escaped(format_args!("{own} admits what {other} doesn't"));
+    text.push_type(own);
+    text.push_str(" admits what ");
+    text.push_type(other);
+    text.push_str(" doesn't");
 }
 
 /// Adds what is said of two parts, one of which has values that the other hasn't.

@@ -1,7 +1,9 @@
 //! Texts that are being written.
 
+use crate::repeating::Repeated;
 use cedar_below::{M, Memory};
-use schema_lines::escaped;
+use cedar_schema::Type;
+use schema_lines::{escaped, push_name, push_type};
 use std::alloc::Global;
 use std::fmt::Display;
 
@@ -72,6 +74,28 @@ impl Text {
             Ok(words) => self.push_escaped(words.as_str()),
             Err(_) => self.refuse(),
         }
+    }
+
+    /// Adds the name of an attribute, in quotes where it is no identifier.
+    pub(crate) fn push_name(&mut self, name: &str) {
+        self.is_refused |= push_name(&mut self.written, name).is_err();
+    }
+
+    /// Adds a type, in which such names stand so.
+    pub(crate) fn push_type(&mut self, ty: &Type) {
+        self.is_refused |= push_type(&mut self.written, ty).is_err();
+    }
+
+    /// Adds what was written of another text, escaped.
+    pub(crate) fn push_text(&mut self, other: &Text) {
+        self.is_refused |= other.is_refused;
+        self.push_escaped(other.as_str());
+    }
+
+    /// Adds as much of another text as messages repeat.
+    pub(crate) fn push_beginning(&mut self, other: &Text) {
+        self.is_refused |= other.is_refused;
+        self.write_fmt(Repeated(other.as_str()));
     }
 
     /// The text, where memory sufficed for it.

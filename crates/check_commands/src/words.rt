@@ -148,7 +148,7 @@ const TYPE: &[Choice] = &[
         action: ArgAction::Set,
         values: &["UID"],
         help: "The action of which to show the context",
-        unless: &["entity"],
+        unless: &["entity", "tags"],
         against: &["entity"],
         is_required: false,
         is_positional: false,

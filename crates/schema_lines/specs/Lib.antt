@@ -1,2 +1,3 @@
+pub mod Hidden
 pub mod Samples
 pub mod Words

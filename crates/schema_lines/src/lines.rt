@@ -1,9 +1,11 @@
 //! The lines that show a schema.
 
-use cedar_schema::below::{EntityUID, M, Quoted};
+use crate::hidden::escaped;
+use crate::spelled::{push_name, push_type};
+use cedar_schema::below::{EntityType, EntityUID, M, Quoted};
 use cedar_schema::{
-    Type, UnlinkedRequestEnv, ValidatorActionId, ValidatorEntityType, ValidatorEntityTypeKind,
-    ValidatorSchema,
+    AttributeType, Type, UnlinkedRequestEnv, ValidatorActionId, ValidatorEntityType,
+    ValidatorEntityTypeKind, ValidatorSchema,
 };
 use std::alloc::Global;
 
@@ -12,7 +14,8 @@ use std::alloc::Global;
 enum Spelling {
     /// As they are.
     Plain,
-    /// Ids as uids print, and what else would control a terminal as such an escape.
+    /// As uids print ids, but for names that are identifiers; and what else would control a
+    /// terminal as such an escape.
     Escaped,
 }
 
@@ -49,15 +52,55 @@ fn id_spelled(alloc: Global, id: &str, spelling: Spelling) -> M<String> {
     }
 }
 
+/// Adds the name of an attribute in a spelling.
+fn push_attribute(line: &mut String, name: &str, spelling: Spelling) -> M<()> {
+    match spelling {
+        Spelling::Plain => Ok(line.push_str(name)?),
+        Spelling::Escaped => push_name(line, name),
+    }
+}
+
+/// Adds a type in a spelling.
+fn push_spelled(line: &mut String, ty: &Type, spelling: Spelling) -> M<()> {
+    match spelling {
+        Spelling::Plain => Ok(line.write(ty)?),
+        Spelling::Escaped => push_type(line, ty),
+    }
+}
+
+/// The line of an attribute of an entity type.
+fn attribute_line(
+    alloc: Global,
+    ty: &EntityType,
+    name: &str,
+    declared: &AttributeType,
+    spelling: Spelling,
+) -> M<String> {
+    let mut line = format!(in alloc; "attr {ty} ")?;
+    push_attribute(&mut line, name, spelling)?;
+    line.push_str(if declared.is_required() { ": " } else { "?: " })?;
+    push_spelled(&mut line, &declared.attr_type, spelling)?;
+    Ok(line)
+}
+
 /// Adds a line for each attribute of an entity type.
-fn push_attributes(alloc: Global, ty: &ValidatorEntityType, lines: &mut Vec<String>) -> M<()> {
-    let name = ty.name();
-    for (attribute, declared) in ty.attributes().iter() {
-        let mark = if declared.is_required() { ":" } else { "?:" };
-        let of: &Type = &declared.attr_type;
-        lines.push(format!(in alloc; "attr {name} {attribute}{mark} {of}")?)?;
+fn push_attributes(
+    alloc: Global,
+    ty: &ValidatorEntityType,
+    spelling: Spelling,
+    lines: &mut Vec<String>,
+) -> M<()> {
+    let of = ty.name();
+    for (name, declared) in ty.attributes().iter() {
+        lines.push(attribute_line(alloc, of, name.as_str(), declared, spelling)?)?;
     }
     Ok(())
+}
+
+/// What begins a line, with a type behind it in a spelling.
+fn type_line(mut line: String, ty: &Type, spelling: Spelling) -> M<String> {
+    push_spelled(&mut line, ty, spelling)?;
+    Ok(line)
 }
 
 /// Adds a line for each id of the entities of an enumerated entity type.
@@ -99,9 +142,10 @@ fn push_entity_type(
     let name = ty.name();
     lines.push(format!(in alloc; "entity {name} {}", kind_word(&ty.kind))?)?;
     if let Some(tags) = ty.tag_type() {
-        lines.push(format!(in alloc; "tags {name}: {tags}")?)?;
+        let line = format!(in alloc; "tags {name}: ")?;
+        lines.push(type_line(line, tags, spelling)?)?;
     }
-    push_attributes(alloc, ty, lines)?;
+    push_attributes(alloc, ty, spelling, lines)?;
     push_choices(alloc, ty, spelling, lines)?;
     push_descendants(alloc, ty, lines)
 }
@@ -121,7 +165,8 @@ fn push_action(
     };
     lines.push(format!(in alloc; "action {uid} {kind}")?)?;
     if let Some(context) = action.context() {
-        lines.push(format!(in alloc; "context {uid} {context}")?)?;
+        let line = format!(in alloc; "context {uid} ")?;
+        lines.push(type_line(line, context, spelling)?)?;
     }
     for lower in action.descendants() {
         let lower = uid_spelled(alloc, lower, spelling)?;
@@ -180,30 +225,29 @@ fn text_of(alloc: Global, lines: &[String]) -> M<String> {
     Ok(text)
 }
 
-/// A text with an escape in the place of each character that would control a terminal. Out of
-/// memory is the only refusal.
-pub fn escaped(alloc: Global, text: &str) -> M<String> {
-    let mut escaped = String::new(alloc);
-    for character in text.chars() {
-        if character.is_control() {
-            escaped.push_str(format!(in alloc; "{}", character.escape_default())?.as_str())?;
-        } else {
-            escaped.push(character)?;
-        }
-    }
-    Ok(escaped)
-}
-
-/// The lines of a schema in a spelling, sorted by their bytes.
-fn sorted_lines(alloc: Global, schema: &ValidatorSchema, spelling: Spelling) -> M<Vec<String>> {
+/// The lines of a schema in a spelling, in any order.
+fn spelled_lines(alloc: Global, schema: &ValidatorSchema, spelling: Spelling) -> M<Vec<String>> {
     let mut lines = Vec::new(alloc);
     for ty in schema.entity_types() {
         push_entity_type(alloc, ty, spelling, &mut lines)?;
     }
     push_actions(alloc, schema, spelling, &mut lines)?;
     push_environments(alloc, schema, spelling, &mut lines)?;
-    lines.sort()?;
     Ok(lines)
+}
+
+/// Some lines, sorted by their bytes, each ended by a line feed.
+fn sorted_text(alloc: Global, lines: &mut Vec<String>) -> M<String> {
+    lines.sort()?;
+    text_of(alloc, lines)
+}
+
+/// Puts an escape in the place of each character of some lines that would control a terminal.
+fn escape_each(alloc: Global, lines: &mut Vec<String>) -> M<()> {
+    for line in lines.iter_mut() {
+        *line = escaped(alloc, line.as_str())?;
+    }
+    Ok(())
 }
 
 /// The lines that show a schema, sorted by their bytes, each ended by a line feed.
@@ -218,16 +262,15 @@ fn sorted_lines(alloc: Global, schema: &ValidatorSchema, spelling: Spelling) -> 
 ///
 /// Out of memory is the only refusal.
 pub fn lines_of(alloc: Global, schema: &ValidatorSchema) -> M<String> {
-    text_of(alloc, &sorted_lines(alloc, schema, Spelling::Plain)?)
+    sorted_text(alloc, &mut spelled_lines(alloc, schema, Spelling::Plain)?)
 }
 
-/// The same lines, safe to be shown: ids stand in quotes as uids print, and each other character
-/// that would control a terminal stands as such an escape. Out of memory is the only refusal.
+/// The same lines, safe to be shown, and each of them the line of one thing alone: ids stand in
+/// quotes as uids print, names of attributes too where they are no identifiers, and each other
+/// character that would control a terminal stands as such an escape. Out of memory is the only
+/// refusal.
 pub fn escaped_lines_of(alloc: Global, schema: &ValidatorSchema) -> M<String> {
-    let mut text = String::new(alloc);
-    for line in &sorted_lines(alloc, schema, Spelling::Escaped)? {
-        text.push_str(escaped(alloc, line.as_str())?.as_str())?;
-        text.push('\n')?;
-    }
-    Ok(text)
+    let mut lines = spelled_lines(alloc, schema, Spelling::Escaped)?;
+    escape_each(alloc, &mut lines)?;
+    sorted_text(alloc, &mut lines)
 }
