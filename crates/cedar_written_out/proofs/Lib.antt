@@ -1,1 +1,2 @@
-
+mod OrderProgress
+mod OrderSteps

@@ -1,5 +1,9 @@
 //! Numbers in an order in which each comes after those that it leads to, but for cycles.
 
+ghost use Rattle.std.specs.Prelude.{◌≡◌, ◌++◌, ◌<◌, ℕ, Contains, IfOk, OnOk, map};
+ghost use Rattle.cedar_written_out.specs.Order.{IsLowestFirst};
+ghost use Rattle.cedar_written_out.specs.declared.ordering.Step.TheVariants.{Enter, Leave};
+
 use cedar_below::M;
 use std::alloc::Global;
 
@@ -24,7 +28,9 @@ enum Step {
 }
 
 /// Adds that each of the numbers is to be entered.
-fn enter_all(steps: &mut Vec<Step>, numbers: &[usize]) -> M<()> {
+fn enter_all(steps: &mut Vec<Step>, numbers: &[usize]) -> M<()>
+    ensures { OnOk result (steps.new.items ≡ steps.old.items ++ map Enter numbers.now) }
+{
     for number in numbers {
         steps.push(Step::Enter(*number))?;
     }
@@ -32,7 +38,11 @@ fn enter_all(steps: &mut Vec<Step>, numbers: &[usize]) -> M<()> {
 }
 
 /// Steps that enter each number below the bound.
-fn enter_below(alloc: Global, bound: usize) -> M<Vec<Step>> {
+fn enter_below(alloc: Global, bound: usize) -> M<Vec<Step>>
+    ensures each { IfOk result (λ steps.
+        (number : ℕ) → number < bound → Contains steps.items (Enter number)) }
+    ensures only { IfOk result (λ steps. (number : ℕ) → ¬ Contains steps.items (Leave number)) }
+{
     let mut steps = Vec::new(alloc);
     for number in 0..bound {
         steps.push(Step::Enter(number))?;
@@ -44,7 +54,9 @@ fn enter_below(alloc: Global, bound: usize) -> M<Vec<Step>> {
 /// themselves.
 ///
 /// It takes time linear in the lengths of the lists together, and no recursion.
-pub(crate) fn lowest_first(alloc: Global, targets: &Vec<Vec<usize>>) -> M<Vec<usize>> {
+pub(crate) fn lowest_first(alloc: Global, targets: &Vec<Vec<usize>>) -> M<Vec<usize>>
+    ensures { IfOk result (λ order. IsLowestFirst targets.now.items order.items) }
+{
     let mut marks = vec![in alloc; Mark::Fresh; targets.len()]?;
     let mut steps = enter_below(alloc, targets.len())?;
     let mut order = Vec::new(alloc);
@@ -60,7 +72,8 @@ pub(crate) fn lowest_first(alloc: Global, targets: &Vec<Vec<usize>>) -> M<Vec<us
                     steps.push(Step::Leave(number))?;
                     enter_all(&mut steps, &targets[number])?;
                 }
-                Mark::Open | Mark::Done => {}
+                Mark::Open => {}
+                Mark::Done => {}
             },
             Step::Enter(_) => {}
         }
