@@ -1,6 +1,9 @@
 //! What fragments declare and define, taken out of copies of them.
 
-use cedar_below::{Extensions, M};
+ghost use Rattle.std.specs.Prelude.{◌≡◌, ◌⊎◌, IfErr, IfOk};
+ghost use Rattle.cedar_written_out.specs.Words.{Extensions as Given, IsFault, IsGathered, IsKnown, fault_of, out_of_memory, raw_bag};
+
+use cedar_below::Extensions;
 use cedar_declarations::SchemaError;
 use cedar_fragments::defs::AllDefs;
 use cedar_fragments::namespace::{UnqualifiedActionType, ValidatorSchemaFragment};
@@ -11,7 +14,7 @@ use std::alloc::Global;
 /// What some fragments declare, and what names mean among them.
 #[derive(Debug, Drop)]
 pub(crate) struct Known {
-    /// The declarations, in the order of the fragments; the common types stand among `types`.
+    /// The declarations, in the order of the fragments; the common types among them.
     pub(crate) declarations: Declarations<RawName>,
     /// The built-in common types and their aliases.
     pub(crate) built_in: Vec<DeclaredCommonType<RawName>>,
@@ -23,7 +26,12 @@ pub(crate) struct Known {
 fn gathered(
     alloc: Global,
     fragments: &[Fragment<RawName>],
-) -> Result<Gathered<RawName>, SchemaError> {
+) -> Result<Gathered<RawName>, SchemaError>
+    ensures gathered { IfOk result (λ gathered. IsGathered (raw_bag fragments.now) gathered) }
+    ensures fault { IfErr result (λ error. (fault_of error ≡ out_of_memory)
+        ⊎ ((extensions : Given)
+        → IsFault (raw_bag fragments.now) extensions (fault_of error))) }
+{
     let unqualified = UnqualifiedActionType::new(alloc)?;
     let mut gathered = Gathered::with_room(alloc, fragments.len())?;
     for fragment in fragments {
@@ -34,11 +42,15 @@ fn gathered(
 }
 
 /// What fragments declare, copied, and what names mean among them.
-pub(crate) fn known(
+pub(crate) fn what_is_known(
     alloc: Global,
     fragments: &[Fragment<RawName>],
     extensions: &Extensions,
-) -> Result<Known, SchemaError> {
+) -> Result<Known, SchemaError>
+    ensures known { IfOk result (IsKnown (raw_bag fragments.now) extensions.now) }
+    ensures fault { IfErr result (λ error. (fault_of error ≡ out_of_memory)
+        ⊎ IsFault (raw_bag fragments.now) extensions.now (fault_of error)) }
+{
     let Gathered {
         names,
         declarations,

@@ -1,5 +1,9 @@
 //! The types that are declared, listed with their figures.
 
+ghost use Rattle.std.specs.Prelude.{◌≡◌, ◌++◌, List, OnOk, map};
+ghost use Rattle.cedar_written_out.specs.Words.{Defined, Expr, KnowsAll, ListsAlso, PlainName, common_expr, context_exprs, entity_exprs, exprs_of_actions, exprs_of_entities, raw_reference, type_name, uid_of, written_action_body, written_actions, written_common, written_entities, written_entity_body};
+ghost use Rattle.cedar_written_out.specs.Words.{RawName as Raw};
+
 use crate::figure::Figure;
 use crate::measuring::{FigureScope, measure};
 use cedar_below::{EntityType, EntityUID, InternalName, Loc, M};
@@ -47,7 +51,13 @@ pub(crate) fn list_common_types(
     listed: &mut Vec<Measured>,
     declared: &[DeclaredCommonType<RawName>],
     scope: &FigureScope,
-) -> M<()> {
+) -> M<()>
+    ensures { OnOk result ((defined : Defined) → KnowsAll defined scope.now
+        → (after : List (PlainName × Expr))
+        → defined.common ≡ written_common Raw raw_reference declared.now ++ after
+        → ListsAlso defined (map common_expr (written_common Raw raw_reference declared.now))
+        listed.old.items listed.new.items) }
+{
     for (item_index, item) in declared.iter().enumerate() {
         listed.push(Measured {
             declared: DeclaredType::CommonType(item.0.clone()?),
@@ -63,7 +73,12 @@ fn list_entity_type(
     name: &EntityType,
     written: &Written<EntityTypeFragment<RawName>>,
     scope: &FigureScope,
-) -> M<()> {
+) -> M<()>
+    ensures { OnOk result ((defined : Defined) → KnowsAll defined scope.now
+        → ListsAlso defined (entity_exprs (type_name name.now)
+        (written_entity_body Raw raw_reference written.now))
+        listed.old.items listed.new.items) }
+{
     let EntityTypeFragment::Standard {
         attributes, tags, ..
     } = &written.declared
@@ -88,7 +103,11 @@ pub(crate) fn list_entity_types(
     listed: &mut Vec<Measured>,
     types: &[DeclaredEntityType<RawName>],
     scope: &FigureScope,
-) -> M<()> {
+) -> M<()>
+    ensures { OnOk result ((defined : Defined) → KnowsAll defined scope.now
+        → ListsAlso defined (exprs_of_entities (written_entities Raw raw_reference types.now))
+        listed.old.items listed.new.items) }
+{
     for item in types {
         list_entity_type(listed, &item.0, &item.1, scope)?;
     }
@@ -101,7 +120,12 @@ fn list_action(
     uid: &EntityUID,
     written: &Written<ActionFragment<RawName, RawName>>,
     scope: &FigureScope,
-) -> M<()> {
+) -> M<()>
+    ensures { OnOk result ((defined : Defined) → KnowsAll defined scope.now
+        → ListsAlso defined (context_exprs (uid_of uid.now)
+        (written_action_body Raw raw_reference written.now).applies_to)
+        listed.old.items listed.new.items) }
+{
     let Some(requests) = &written.declared.requests else {
         return Ok(());
     };
@@ -117,7 +141,11 @@ pub(crate) fn list_actions(
     listed: &mut Vec<Measured>,
     actions: &[DeclaredAction<RawName>],
     scope: &FigureScope,
-) -> M<()> {
+) -> M<()>
+    ensures { OnOk result ((defined : Defined) → KnowsAll defined scope.now
+        → ListsAlso defined (exprs_of_actions (written_actions Raw raw_reference actions.now))
+        listed.old.items listed.new.items) }
+{
     for item in actions {
         list_action(listed, &item.0, &item.1, scope)?;
     }

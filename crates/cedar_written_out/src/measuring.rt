@@ -1,5 +1,8 @@
 //! Types measured as they are written.
 
+ghost use Rattle.std.specs.Prelude.{◌≡◌, IfOk};
+ghost use Rattle.cedar_written_out.specs.Words.{Defined, IsMeasured, Knows, figure_at, named, namespace_name, raw_expr, raw_record, raw_reference, raw_variant};
+
 use crate::figure::Figure;
 use crate::indices::Indices;
 use crate::referring::may_name_common;
@@ -20,7 +23,9 @@ pub(crate) struct FigureScope<'a> {
 
 impl FigureScope<'_> {
     /// The figure of the common type at an index, if it has one.
-    pub(crate) fn figure_at(&self, item_index: usize) -> Option<Figure> {
+    pub(crate) fn figure_at(&self, item_index: usize) -> Option<Figure>
+        ensures { result ≡ figure_at self.now.figures.now item_index }
+    {
         match self.figures.get(item_index) {
             Some(figure) => *figure,
             None => None,
@@ -36,7 +41,11 @@ fn measure_reference(
     kind: ReferenceType,
     namespace: Option<&InternalName>,
     scope: &FigureScope,
-) -> M<Option<Figure>> {
+) -> M<Option<Figure>>
+    ensures { IfOk result (λ found. (defined : Defined)
+        → Knows defined scope.now (named (raw_reference (namespace_name namespace.entry) kind name.now))
+        → IsMeasured defined (named (raw_reference (namespace_name namespace.entry) kind name.now)) found) }
+{
     let Some(full) = name.resolved_within(kind, namespace, scope.defs)? else {
         return Ok(None);
     };
@@ -55,7 +64,11 @@ fn measure_variant(
     ty: &TypeVariant<RawName>,
     namespace: Option<&InternalName>,
     scope: &FigureScope,
-) -> M<Option<Figure>> {
+) -> M<Option<Figure>>
+    ensures { IfOk result (λ found. (defined : Defined)
+        → Knows defined scope.now (raw_variant (namespace_name namespace.entry) ty.now)
+        → IsMeasured defined (raw_variant (namespace_name namespace.entry) ty.now) found) }
+{
     match ty {
         TypeVariant::Set { element } => match measure(element, namespace, scope)? {
             Some(figure) => Ok(Some(Figure::single().with(figure))),
@@ -81,7 +94,11 @@ fn measure_record(
     record_type: &RecordType<RawName>,
     namespace: Option<&InternalName>,
     scope: &FigureScope,
-) -> M<Option<Figure>> {
+) -> M<Option<Figure>>
+    ensures { IfOk result (λ found. (defined : Defined)
+        → Knows defined scope.now (raw_record (namespace_name namespace.entry) record_type.now)
+        → IsMeasured defined (raw_record (namespace_name namespace.entry) record_type.now) found) }
+{
     let mut whole = Figure::single();
     for (_, attribute) in &record_type.attributes {
         let Some(figure) = measure(&attribute.ty, namespace, scope)? else {
@@ -100,7 +117,11 @@ pub(crate) fn measure(
     ty: &Type<RawName>,
     namespace: Option<&InternalName>,
     scope: &FigureScope,
-) -> M<Option<Figure>> {
+) -> M<Option<Figure>>
+    ensures { IfOk result (λ found. (defined : Defined)
+        → Knows defined scope.now (raw_expr (namespace_name namespace.entry) ty.now)
+        → IsMeasured defined (raw_expr (namespace_name namespace.entry) ty.now) found) }
+{
     match ty {
         Type::Plain { ty, .. } => measure_variant(ty, namespace, scope),
         Type::CommonTypeRef { type_name, .. } => {

@@ -1,5 +1,8 @@
 //! The indices of the common types that a type refers to.
 
+ghost use Rattle.std.specs.Prelude.{◌↔◌, [], IfOk, IsTrue, OnOk};
+ghost use Rattle.cedar_written_out.specs.Words.{AddsIndices, MayNameCommon, Refers, held_names, indexed_names, named, namespace_name, raw_expr, raw_record, raw_reference, raw_variant};
+
 use crate::indices::Indices;
 use cedar_below::{InternalName, M};
 use cedar_fragments::defs::{AllDefs, WrittenName};
@@ -18,7 +21,9 @@ pub(crate) struct IndexScope<'a> {
 }
 
 /// Whether a reference of the kind may name a common type.
-pub(crate) fn may_name_common(kind: ReferenceType) -> bool {
+pub(crate) fn may_name_common(kind: ReferenceType) -> bool
+    ensures { IsTrue result ↔ MayNameCommon kind }
+{
     match kind {
         ReferenceType::Common | ReferenceType::CommonOrEntity => true,
         ReferenceType::Entity => false,
@@ -32,7 +37,12 @@ fn add_index(
     kind: ReferenceType,
     scope: &IndexScope,
     found: &mut Vec<usize>,
-) -> M<()> {
+) -> M<()>
+    ensures { OnOk result (AddsIndices (held_names scope.now.defs.now)
+        (indexed_names scope.now.indices.now)
+        (Refers (named (raw_reference (namespace_name scope.now.namespace) kind name.now)))
+        found.old.items found.new.items) }
+{
     if !may_name_common(kind) {
         return Ok(());
     }
@@ -47,7 +57,12 @@ fn add_index(
 
 /// Adds the indices of the common types that a type refers to.
 #[cycle(add)]
-fn add_indices(ty: &Type<RawName>, scope: &IndexScope, found: &mut Vec<usize>) -> M<()> {
+fn add_indices(ty: &Type<RawName>, scope: &IndexScope, found: &mut Vec<usize>) -> M<()>
+    ensures { OnOk result (AddsIndices (held_names scope.now.defs.now)
+        (indexed_names scope.now.indices.now)
+        (Refers (raw_expr (namespace_name scope.now.namespace) ty.now))
+        found.old.items found.new.items) }
+{
     match ty {
         Type::Plain { ty, .. } => add_variant_indices(ty, scope, found),
         Type::CommonTypeRef { type_name, .. } => {
@@ -62,7 +77,12 @@ fn add_variant_indices(
     ty: &TypeVariant<RawName>,
     scope: &IndexScope,
     found: &mut Vec<usize>,
-) -> M<()> {
+) -> M<()>
+    ensures { OnOk result (AddsIndices (held_names scope.now.defs.now)
+        (indexed_names scope.now.indices.now)
+        (Refers (raw_variant (namespace_name scope.now.namespace) ty.now))
+        found.old.items found.new.items) }
+{
     match ty {
         TypeVariant::Set { element } => add_indices(element, scope, found),
         TypeVariant::Record(record_type) => add_record_indices(record_type, scope, found),
@@ -83,7 +103,12 @@ fn add_record_indices(
     record_type: &RecordType<RawName>,
     scope: &IndexScope,
     found: &mut Vec<usize>,
-) -> M<()> {
+) -> M<()>
+    ensures { OnOk result (AddsIndices (held_names scope.now.defs.now)
+        (indexed_names scope.now.indices.now)
+        (Refers (raw_record (namespace_name scope.now.namespace) record_type.now))
+        found.old.items found.new.items) }
+{
     for (_, attribute) in &record_type.attributes {
         add_indices(&attribute.ty, scope, found)?;
     }
@@ -95,7 +120,11 @@ pub(crate) fn referred_indices(
     alloc: Global,
     ty: &Type<RawName>,
     scope: &IndexScope,
-) -> M<Vec<usize>> {
+) -> M<Vec<usize>>
+    ensures { IfOk result (λ found.
+        AddsIndices (held_names scope.now.defs.now) (indexed_names scope.now.indices.now)
+        (Refers (raw_expr (namespace_name scope.now.namespace) ty.now)) [] found.items) }
+{
     let mut found = Vec::new(alloc);
     add_indices(ty, scope, &mut found)?;
     Ok(found)

@@ -1,7 +1,10 @@
 //! The types that fragments declare, with their figures.
 
+ghost use Rattle.std.specs.Prelude.{◌≡◌, ◌⊎◌, IfErr, IfOk};
+ghost use Rattle.cedar_written_out.specs.Words.{AreListed, IsFault, declared_exprs, definitions, fault_of, out_of_memory, raw_bag};
+
 use crate::common::common_figures;
-use crate::gathering::{Known, known};
+use crate::gathering::{Known, what_is_known};
 use crate::indices::name_indices;
 use crate::listing::{Measured, list_actions, list_common_types, list_entity_types};
 use crate::measuring::FigureScope;
@@ -30,12 +33,18 @@ pub fn written_out(
     alloc: Global,
     fragments: &[Fragment<RawName>],
     extensions: &Extensions,
-) -> Result<Vec<Measured>, SchemaError> {
+) -> Result<Vec<Measured>, SchemaError>
+    ensures listed { IfOk result (λ listed.
+        AreListed (definitions (raw_bag fragments.now) extensions.now)
+        (declared_exprs (raw_bag fragments.now)) listed.items) }
+    ensures fault { IfErr result (λ error. (fault_of error ≡ out_of_memory)
+        ⊎ IsFault (raw_bag fragments.now) extensions.now (fault_of error)) }
+{
     let Known {
         declarations,
         built_in,
         defs,
-    } = known(alloc, fragments, extensions)?;
+    } = what_is_known(alloc, fragments, extensions)?;
     let Declarations {
         common_types,
         entity_types,
