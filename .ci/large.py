@@ -5,6 +5,7 @@ What may be said is told by the rules and by the numbers that a row has, and nev
 program. The documents are in Cedar's JSON schema format."""
 
 import json
+import resource
 import subprocess
 from dataclasses import dataclass
 from pathlib import Path
@@ -13,6 +14,8 @@ from typing import Callable
 from documents import LONG, action_below, entity, entity_type, fragment, named, record, set_of
 
 SECONDS = 60
+# The stack that commands get, as most systems give it.
+STACK = 8 << 20
 
 
 class Fault(Exception):
@@ -76,6 +79,25 @@ def sets(depth):
     elements = [named(f"T{number}") for number in range(1, depth)] + [LONG]
     types = {f"T{number}": set_of(it) for number, it in enumerate(elements)}
     return [fragment({"U": with_attribute(named("T0"))}, types)]
+
+
+def records(depth):
+    """Common types that are records of the next, and an entity type with one of the first."""
+    fields = [named(f"T{number}") for number in range(1, depth)] + [LONG]
+    types = {f"T{number}": record({"a": it}) for number, it in enumerate(fields)}
+    return [fragment({"U": with_attribute(named("T0"))}, types)]
+
+
+def choices(*numbers):
+    """An enumerated entity type of choices of these numbers, and one that has one above it."""
+    color = {"enum": [f"c{number}" for number in numbers]}
+    user = entity_type("Color", shape=record({"color": entity("Color")}))
+    return [fragment({"Color": color, "U": user})]
+
+
+def below_one(names):
+    """Entity types of these names, all of them below one."""
+    return [fragment({"Top": entity_type()} | {name: entity_type("Top") for name in names})]
 
 
 def action_ring(count):
@@ -156,6 +178,26 @@ def number_of_lines(beginning, number):
     )
 
 
+def nothing(status, out):
+    """Nothing, and that all went well."""
+    return (status, out) == (0, "")
+
+
+def has_text(text):
+    """This text among others, and that all went well."""
+    return lambda status, out: status == 0 and text in out
+
+
+def losses(number, *texts):
+    """As many differences, with these texts in what is told of them."""
+
+    def is_right(status, out):
+        lines = out.splitlines()
+        return status == 6 and len(lines) == number and all(text in out for text in texts)
+
+    return is_right
+
+
 def number_of_leaves(number):
     """A type in which the type of whole numbers stands as often."""
     return lambda status, out: status == 0 and out.count("Long") == number
@@ -163,12 +205,22 @@ def number_of_leaves(number):
 
 def refusal(*messages):
     """A refusal with one of these messages."""
+    return refusals(1, *messages)
+
+
+def refusals(number, *messages):
+    """As many refusals, each with one of these messages."""
 
     def is_right(status, out):
-        told = [json.loads(line) for line in out.splitlines()]
-        return status == 1 and len(told) == 1 and told[0]["message"] in messages
+        told = [json.loads(line)["message"] for line in out.splitlines()]
+        return status == 1 and len(told) == number and all(it in messages for it in told)
 
     return is_right
+
+
+def of_each(is_right, *commands):
+    """The same of each of these commands."""
+    return [(command, is_right) for command in commands]
 
 
 def cycle_of_types(first, last):
@@ -195,11 +247,37 @@ BELOW_OR_TWICE = refusal(
     "the external type Tint is below the enumerated type Color",
     "the entity type U is declared twice",
 )
+ATTRIBUTES_OF_U = "the record of attributes of U"
+WRITTEN_OUT = "once common types are written out"
+TOO_DEEP = f"{ATTRIBUTES_OF_U} has more than 1000 types in one another {WRITTEN_OUT}"
+FIRST_TOO_DEEP = f"the common type T0 has more than 1000 types in one another {WRITTEN_OUT}"
+TOO_LARGE = f"with {ATTRIBUTES_OF_U} the schema has more than 1000000 types {WRITTEN_OUT}"
+NOT_WRITTEN = (
+    "no file declares this schema again: types nest deeper than the 128 levels of a file, in the "
+    "attributes of U"
+)
+COUNTS = has_line("entity types: 1, 0 of them external")
+NODE = has_text('"U" [shape=box];')
+SHARED = ["build", "envs", "graph"]
+WALKING = ["show", "type --entity U", "link"]
+# Names that begin so have one hash in the hash tables of std, whatever eight digits follow.
+FLOOD = "FloodOf000017770VMgAjaq9"
 LONG_ID = "v" * 1_048_576
 LONG_UID = f'Action::"{LONG_ID}"'
 WORDY_ID = "v w " * 100
 MANY = ["::".join([f"N{number}"] + ["M"] * 48) for number in range(1000)]
 DEEP = "::".join(["N0"] + ["M"] * 999)
+
+
+def lower_stack():
+    """Has what is run get no more stack than most systems give."""
+    resource.setrlimit(resource.RLIMIT_STACK, (STACK, STACK))
+
+
+def versions(files):
+    """The words that compare the first half of some files with the second, or one with itself."""
+    half = (len(files) + 1) // 2
+    return ["--old", *files[:half], "--new", *(files[half:] or files)]
 
 
 @dataclass
@@ -210,6 +288,7 @@ class Row:
     name: str
     draw: Callable
     asked: list
+    seconds: int = SECONDS
 
     def check(self, program: Path, folder: Path):
         """Fails where something else comes of a command, run in a folder for the files."""
@@ -219,9 +298,11 @@ class Row:
             (folder / files[-1]).write_text(json.dumps(document), "utf-8")
         for command, is_right in self.asked:
             first, *rest = command.split()
-            words = [program, first, *files, *rest, "--json"]
-            how = {"cwd": folder, "stdin": subprocess.DEVNULL, "timeout": SECONDS}
-            ran = subprocess.run(words, capture_output=True, **how)
+            given = versions(files) if first == "compare" else files
+            words = [program, first, *given, *rest, "--json"]
+            how = {"cwd": folder, "stdin": subprocess.DEVNULL, "timeout": self.seconds}
+            how.update(capture_output=True, preexec_fn=lower_stack)
+            ran = subprocess.run(words, **how)
             out, err = ran.stdout.decode(), ran.stderr.decode()
             if err or not is_right(ran.returncode, out):
                 said = f"status {ran.returncode}\n{out[:1000]}\n{err[:1000]}"
@@ -291,6 +372,74 @@ def rows():
             "200 sets in one another",
             lambda: sets(200),
             [("show", lines(f"attr U a: {'Set<' * 200}Long{'>' * 200}", "entity U standard"))],
+        ),
+        Row(
+            "998 sets in one another and in a record, as many as may be",
+            lambda: sets(998),
+            [("build", COUNTS), ("envs", nothing), ("graph", NODE), ("compare", nothing)]
+            + [("show", lines(f"attr U a: {'Set<' * 998}Long{'>' * 998}", "entity U standard"))]
+            + [("type --entity U", has_text("Set<" * 998)), ("link", refusal(NOT_WRITTEN))],
+        ),
+        Row(
+            "999 sets in one another and in a record",
+            lambda: sets(999),
+            of_each(refusal(TOO_DEEP), *SHARED, *WALKING)
+            + [("compare", refusals(2, TOO_DEEP))],
+        ),
+        Row(
+            "998 records in one another and in a record, as many as may be",
+            lambda: records(998),
+            [("build", COUNTS), ("envs", nothing), ("graph", NODE), ("compare", nothing)]
+            + [("show", has_line("entity U standard")), ("link", refusal(NOT_WRITTEN))]
+            + [("type --entity U", has_text("{a: " * 998))],
+        ),
+        Row(
+            "50000 sets in one another",
+            lambda: sets(50_000),
+            of_each(refusal(FIRST_TOO_DEEP), *SHARED, *WALKING)
+            + [("compare", refusals(2, FIRST_TOO_DEEP))],
+        ),
+        Row(
+            "50000 records in one another",
+            lambda: records(50_000),
+            of_each(refusal(FIRST_TOO_DEEP), *SHARED, *WALKING)
+            + [("compare", refusals(2, FIRST_TOO_DEEP))],
+        ),
+        Row(
+            "common types that name the next twice, 18 deep",
+            lambda: doubling(18),
+            [("compare", nothing), ("type --entity U --attribute a", number_of_leaves(1 << 18))],
+        ),
+        Row(
+            "common types that name the next twice, 40 deep",
+            lambda: doubling(40),
+            [("build", COUNTS), ("envs", nothing), ("graph", NODE)]
+            + of_each(refusal(TOO_LARGE), *WALKING)
+            + [("compare", refusals(2, TOO_LARGE))],
+            seconds=5,
+        ),
+        Row(
+            "20000 choices, compared with themselves",
+            lambda: choices(*range(20_000)),
+            [("compare", nothing)],
+            seconds=5,
+        ),
+        Row(
+            "20000 choices in another order, of which one is gone",
+            lambda: choices(*range(20_000)) + choices(*range(19_999, 0, -1)),
+            [("compare", losses(2, '"id":"c0"'))],
+            seconds=5,
+        ),
+        Row(
+            "20000 entity types below one, whose names hash alike",
+            lambda: below_one(f"{FLOOD}{number:08}" for number in range(20_000)),
+            [("build", has_line("entity types: 20001, 0 of them external"))],
+            seconds=10,
+        ),
+        Row(
+            "100000 actions in a ring",
+            lambda: action_ring(100_000),
+            [("build", cycle_of_actions(0, 99_999))],
         ),
         Row(
             "65 actions in a ring",

@@ -3,6 +3,8 @@
 #![tactic(auto)]
 
 #[cfg(test)]
+mod measured;
+#[cfg(test)]
 mod queries;
 #[cfg(test)]
 mod vectors;
