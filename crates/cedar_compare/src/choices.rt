@@ -55,12 +55,12 @@ fn other_choice<'a>(
     ensures { IfOk result (λ found. IsIdOutside (Some (choice_texts choices.now))
         (Some (choice_texts others.now)) (option_map eid_text (option_copied found))) }
 {
-    let others = choice_set(alloc, others)?;
-    if !is_among(&others, &choices.head) {
+    let known = choice_set(alloc, others)?;
+    if !is_among(&known, &choices.head) {
         return Ok(Some(&choices.head));
     }
     for eid in &choices.tail {
-        if !is_among(&others, eid) {
+        if !is_among(&known, eid) {
             return Ok(Some(eid));
         }
     }

@@ -308,11 +308,10 @@ fn kept_choices(versions: &Versions<'_>, name: &EntityType) -> M<BTreeSet<Eid>>
     ensures { IfOk result (λ kept. AreKept versions.now.extensions.now (new_of versions.now)
         (type_name name.now) (map eid_text kept.keys)) }
 {
-    let choices = match find_type(versions.new, name) {
-        Some(new) => choices_of(&new.kind),
-        None => None,
+    let Some(new) = find_type(versions.new, name) else {
+        return Ok(BTreeSet::new(versions.alloc));
     };
-    match choices {
+    match choices_of(&new.kind) {
         Some(choices) => choice_set(versions.alloc, choices),
         None => Ok(BTreeSet::new(versions.alloc)),
     }

@@ -43,3 +43,7 @@ returns c =
         c.in_ok-cause.ensures it (sym c.uid.ensures.uid),
       ),
     )
+
+-- a choice of the new version is one of its entities
+pub returns-then-is_among : goal.returns-then-is_among
+returns-then-is_among c = c.requires.kept (eid_text c.args.eid.now) (c.is_among.ensures.0 c.if-is_among.true)
