@@ -2,11 +2,14 @@
 //! that stand in files.
 #![tactic(auto)]
 
+mod replacing;
+
 use check_commands::{FileAccess, FileFault, run, unread};
+use replacing::replace;
 use std::alloc::{AllocGlobal, Global};
 use std::env::Env;
 use std::fs::File;
-use std::io::{Read, Write};
+use std::io::Read;
 use std::process::ExitCode;
 use std::rt::Files;
 use std::{env, fs, io};
@@ -17,28 +20,19 @@ struct SystemFiles<'r, R> {
     rt: &'r R,
 }
 
-/// The bytes of standard input.
-fn whole_input<R: Input + AllocGlobal>(rt: &R) -> io::Result<Vec<u8>> {
-    let mut bytes = Vec::new(rt.alloc());
-    rt.reader().read_to_end(&mut bytes)?;
+/// The most bytes that are read of a file: 4 GiB but one, which no reader of schemas takes.
+const MOST: u64 = 0xffff_ffff;
+
+/// The bytes of what is read to its end, or the first of them where there are too many.
+fn whole<T: Read + Drop>(alloc: Global, from: T) -> io::Result<Vec<u8>> {
+    let mut bytes = Vec::new(alloc);
+    from.take(MOST).read_to_end(&mut bytes)?;
     Ok(bytes)
 }
 
-/// Makes a file that holds a text; there may be none of that name yet.
-fn write_new<R: Files>(rt: &R, name: &str, text: &str) -> io::Result<()> {
-    let mut file = File::create_new(rt, name)?;
-    file.write_all(text.as_bytes())
-}
-
-/// Writes a file beside the place of another, and puts it there. Where that fails, what was written
-/// beside is taken away again.
-fn put_in_place<R: Files>(rt: &R, beside: &str, name: &str, text: &str) -> io::Result<()> {
-    write_new(rt, beside, text)?;
-    let moved = fs::rename(rt, beside, name);
-    if moved.is_err() {
-        let _ = fs::remove_file(rt, beside);
-    }
-    moved
+/// The bytes of a file.
+fn whole_file<R: Files + AllocGlobal>(rt: &R, name: &str) -> io::Result<Vec<u8>> {
+    whole(rt.alloc(), File::open(rt, name)?)
 }
 
 /// Whether two names lead to one file.
@@ -62,9 +56,9 @@ fn file_fault(alloc: Global, error: &io::Error) -> FileFault {
 impl<R: Files + Input + AllocGlobal> FileAccess for SystemFiles<'_, R> {
     fn read(&mut self, alloc: Global, name: &str) -> Result<Vec<u8>, FileFault> {
         let read = if name == "-" {
-            whole_input(self.rt)
+            whole(alloc, self.rt.reader())
         } else {
-            fs::read(self.rt, name)
+            whole_file(self.rt, name)
         };
         match read {
             Ok(bytes) => Ok(bytes),
@@ -77,8 +71,7 @@ impl<R: Files + Input + AllocGlobal> FileAccess for SystemFiles<'_, R> {
     }
 
     fn replace(&mut self, alloc: Global, name: &str, text: &str) -> Result<(), FileFault> {
-        let beside = format!(in alloc; "{name}.part")?;
-        match put_in_place(self.rt, beside.as_str(), name, text) {
+        match replace(self.rt, name, text) {
             Ok(()) => Ok(()),
             Err(error) => Err(file_fault(alloc, &error)),
         }

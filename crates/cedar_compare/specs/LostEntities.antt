@@ -62,6 +62,11 @@ IsChoiceAnswer extensions old new name id None = IsEntityIn extensions new (bare
 IsChoiceAnswer extensions old new name id (Some difference) =
     IsTypeLoss extensions old new name difference
 
+-- the entity of each of these choices of a type is one of the schema
+abbrev pub AreKept : Extensions → PlainSchema → PlainName → List Text → Type 0
+AreKept extensions new name kept =
+    (id : Text) → Contains kept id → IsEntityIn extensions new (bare_entity name id)
+
 -- the uid is a choice of an enumerated entity type of the schema
 abbrev pub IsChoiceOf : PlainSchema → PlainUid → Type 0
 IsChoiceOf schema uid = (it : SchemaEntityType) × Contains schema.entity_types (uid.ty, it)

@@ -35,7 +35,7 @@ pub use Rattle.cedar_compare.specs.Fresh.{IsFreshIn, NoLongerChoice}
 pub use Rattle.cedar_compare.specs.Keeps.{IsLostAction, IsLostEntity, IsLostRequest, Keeps, KeepsAction, KeepsEntityType, KeepsRequest, LosesAction, LosesEntityType, LosesRequest}
 pub use Rattle.cedar_compare.specs.Lookup.{IsActionAt, IsAt, IsKeyed, IsTypeAt, plain_type}
 pub use Rattle.cedar_compare.specs.Losses.{AreAllRequests, AreEnvironmentSubjects, action_subjects, type_subjects}
-pub use Rattle.cedar_compare.specs.LostEntities.{IsBelowAnswer, IsBesideAnswer, IsChoiceAnswer, IsChoiceOf, IsSampleOf, IsTagOutside, IsTypeLoss, IsUpperCause, bare_entity, one_tag, plain_outside}
+pub use Rattle.cedar_compare.specs.LostEntities.{AreKept, IsBelowAnswer, IsBesideAnswer, IsChoiceAnswer, IsChoiceOf, IsSampleOf, IsTagOutside, IsTypeLoss, IsUpperCause, bare_entity, one_tag, plain_outside}
 pub use Rattle.cedar_compare.specs.LostRequests.{AreRequestsOf, IsAppliedBy, context_at, environment_with, new_action, subjects_with}
 pub use Rattle.cedar_compare.specs.PlainRequests.{AreActionAnswers, AreChoicesAt, HasEnvironment, IsContextIn, IsContextOutside, IsEnvironmentLacking, IsSampleRequest, IsUidOfType, IsUidOutside}
 pub use Rattle.cedar_compare.specs.Requests.{IsOfTypes, IsRealRequest, IsRequestIn, MayHaveId, PlainRequest}

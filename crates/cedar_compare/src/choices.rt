@@ -1,12 +1,13 @@
 //! The ids that entities of a type may have.
 
-ghost use Rattle.std.specs.Prelude.{◌≡◌, ◌↔◌, ◌+◌, ◌≤◌, Contains, IfOk, IsTrue, None, length};
+ghost use Rattle.std.specs.Prelude.{◌≡◌, ◌↔◌, ◌+◌, ◌≤◌, Contains, IfOk, IsTrue, None, length, map};
 ghost use Rattle.std.specs.Option.{option_copied, option_map};
-ghost use Rattle.cedar_compare.specs.Words.{IsIdOutside, MayHave, Text, choice_texts, eid_text, kind_choices, plain_kind};
+ghost use Rattle.cedar_compare.specs.Words.{IsIdOutside, MayHave, SameItems, Text, choice_texts, eid_text, kind_choices, plain_kind};
 
 use cedar_below::{Eid, M, NonEmpty};
 use cedar_schema::ValidatorEntityTypeKind;
 use std::alloc::Global;
+use std::collections::BTreeSet;
 
 /// The choices of an enumerated entity type, and of others none.
 pub(crate) fn choices_of(kind: &ValidatorEntityTypeKind) -> Option<&NonEmpty<Eid>>
@@ -26,20 +27,44 @@ pub(crate) fn has_choice(choices: &NonEmpty<Eid>, eid: &Eid) -> bool
     choices.head == *eid || choices.tail.contains(eid)
 }
 
-/// The first of some choices that isn't one of others, if there is one.
-fn other_choice<'a>(choices: &'a NonEmpty<Eid>, others: &NonEmpty<Eid>) -> Option<&'a Eid>
-    ensures { IsIdOutside (Some (choice_texts choices.now)) (Some (choice_texts others.now))
-        (option_map eid_text (option_copied result)) }
+/// Some choices as a set, in which an id is found without going through all of them.
+pub(crate) fn choice_set(alloc: Global, choices: &NonEmpty<Eid>) -> M<BTreeSet<Eid>>
+    ensures { IfOk result (λ set. SameItems (map eid_text set.keys) (choice_texts choices.now)) }
 {
-    if !has_choice(others, &choices.head) {
-        return Some(&choices.head);
+    let mut eids = Vec::new(alloc);
+    eids.push(choices.head.clone()?)?;
+    for eid in &choices.tail {
+        eids.push(eid.clone()?)?;
+    }
+    Ok(BTreeSet::from_iter(alloc, eids)?)
+}
+
+/// Whether an id is one of a set.
+pub(crate) fn is_among(eids: &BTreeSet<Eid>, eid: &Eid) -> bool
+    ensures { IsTrue result ↔ Contains (map eid_text eids.now.keys) (eid_text eid.now) }
+{
+    eids.contains(eid)
+}
+
+/// The first of some choices that isn't one of others, if there is one.
+fn other_choice<'a>(
+    alloc: Global,
+    choices: &'a NonEmpty<Eid>,
+    others: &NonEmpty<Eid>,
+) -> M<Option<&'a Eid>>
+    ensures { IfOk result (λ found. IsIdOutside (Some (choice_texts choices.now))
+        (Some (choice_texts others.now)) (option_map eid_text (option_copied found))) }
+{
+    let others = choice_set(alloc, others)?;
+    if !is_among(&others, &choices.head) {
+        return Ok(Some(&choices.head));
     }
     for eid in &choices.tail {
-        if !has_choice(others, eid) {
-            return Some(eid);
+        if !is_among(&others, eid) {
+            return Ok(Some(eid));
         }
     }
-    None
+    Ok(None)
 }
 
 /// The length of the longest of some choices.
@@ -92,7 +117,7 @@ pub(crate) fn id_outside(
     };
     match old {
         None => Ok(Some(id_of_length(alloc, longest_choice(new))?)),
-        Some(old) => match other_choice(old, new) {
+        Some(old) => match other_choice(alloc, old, new)? {
             Some(eid) => Ok(Some(eid.clone()?)),
             None => Ok(None),
         },

@@ -1,10 +1,11 @@
 //! What a new version keeps of an entity type.
 
-ghost use Rattle.std.specs.Prelude.{◌≡◌, ◌↔◌, ◌∷◌, [], Contains, IfOk, IsTrue};
+ghost use Rattle.std.specs.Prelude.{◌≡◌, ◌↔◌, ◌∷◌, [], Contains, IfOk, IsTrue, map};
 ghost use Rattle.std.specs.Option.{option_map};
-ghost use Rattle.cedar_compare.specs.Words.{ActionEntity, AreUppersLost, AreVersions, IsAnswer, IsBelowAnswer, IsBesideAnswer, IsChoiceAnswer, IsChoiceOf, IsEntityIn, IsFreshEntity, IsSampleOf, IsStandard, IsTagOutside, IsTypeCause, IsUpperCause, MayStandAbove, SchemaEntityType, bare_entity, choice_texts, eid_text, entity_type_of, enumerated_kind, kind_fields, kind_openness, kind_tags, named_values, new_of, no_entry, old_of, one_tag, plain_action_entity, plain_cause, plain_difference, plain_outside, plain_type, type_name, type_subject, uid_of, value_tree};
+ghost use Rattle.cedar_compare.specs.Words.{ActionEntity, AreKept, AreUppersLost, AreVersions, IsAnswer, IsBelowAnswer, IsBesideAnswer, IsChoiceAnswer, IsChoiceOf, IsEntityIn, IsFreshEntity, IsSampleOf, IsStandard, IsTagOutside, IsTypeCause, IsUpperCause, MayStandAbove, SchemaEntityType, bare_entity, choice_texts, eid_text, entity_type_of, enumerated_kind, kind_fields, kind_openness, kind_tags, named_values, new_of, no_entry, old_of, one_tag, plain_action_entity, plain_cause, plain_difference, plain_outside, plain_type, type_name, type_subject, uid_of, value_tree};
 
 use crate::bare::{is_bare_of_type, is_without_ancestors};
+use crate::choices::{choice_set, choices_of, is_among};
 use crate::difference::{Cause, Difference};
 use crate::fresh::fresh_uid;
 use crate::uppers::Uppers;
@@ -301,15 +302,41 @@ fn choice_cause(versions: &Versions<'_>, uid: &EntityUID) -> M<Cause>
     Ok(Cause::Gone)
 }
 
-/// What is lost of one choice of an enumerated entity type.
-fn lost_choice(versions: &Versions<'_>, name: &EntityType, eid: &Eid) -> M<Option<Difference>>
+/// The choices that an entity type of the new version has, and none where it isn't enumerated.
+fn kept_choices(versions: &Versions<'_>, name: &EntityType) -> M<BTreeSet<Eid>>
+    requires { AreVersions versions.now }
+    ensures { IfOk result (λ kept. AreKept versions.now.extensions.now (new_of versions.now)
+        (type_name name.now) (map eid_text kept.keys)) }
+{
+    let choices = match find_type(versions.new, name) {
+        Some(new) => choices_of(&new.kind),
+        None => None,
+    };
+    match choices {
+        Some(choices) => choice_set(versions.alloc, choices),
+        None => Ok(BTreeSet::new(versions.alloc)),
+    }
+}
+
+/// What is lost of one choice of an enumerated entity type, where these are kept in any case.
+fn lost_choice(
+    versions: &Versions<'_>,
+    kept: &BTreeSet<Eid>,
+    name: &EntityType,
+    eid: &Eid,
+) -> M<Option<Difference>>
     requires versions { AreVersions versions.now }
+    requires kept { AreKept versions.now.extensions.now (new_of versions.now)
+        (type_name name.now) (map eid_text kept.now.keys) }
     requires old { IsChoiceOf (old_of versions.now)
         (record { ty = type_name name.now; eid = eid_text eid.now }) }
     ensures { IfOk result (λ found. IsChoiceAnswer versions.now.extensions.now
         (old_of versions.now) (new_of versions.now) (type_name name.now) (eid_text eid.now)
         (option_map plain_difference found)) }
 {
+    if is_among(kept, eid) {
+        return Ok(None);
+    }
     let witness = entity_alone(versions, name, eid)?;
     if is_kept(versions, &witness) {
         return Ok(None);
@@ -331,11 +358,12 @@ fn lost_enumerated(
         (new_of versions.now) (type_subject (type_name name.now))
         (option_map plain_difference found)) }
 {
-    if let Some(difference) = lost_choice(versions, name, &choices.head)? {
+    let kept = kept_choices(versions, name)?;
+    if let Some(difference) = lost_choice(versions, &kept, name, &choices.head)? {
         return Ok(Some(difference));
     }
     for eid in &choices.tail {
-        if let Some(difference) = lost_choice(versions, name, eid)? {
+        if let Some(difference) = lost_choice(versions, &kept, name, eid)? {
             return Ok(Some(difference));
         }
     }

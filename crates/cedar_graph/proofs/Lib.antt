@@ -1,4 +1,5 @@
 pub mod Counting
+pub mod Cycles
 pub mod Gathering
 pub mod Growing
 pub mod KeyedEdges
@@ -7,6 +8,6 @@ pub mod MovingLemmas
 pub mod Numbers
 pub mod OrderProgress
 pub mod OrderSteps
-pub mod TableEdges
 pub mod TableClosing
+pub mod TableEdges
 pub mod TableLinking

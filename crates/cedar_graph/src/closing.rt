@@ -192,16 +192,3 @@ pub(crate) fn closed_lists(
     }
     Ok((closed, joins))
 }
-
-/// The least number that stands in its own list.
-pub(crate) fn first_on_cycle(lists: &Vec<Vec<usize>>) -> Option<usize>
-    ensures found { IfSome result (λ i. IsTarget lists.now.items i i) }
-    ensures none { IfNone result ((i : ℕ) → ¬ IsTarget lists.now.items i i) }
-{
-    for i in 0..lists.len() {
-        if lists[i].contains(&i) {
-            return Some(i);
-        }
-    }
-    None
-}

@@ -4,13 +4,13 @@ ghost use Rattle.std.specs.Prelude.{◌≡◌, ℕ, ◌*◌, ◌<◌, ◌≤◌,
 ghost use Rattle.std.specs.HashMap.{get, keys, hash_map_len};
 ghost use Rattle.cedar_graph.specs.Words.{AreAlike, HasEdge, IsNumbered, IsRefusal, IsTarget, ListHas, Reaches};
 
-use crate::closing::{closed_lists, first_on_cycle};
+use crate::closing::closed_lists;
 use crate::list_edges::add_all_edges;
 use crate::numbering::{Numbering, numbered_keys};
+use crate::ordering::number_on_cycle;
 use crate::targets::all_targets;
 use crate::tc_error::TcError;
 use crate::tc_node::TCNode;
-use cedar_below::M;
 use std::alloc::Global;
 use std::collections::HashMap;
 use std::hash::Hash;
@@ -26,11 +26,13 @@ struct Closed<K> {
     joins: u128,
 }
 
-/// What chains of edges reach from each key of the map.
+/// What chains of edges reach from each key of the map. With `enforce_dag` a chain that leads back
+/// is refused, before any is followed to its end.
 fn closed_names<K: Eq + Hash + Drop, V: TCNode<K>>(
     alloc: Global,
     nodes: &HashMap<K, V>,
-) -> M<Closed<K>>
+    enforce_dag: bool,
+) -> Result<Closed<K>, TcError<K>>
     ensures few { IfOk result (λ closed. vec_len closed.lists ≤ vec_len closed.names) }
     ensures within { IfOk result (λ closed.
         (i j : ℕ) → IsTarget closed.lists.items i j → j < vec_len closed.names) }
@@ -45,9 +47,15 @@ fn closed_names<K: Eq + Hash + Drop, V: TCNode<K>>(
         → ListHas K.eq closed.names.items closed.lists.items from to) }
     ensures count { IfOk result (λ closed.
         closed.joins ≤ hash_map_len nodes.now * hash_map_len nodes.now) }
+    ensures acyclic { OnOk result (IsTrue enforce_dag → (key : K)
+        → ¬ Reaches K.eq V.has_edge nodes.now key key) }
+    ensures fault { IfErr result (IsRefusal (Reaches K.eq V.has_edge nodes.now) enforce_dag) }
 {
     let mut numbering = numbered_keys::<K, V>(alloc, nodes)?;
     let targets = all_targets(alloc, nodes, &mut numbering)?;
+    if let Some(number) = number_on_cycle(alloc, &targets, enforce_dag)? {
+        return Err(TcError::HasCycle(numbering.names.swap_remove(number)));
+    }
     let (lists, joins) = closed_lists(alloc, &targets, numbering.names.len())?;
     let Numbering {
         names,
@@ -87,15 +95,10 @@ pub fn compute_tc_counted<K: Eq + Hash + Drop, V: TCNode<K>>(
     ensures count { IfOk result (λ joins. joins ≤ hash_map_len nodes.old * hash_map_len nodes.old) }
 {
     let Closed {
-        mut names,
+        names,
         lists,
         joins,
-    } = closed_names(alloc, nodes)?;
-    if enforce_dag {
-        if let Some(number) = first_on_cycle(&lists) {
-            return Err(TcError::HasCycle(names.swap_remove(number)));
-        }
-    }
+    } = closed_names(alloc, nodes, enforce_dag)?;
     add_all_edges(nodes, &names, &lists)?;
     Ok(joins)
 }

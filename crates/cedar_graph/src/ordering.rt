@@ -1,7 +1,7 @@
 //! Numbers in an order in which each comes after those that it leads to.
 
-ghost use Rattle.std.specs.Prelude.{◌≡◌, ◌++◌, ◌<◌, ℕ, Contains, IfOk, OnOk, map};
-ghost use Rattle.cedar_graph.specs.Words.{Enter, IsOrdered, Leave};
+ghost use Rattle.std.specs.Prelude.{◌≡◌, ◌++◌, ◌<◌, ℕ, Contains, IfNone, IfOk, IfSome, IsTrue, OnOk, map};
+ghost use Rattle.cedar_graph.specs.Words.{Chain, Enter, IsOrdered, IsTarget, Leave};
 
 use cedar_below::M;
 use std::alloc::Global;
@@ -88,4 +88,25 @@ pub fn topo_sort(alloc: Global, targets: &Vec<Vec<usize>>) -> M<Ordered>
         }
     }
     Ok(Ordered::Order(order))
+}
+
+/// Where no chain may lead back, a number that one leads back to. It takes no more time than an
+/// order does, whatever chains reach together.
+pub(crate) fn number_on_cycle(
+    alloc: Global,
+    targets: &Vec<Vec<usize>>,
+    enforce_dag: bool,
+) -> M<Option<usize>>
+    ensures found { IfOk result (λ found. IfSome found (λ number.
+        IsTrue enforce_dag × Chain (IsTarget targets.now.items) number number)) }
+    ensures none { IfOk result (λ found. IfNone found (IsTrue enforce_dag
+        → (number : ℕ) → ¬ Chain (IsTarget targets.now.items) number number)) }
+{
+    if !enforce_dag {
+        return Ok(None);
+    }
+    match topo_sort(alloc, targets)? {
+        Ordered::Order(_order) => Ok(None),
+        Ordered::Cycle(number) => Ok(Some(number)),
+    }
 }

@@ -4,8 +4,9 @@ ghost use Rattle.std.specs.Prelude.{◌≡◌, ◌⊎◌, ℕ, ◌<◌, Contains
 ghost use Rattle.std.specs.Map.{keys_of, values_of};
 ghost use Rattle.cedar_graph.specs.Words.{AreInTurn, Chain, HasEntry, HoldsPairwise, IsClosedTo, IsCycle, IsGrown, IsTableFault, IsTarget, ListHas, StandsIn, StepsTo, items_at};
 
-use crate::closing::{closed_lists, first_on_cycle};
+use crate::closing::closed_lists;
 use crate::list_edges::add_edges;
+use crate::ordering::number_on_cycle;
 use crate::places::all_places;
 use crate::table_fault::TableFault;
 use crate::tc_node::TCNode;
@@ -78,13 +79,13 @@ pub(crate) fn closed_table<K: Ord + Hash + QuickHash + Drop, V: TCNode<K> + Drop
     ensures fault { IfErr result
         (IsCycle (ListHas K.eq (keys_of nodes.entries) targets.now.items) enforce_dag) }
 {
-    let (lists, _joins) = closed_lists(alloc, targets, nodes.len())?;
+    // Before closing: what a ring reaches is the square of its length.
+    let on_cycle = number_on_cycle(alloc, targets, enforce_dag)?;
     let (keys, values) = nodes.into_parts();
-    if enforce_dag {
-        if let Some(place) = first_on_cycle(&lists) {
-            return Err(TableFault::HasCycle(V::copy_key(&keys.as_vec()[place])?));
-        }
+    if let Some(place) = on_cycle {
+        return Err(TableFault::HasCycle(V::copy_key(&keys.as_vec()[place])?));
     }
+    let (lists, _joins) = closed_lists(alloc, targets, values.len())?;
     let linked = linked_nodes(values, keys.as_vec(), &lists, known)?;
     Ok(Table::from_parts(keys, linked))
 }

@@ -12,6 +12,7 @@ use crate::files::FileAccess;
 use crate::finding::{Finding, Source};
 use crate::graph::graph;
 use crate::laying_out::format;
+use crate::limits::Walk;
 use crate::linking::{is_read, link};
 use crate::outcome::{Manner, Outcome, refused};
 use crate::reading::well_formed;
@@ -176,6 +177,14 @@ fn over_built(
     answered(alloc, manner, &it.sources, answer)
 }
 
+/// How a command goes over the types of a schema.
+fn walk_of(command: &str) -> Walk {
+    match command {
+        "build" | "envs" | "graph" => Walk::Shared,
+        _ => Walk::WrittenOut,
+    }
+}
+
 /// What a command gives over the schema that files declare.
 fn over_schema<F: FileAccess>(
     alloc: Global,
@@ -184,7 +193,7 @@ fn over_schema<F: FileAccess>(
     matches: &ArgMatches<'_>,
     names: &[&str],
 ) -> M<Outcome> {
-    match built(alloc, files, names, manner(matches)) {
+    match built(alloc, files, names, manner(matches), walk_of(command)) {
         Ok(it) => over_built(alloc, command, matches, &it),
         Err(told) => told,
     }

@@ -10,6 +10,7 @@ use crate::difference_json::push_objects;
 use crate::difference_lines::push_lines;
 use crate::files::FileAccess;
 use crate::finding::Finding;
+use crate::limits::Walk;
 use crate::outcome::{Manner, Outcome, refused};
 use crate::sides::Sides;
 use crate::status::Status;
@@ -170,7 +171,7 @@ fn with_new_faults<F: FileAccess>(
     new: &[&str],
     manner: Manner,
 ) -> M<Outcome> {
-    match built(alloc, files, new, manner) {
+    match built(alloc, files, new, manner, Walk::WrittenOut) {
         Ok(_) => Ok(told),
         Err(Ok(other)) => told.with(&other),
         Err(Err(refused)) => Err(refused),
@@ -234,7 +235,7 @@ fn compare_built<F: FileAccess>(
     new: &[&str],
     telling: Telling,
 ) -> M<Outcome> {
-    match built(alloc, files, new, telling.manner) {
+    match built(alloc, files, new, telling.manner, Walk::WrittenOut) {
         Ok(new) => compare_versions(alloc, telling, old, &new),
         Err(told) => told,
     }
@@ -249,7 +250,7 @@ pub(crate) fn compare_files<F: FileAccess>(
     new: &[&str],
     telling: Telling,
 ) -> M<Outcome> {
-    match built(alloc, files, old, telling.manner) {
+    match built(alloc, files, old, telling.manner, Walk::WrittenOut) {
         Ok(old) => compare_built(alloc, files, &old, new, telling),
         Err(Ok(told)) => with_new_faults(alloc, files, told, new, telling.manner),
         Err(Err(refused)) => Err(refused),

@@ -23,6 +23,7 @@ mod json_lines;
 mod laying_out;
 mod layout;
 mod left_out;
+mod limits;
 mod linking;
 mod outcome;
 mod position;

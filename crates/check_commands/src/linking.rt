@@ -8,6 +8,7 @@ use crate::files::{FileAccess, FileFault};
 use crate::finding::{Finding, Source};
 use crate::json_lines::shown_json;
 use crate::left_out::{LeftOut, left_out};
+use crate::limits::Walk;
 use crate::outcome::{Manner, Outcome, refused};
 use crate::repeating::Repeated;
 use crate::status::Status;
@@ -150,7 +151,7 @@ pub(crate) fn link<F: FileAccess>(
     manner: Manner,
     output: Option<&str>,
 ) -> M<Outcome> {
-    match built(alloc, files, names, manner) {
+    match built(alloc, files, names, manner, Walk::WrittenOut) {
         Ok(it) => link_built(alloc, files, &it, manner, output),
         Err(told) => told,
     }

@@ -91,6 +91,13 @@ fn no_command(alloc: Global, words: &[String], error: &Error) -> M<Outcome>
     })
 }
 
+/// Says on `err` why `out` couldn't be written, unless nobody reads it any more.
+fn say_unwritten<E: Write>(error: &io::Error, err: &mut E) {
+    if error.kind() != io::ErrorKind::BrokenPipe {
+        let _ = writeln!(err, "standard output: Unwritten: {error}");
+    }
+}
+
 /// Writes what a command gave, and answers how the run ends: with the command's own status, or
 /// since memory ran out, or since `out` couldn't be written. A failed write to `err` is ignored.
 fn finish<O: Write, E: Write>(outcome: M<Outcome>, out: &mut O, err: &mut E) -> Status
@@ -103,7 +110,10 @@ fn finish<O: Write, E: Write>(outcome: M<Outcome>, out: &mut O, err: &mut E) -> 
             let _ = err.write_all(outcome.notes.as_bytes());
             match out.write_all(outcome.text.as_bytes()) {
                 Ok(()) => outcome.status,
-                Err(_) => Status::Unwritten,
+                Err(error) => {
+                    say_unwritten(&error, err);
+                    Status::Unwritten
+                }
             }
         }
         Err(Memory) => {
@@ -120,7 +130,8 @@ fn finish<O: Write, E: Write>(outcome: M<Outcome>, out: &mut O, err: &mut E) -> 
 ///   says what is at fault, or `out` where objects of JSON are asked for.
 /// - 2: the words give no command; `err` says why.
 /// - 3: memory ran out; `err` has the line `memory`, and nothing was printed on `out`.
-/// - 4: `out` or the file that was to be written couldn't be written.
+/// - 4: `out` or the file that was to be written couldn't be written; `err` says why, unless
+///   nobody reads `out` any more.
 /// - 5: a file couldn't be read; it is told as those that are refused.
 /// - 6: two versions of a schema were compared, and the new one takes something away; what that is
 ///   is printed on `out`, with what it adds.

@@ -8,8 +8,12 @@ use Rattle.cedar_compare.proofs.ChoiceLemmas.{each_image}
 use Rattle.cedar_declarations.proofs.OccurrenceLemmas.{Contains-image}
 use Rattle.cedar_compare.proofs.choices.other_choice.Goals as goal
 
-pub returns-then-not-has_choice-2 : goal.returns-then-not-has_choice-2
-returns-then-not-has_choice-2 c =
+-- the head isn't one of the others
+pub returns-then-not-is_among-others : goal.returns-then-not-is_among-others
+returns-then-not-is_among-others c = ?
+
+pub returns-then-not-is_among-others-2 : goal.returns-then-not-is_among-others-2
+returns-then-not-is_among-others-2 c =
     let items = c.deref-eid-items.result.now in
     let head = c.args.choices.now.head in
     let tail = c.args.choices.now.tail.items in
@@ -17,19 +21,5 @@ returns-then-not-has_choice-2 c =
     let there : Contains items eid = (c.loop-eid.eid-index, c.loop-eid-test.true, sym c.eid-item.is) in
     let among : Contains tail eid = subst (λ (xs : List Eid). Contains xs eid) c.deref-eid-items.ensures.value there in (
       Contains-cons (eid_text head) (map eid_text tail) (eid_text eid) (inr (Contains-image eid_text tail eid among)),
-      λ also. false≢true (sym c.if-not-has_choice-2.true ∙ c.has_choice-in-loop-eid.ensures.1 also),
+      λ also. ?,
     )
-
-pub loop-eid-preserved : goal.loop-eid-preserved
-loop-eid-preserved c =
-    let P : Eid → Type 0 = λ eid. Contains (choice_texts c.args.others.now) (eid_text eid) in
-    All-more P c.deref-eid-items.result.now c.loop-eid.eid-index c.eid-item.result c.loop-eid-test.true c.loop-eid.invariant
-    (subst P c.eid-item.is (c.has_choice-in-loop-eid.ensures.0 c.if-not-has_choice-2.false))
-
-pub returns : goal.returns
-returns c =
-    let P : Eid → Type 0 = λ eid. Contains (choice_texts c.args.others.now) (eid_text eid) in
-    let Q : List Eid → Type 0 = All P in
-    let all = subst Q (take_all c.loop-eid.eid-index c.deref-eid-items.result.now c.loop-eid-test.false) c.loop-eid.invariant in
-    each_image (Contains (choice_texts c.args.others.now)) eid_text c.args.choices.now.head c.args.choices.now.tail.items
-    (c.has_choice.ensures.0 c.if-not-has_choice.false) (subst Q c.deref-eid-items.ensures.value all)

@@ -1,11 +1,11 @@
-use Rattle.std.proofs.Common.{◌≡◌, ◌<◌, ◌≤◌, ℕ, IfSome, length, vec_len, slice_get, arith}
+use Rattle.std.proofs.Common.{◌≡◌, ◌<◌, ◌≤◌, ℕ, IfSome, Some, length, vec_len, slice_get, arith, refl, subst}
 use Rattle.std.specs.HashMap.{keys}
 use Rattle.std.proofs.lemmas.List.{length-map}
-use Rattle.std.proofs.lemmas.Option.{IfSome_then}
-use Rattle.cedar_graph.specs.Words.{HasEdge, IsNumbered, IsTarget}
-use Rattle.cedar_below.proofs.Chains.{held_after}
+use Rattle.std.proofs.lemmas.Option.{IfSome_then, slice_get_read}
+use Rattle.cedar_graph.specs.Words.{Chain, HasEdge, IsNumbered, IsTarget, Reaches}
+use Rattle.cedar_below.proofs.Chains.{held_after, last_step}
 use Rattle.cedar_graph.proofs.KeyedEdges.{step_of_keys, step_of_numbers, target_named, names_for_all}
-use Rattle.cedar_graph.proofs.Numbers.{numbers_from_keys, keys_from_numbers, one_number, number_below}
+use Rattle.cedar_graph.proofs.Numbers.{numbers_from_keys, keys_from_numbers, one_number, number_below, numbered_from_name}
 use Rattle.cedar_graph.proofs.closure.closed_names.Goals as goal
 use Rattle.cedar_graph.proofs.closure.closed_names.Goals.{In_ok-targets, In_ok-lists}
 
@@ -65,29 +65,80 @@ returns-clause-within g c = λ i j stands.
     (λ k l _ edge. below g d k l edge)
     ((c.in_ok-lists.ensures.closed i j).0 stands)
 
-pub returns-clause-sound : goal.returns-clause-sound
-returns-clause-sound g c = λ from to it.
-    let d = (goal.at.returns-clause-sound g c).In_ok-targets in
+-- a chain of numbers is one of the keys that have them
+chain_of_keys : (g : _) (c : In_ok-targets g) {i j : ℕ} → Chain (IsTarget c.in_ok-targets.targets.items) i j
+    → (a b : g.row.K.Denot) → IsNumbered g.K.PartialEq.eq c.all_targets.new.numbering.names.items a i
+    → IsNumbered g.K.PartialEq.eq c.all_targets.new.numbering.names.items b j
+    → Reaches g.K.PartialEq.eq g.V.TCNode.has_edge c.args.nodes.now a b
+chain_of_keys g c chain a b first last =
     let eq = g.K.PartialEq.eq in
     let names = c.all_targets.new.numbering.names.items in
     let targets = c.in_ok-targets.targets.items in
     keys_from_numbers (IsNumbered eq names) (HasEdge eq g.V.TCNode.has_edge c.args.nodes.now) (IsTarget targets)
-    (named g d)
+    (named g c)
     (step_of_numbers g.met.K.Eq.laws g.V.TCNode.has_edge g.met.V.TCNode.edges_respect_eq c.args.nodes.now
     c.in_ok-numbering.ensures.unique names targets
-    (in_order g d) c.in_ok-targets.ensures.targets (len g d))
-    ((c.in_ok-lists.ensures.closed it.0 it.2.0).0 it.2.1) from to it.1 it.2.2
+    (in_order g c) c.in_ok-targets.ensures.targets (len g c))
+    chain a b first last
+
+-- and a chain of keys is one of their numbers
+chain_of_numbers : (g : _) (c : In_ok-targets g) {a b : g.row.K.Denot}
+    → Reaches g.K.PartialEq.eq g.V.TCNode.has_edge c.args.nodes.now a b
+    → (i : ℕ) × (j : ℕ) × IsNumbered g.K.PartialEq.eq c.all_targets.new.numbering.names.items a i
+    × IsNumbered g.K.PartialEq.eq c.all_targets.new.numbering.names.items b j
+    × Chain (IsTarget c.in_ok-targets.targets.items) i j
+chain_of_numbers g c chain =
+    let eq = g.K.PartialEq.eq in
+    let names = c.all_targets.new.numbering.names.items in
+    let targets = c.in_ok-targets.targets.items in
+    numbers_from_keys (IsNumbered eq names) (HasEdge eq g.V.TCNode.has_edge c.args.nodes.now) (IsTarget targets)
+    (one_number g.met.K.Eq.laws names c.all_targets.new.numbering.numbers c.in_ok-targets.ensures.numbers)
+    (step_of_keys g.met.K.Eq.laws g.V.TCNode.has_edge g.met.V.TCNode.edges_respect_eq c.args.nodes.now
+    c.in_ok-numbering.ensures.unique names targets
+    (in_order g c) c.in_ok-targets.ensures.targets (len g c))
+    chain
+
+-- a number on a cycle is that of a name
+pub swap_remove-requires : goal.swap_remove-requires
+swap_remove-requires g c =
+    let number = c.in-Some.number in
+    let found = rw c.in-Some.is at c.in_ok-number.ensures.found in
+    let last = last_step (IsTarget c.in_ok-targets.targets.items) number number found.1 in
+    below g (goal.at.swap_remove-requires g c).In_ok-targets last.0 number last.1
+
+-- which reaches itself
+pub returns-in-Some-clause-fault : goal.returns-in-Some-clause-fault
+returns-in-Some-clause-fault g c =
+    let d = (goal.at.returns-in-Some-clause-fault g c).In_ok-targets in
+    let names = c.all_targets.new.numbering.names in
+    let number = c.in-Some.number in
+    let key = c.swap_remove.result in
+    let found = rw c.in-Some.is at c.in_ok-number.ensures.found in
+    let last = last_step (IsTarget c.in_ok-targets.targets.items) number number found.1 in
+    let under = below g d last.0 number last.1 in
+    let within : number < length names.items = omega (arith, under, names.ok.0) in
+    let read : slice_get names.items number ≡ Some key =
+    slice_get_read names.items (length names.items) number key refl within c.swap_remove.ensures.value in
+    let numbered = numbered_from_name g.K.PartialEq.eq names.items key key number read (g.met.K.Eq.laws.refl key) in
+    (found.0, chain_of_keys g d found.1 key key numbered numbered)
+
+-- where no number is on a cycle, no key is
+pub returns-clause-acyclic : goal.returns-clause-acyclic
+returns-clause-acyclic g c = λ enforced key chain.
+    let d = (goal.at.returns-clause-acyclic g c).In_ok-targets in
+    let it = chain_of_numbers g d chain in
+    let same = one_number g.met.K.Eq.laws c.all_targets.new.numbering.names.items c.all_targets.new.numbering.numbers
+    c.in_ok-targets.ensures.numbers key it.1 it.0 it.3 it.2 in
+    (rw c.in_default.is at c.in_ok-number.ensures.none) enforced it.0
+    (subst (λ n. Chain (IsTarget c.in_ok-targets.targets.items) it.0 n) same it.4)
+
+pub returns-clause-sound : goal.returns-clause-sound
+returns-clause-sound g c = λ from to it.
+    let d = (goal.at.returns-clause-sound g c).In_ok-targets in
+    chain_of_keys g d ((c.in_ok-lists.ensures.closed it.0 it.2.0).0 it.2.1) from to it.1 it.2.2
 
 pub returns-clause-complete : goal.returns-clause-complete
 returns-clause-complete g c = λ from to chain.
     let d = (goal.at.returns-clause-complete g c).In_ok-targets in
-    let eq = g.K.PartialEq.eq in
-    let names = c.all_targets.new.numbering.names.items in
-    let targets = c.in_ok-targets.targets.items in
-    let it = numbers_from_keys (IsNumbered eq names) (HasEdge eq g.V.TCNode.has_edge c.args.nodes.now) (IsTarget targets)
-    (one_number g.met.K.Eq.laws names c.all_targets.new.numbering.numbers c.in_ok-targets.ensures.numbers)
-    (step_of_keys g.met.K.Eq.laws g.V.TCNode.has_edge g.met.V.TCNode.edges_respect_eq c.args.nodes.now
-    c.in_ok-numbering.ensures.unique names targets
-    (in_order g d) c.in_ok-targets.ensures.targets (len g d))
-    chain in
+    let it = chain_of_numbers g d chain in
     (it.0, it.2, (it.1, (c.in_ok-lists.ensures.closed it.0 it.1).1 it.4, it.3))

@@ -1,19 +1,23 @@
 use Rattle.std.proofs.Common.{◌≡◌, ◌<◌, ℕ, IfSome, IsTrue, Some, ap, arith, get_or, length, refl, slice_get, subst, subst₂, sym, ◌∙◌}
-use Rattle.std.proofs.lemmas.Bool.{both_ways}
 use Rattle.std.proofs.lemmas.List.{length-map}
 use Rattle.std.proofs.lemmas.Option.{slice_get_read}
 use Rattle.std.specs.List.{IsDistinct, zip}
 use Rattle.std.specs.Map.{keys_of}
-use Rattle.cedar_below.proofs.Chains.{held_after}
+use Rattle.cedar_below.proofs.Chains.{last_step}
 use Rattle.cedar_graph.specs.Words.{AreInTurn, Chain, IsGrown, IsTarget, ListHas, StandsIn, items_at}
 use Rattle.cedar_graph.proofs.Numbers.{eq_back, numbered_from_name}
 use Rattle.cedar_graph.proofs.TableClosing.{distinct_keys, grown_entries}
 use Rattle.cedar_graph.proofs.TableEdges.{chain_of_keys, chain_of_numbers, one_place}
 use Rattle.cedar_graph.proofs.table_closing.closed_table.Goals as goal
-use Rattle.cedar_graph.proofs.table_closing.closed_table.Goals.{After-into_parts-keys, then-enforce_dag+in_default, else-enforce_dag}
+use Rattle.cedar_graph.proofs.table_closing.closed_table.Goals.{After-into_parts-keys}
 
 pub closed_lists-requires : goal.closed_lists-requires
-closed_lists-requires g c = record { within = λ i j edge. let below = c.requires.within i j edge in omega (arith, below, c.len.ensures) }
+closed_lists-requires g c = record {
+  within = λ i j edge.
+      let below = c.requires.within i j edge in
+      let count = ap length c.into_parts-keys.ensures.values ∙ length-map c.args.nodes.entries (λ e. e.1) in
+      omega (arith, below, count, c.len.ensures);
+}
 
 -- the keys differ
 distinct : (g : _) (c : After-into_parts-keys g) → IsDistinct g.K.PartialEq.eq (keys_of c.args.nodes.entries)
@@ -24,15 +28,15 @@ within : (g : _) (c : After-into_parts-keys g) (i j : ℕ) → IsTarget c.args.t
 within g c i j edge =
     let below = c.requires.within i j edge in omega (arith, below, length-map c.args.nodes.entries (λ e. e.0))
 
--- and so is each that a list holds
-reached : (g : _) (c : After-into_parts-keys g) (i j : ℕ) → IsTarget c.in_ok-lists.lists.items i j → j < length (keys_of c.args.nodes.entries)
-reached g c i j stands =
-    held_after (λ k. k < length (keys_of c.args.nodes.entries)) i (λ k edge. within g c i k edge) (λ k l _ edge. within g c k l edge)
-    ((c.in_ok-lists.ensures.closed i j).0 stands)
+-- and so is each that a chain of targets reaches
+reached : (g : _) (c : After-into_parts-keys g) (i j : ℕ) → Chain (IsTarget c.args.targets.now.items) i j
+    → j < length (keys_of c.args.nodes.entries)
+reached g c i j chain = let last = last_step (IsTarget c.args.targets.now.items) i j chain in within g c last.0 j last.1
 
 pub index-requires : goal.index-requires
 index-requires g c =
-    let below = reached g (goal.at.index-requires g c).After-into_parts-keys c.in-Some.place c.in-Some.place c.in-Some.ensures.found in
+    let found = rw c.in-Some.is at c.in_ok-on_cycle.ensures.found in
+    let below = reached g (goal.at.index-requires g c).After-into_parts-keys c.in-Some.place c.in-Some.place found.1 in
     let count = ap length (c.as_vec.ensures.keys ∙ c.into_parts-keys.ensures.keys) in
     omega (arith, below, count, c.as_vec.result.now.ok.0)
 
@@ -45,15 +49,14 @@ returns-in-Some-clause-fault g c =
     let place = c.in-Some.place in
     let name = c.index.result.now in
     let copy = c.in_ok-copy_key.field-0 in
-    let found = c.in-Some.ensures.found in
-    let below = reached g d place place found in
+    let found = rw c.in-Some.is at c.in_ok-on_cycle.ensures.found in
+    let below = reached g d place place found.1 in
     let held = c.as_vec.ensures.keys ∙ c.into_parts-keys.ensures.keys in
     let there : slice_get keys place ≡ Some name =
     slice_get_read keys (length keys) place name refl below (c.index.ensures ∙ ap (λ ks. get_or ks place name) held) in
     let numbered = numbered_from_name eq keys name copy place there (eq_back laws name copy c.in_ok-copy_key.ensures) in (
-      c.if-enforce_dag.true,
-      chain_of_keys laws keys (distinct g d) c.args.targets.now.items (within g d)
-          ((c.in_ok-lists.ensures.closed place place).0 found) copy copy numbered numbered,
+      found.0,
+      chain_of_keys laws keys (distinct g d) c.args.targets.now.items (within g d) found.1 copy copy numbered numbered,
     )
 
 pub linked_nodes-requires : goal.linked_nodes-requires
@@ -67,7 +70,7 @@ linked_nodes-requires g c =
       lists = omega (arith, count, c.in_ok-lists.ensures.len, c.requires.len);
       known = omega (arith, count, c.requires.known);
       within = λ i j stands.
-          let below = reached g d i j stands in
+          let below = reached g d i j ((c.in_ok-lists.ensures.closed i j).0 stands) in
           omega (arith, below, ap length held, c.as_vec-2.result.now.ok.0);
       linked = subst₂ (λ values keys. (i : ℕ) → IfSome (slice_get values i)
           (λ node. (to : _) → StandsIn eq keys (items_at c.args.known.now.items i) to → IsTrue (g.V.TCNode.has_edge node to)))
@@ -93,15 +96,11 @@ returns-clause-closed g c =
     c.in_ok-lists.ensures.closed linked grown)
 
 pub returns-clause-acyclic : goal.returns-clause-acyclic
-returns-clause-acyclic g c = λ enforced key chain. elim c.if-enforce_dag.branch [
-  | then-enforce_dag+in_default w ↦
-      let d = (goal.at.returns-clause-acyclic g c).After-into_parts-keys in
-      let eq = g.K.PartialEq.eq in
-      let keys = keys_of c.args.nodes.entries in
-      let targets = c.args.targets.now.items in
-      let it = chain_of_numbers g.met.K.Eq.laws keys (distinct g d) targets (within g d) chain in
-      let same = one_place g.met.K.Eq.laws keys (distinct g d) targets (within g d) key it.1 it.0 it.3 it.2 in
-      w.in_default.ensures.none it.0
-      ((c.in_ok-lists.ensures.closed it.0 it.0).1 (subst (λ n. Chain (IsTarget targets) it.0 n) same it.4))
-  | else-enforce_dag w ↦ both_ways c.args.enforce_dag w.if-enforce_dag.false enforced
-]
+returns-clause-acyclic g c = λ enforced key chain.
+    let d = (goal.at.returns-clause-acyclic g c).After-into_parts-keys in
+    let keys = keys_of c.args.nodes.entries in
+    let targets = c.args.targets.now.items in
+    let it = chain_of_numbers g.met.K.Eq.laws keys (distinct g d) targets (within g d) chain in
+    let same = one_place g.met.K.Eq.laws keys (distinct g d) targets (within g d) key it.1 it.0 it.3 it.2 in
+    (rw c.in_default.is at c.in_ok-on_cycle.ensures.none) enforced it.0
+    (subst (λ n. Chain (IsTarget targets) it.0 n) same it.4)

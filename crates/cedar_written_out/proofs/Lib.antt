@@ -1,0 +1,10 @@
+mod CycleLemmas
+mod Entries
+mod FigureLemmas
+mod IndexLemmas
+mod ListedLemmas
+mod MeasureLemmas
+mod OrderProgress
+mod OrderSteps
+mod RecordParts
+mod ReferringLemmas

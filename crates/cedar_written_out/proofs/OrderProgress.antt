@@ -1,0 +1,310 @@
+-- How far numbers are ordered, and what each step makes of it.
+use Rattle.std.proofs.Common.{◌≡◌, ◌≢◌, ◌⊎◌, ◌↔◌, ◌<◌, ◌≤◌, ◌+◌, ℕ, zero, suc, List, [], ◌∷◌, ◌++◌, None, Vec, AllPairs, Contains, length, map, get_or, set, ap, sym, subst, ◌∙◌, refl, inl, inr, ⊎_elim, arith}
+use Rattle.std.proofs.lemmas.List.{append_assoc, map-append, get_or-set_same, get_or-set_other, length-set, length-append}
+use Rattle.std.proofs.lemmas.List.Elements.{Contains-append_left, Contains-append_right, Contains-append_cases}
+use Rattle.cedar_below.proofs.Lists.{Contains-cons, Contains-cons_cases}
+use Rattle.cedar_below.specs.Chain.{Chain}
+use Rattle.cedar_written_out.specs.Order.{IsLowestFirst, IsTarget, LeadsTo, items_at}
+use Rattle.cedar_written_out.specs.declared.ordering.Step.{Step}
+use Rattle.cedar_written_out.specs.declared.ordering.Step.TheVariants.{Enter, Leave}
+use Rattle.cedar_written_out.specs.declared.ordering.Mark.{Mark}
+use Rattle.std.proofs.Math.ListN.{get_or-append}
+use Rattle.std.proofs.Math.Seq.{get_or-append_seam}
+use Rattle.cedar_written_out.proofs.OrderSteps.{number_of, single, image, enter_or_leave, enters_leave_none, AreSteps, steps_before, steps_opened, left_once, left_covered, left_within, leads_back}
+use Rattle.cedar_written_out.specs.declared.ordering.Mark.TheVariants.{Fresh, Open, Done}
+
+-- the mark of a number
+abbrev pub mark_at : List Mark → ℕ → Mark
+mark_at marks n = get_or marks n Done
+
+-- a mark that was read is that of its number
+pub mark_read : (marks : List Mark) (n : ℕ) (mark : Mark) → n < length marks → mark ≡ get_or marks n mark → mark_at marks n ≡ mark
+mark_read marks n mark within read = any_default marks n Done mark within ∙ sym read where
+  any_default : (list : List Mark) (k : ℕ) (a b : Mark) → k < length list → get_or list k a ≡ get_or list k b
+  any_default [] k a b inside = absurd (omega (arith, inside))
+  any_default (y ∷ ys) zero a b inside = refl
+  any_default (y ∷ ys) (suc k) a b inside = any_default ys k a b (omega (arith, inside))
+
+-- marks differ
+open_isnt_done : ¬ (Open ≡ Done)
+open_isnt_done same = cc
+
+-- and so do these
+fresh_isnt_open : ¬ (Fresh ≡ Open)
+fresh_isnt_open same = cc
+
+-- and these
+fresh_isnt_done : ¬ (Fresh ≡ Done)
+fresh_isnt_done same = cc
+
+-- a number that was marked has its mark, and others have theirs
+mark_set : (P : ℕ → Mark → Type 0) (marks : List Mark) (n : ℕ) (mark : Mark) → n < length marks → P n mark
+    → ((m : ℕ) → m ≢ n → P m (mark_at marks m)) → (m : ℕ) → P m (mark_at (set marks n mark) m)
+mark_set P marks n mark within here others m =
+    elim (same_or_not m n) [
+      | inl same ↦ let Q : ℕ → Type 0 = λ each. P each (mark_at (set marks n mark) each) in
+          subst Q (sym same) (subst (P n) (sym (get_or-set_same marks n mark Done within)) here)
+      | inr apart ↦ subst (P m) (sym (get_or-set_other marks n m mark Done apart)) (others m apart)
+    ]
+  where
+    same_or_not : (a b : ℕ) → (a ≡ b) ⊎ (a ≢ b)
+    same_or_not zero zero = inl refl
+    same_or_not zero (suc b) = inr (λ same. omega (arith, same))
+    same_or_not (suc a) zero = inr (λ same. omega (arith, same))
+    same_or_not (suc a) (suc b) =
+        elim (same_or_not a b) [ inl same ↦ inl (ap suc same) | inr apart ↦ inr (λ same. apart (omega (arith, same))) ]
+
+-- a list with one more item that is taken apart at some item is so at an earlier one or at the last
+snoc_cases : (xs : List ℕ) (x : ℕ) (before : List ℕ) (y : ℕ) (after : List ℕ) → xs ++ x ∷ [] ≡ before ++ y ∷ after
+    → ((xs ≡ before) × (x ≡ y)) ⊎ ((rest : List ℕ) × (xs ≡ before ++ y ∷ rest))
+snoc_cases [] x [] y after same = inl (refl, ap head same) where
+  head : List ℕ → ℕ
+  head [] = x
+  head (first ∷ others) = first
+snoc_cases [] x (b ∷ before) y after same = absurd (no_end before (ap tail same)) where
+  tail : List ℕ → List ℕ
+  tail [] = []
+  tail (first ∷ others) = others
+
+  no_end : (before : List ℕ) → ¬ ([] ≡ before ++ y ∷ after)
+  no_end [] wrong = cc
+  no_end (b ∷ before) wrong = cc
+snoc_cases (first ∷ xs) x [] y after same = inr (xs, λ i. head (same i) ∷ xs) where
+  head : List ℕ → ℕ
+  head [] = first
+  head (each ∷ others) = each
+snoc_cases (first ∷ xs) x (b ∷ before) y after same =
+    elim (snoc_cases xs x before y after (ap tail same)) [ inl whole ↦ inl ((λ i. head (same i) ∷ whole.0 i), whole.1) | inr part ↦ inr (part.0, λ i. head (same i) ∷ part.1 i) ]
+  where
+    head : List ℕ → ℕ
+    head [] = first
+    head (each ∷ others) = each
+
+    tail : List ℕ → List ℕ
+    tail [] = []
+    tail (each ∷ others) = others
+
+module _ {Z : Type 0} (targets : List (Vec ℕ Z)) where
+  -- the number stands in the order, or leads back to itself
+  abbrev pub IsPast : List ℕ → ℕ → Type 0
+  IsPast order n = Contains order n ⊎ Chain (LeadsTo targets) n n
+
+  -- what is past stays so as more numbers are ordered
+  past_stays : (order : List ℕ) (x n : ℕ) → IsPast order n → IsPast (order ++ x ∷ []) n
+  past_stays order x n past =
+      elim past [ inl there ↦ inl (Contains-append_left order (x ∷ []) n there) | inr cycle ↦ inr cycle ]
+
+  -- how far the numbers are ordered: which are done and open, what is to be done, and the order so far
+  pub record Progress (marks : List Mark) (steps : List Step) (order : List ℕ) : Type 0 where
+    pub len : length marks ≡ length targets
+    pub within : (n : ℕ) → Contains order n → n < length targets
+    pub done : (n : ℕ) → n < length targets → Contains order n ↔ (mark_at marks n ≡ Done)
+    pub open_ : (n : ℕ) → n < length targets → Contains steps (Leave n) ↔ (mark_at marks n ≡ Open)
+    pub waits : (n : ℕ) → n < length targets → Contains order n ⊎ Contains (map number_of steps) n
+    pub are_steps : AreSteps targets (IsPast order) None steps
+    pub after : (before rest : List ℕ) (n to : ℕ) → order ≡ before ++ n ∷ rest → LeadsTo targets n to → IsPast before to
+
+  -- a number of the steps but the last is one of all
+  number_cases : (rest : List Step) (step : Step) (n : ℕ) → Contains (map number_of (rest ++ step ∷ [])) n
+      → Contains (map number_of rest) n ⊎ (number_of step ≡ n)
+  number_cases rest step n among =
+      elim (Contains-append_cases (map number_of rest) (number_of step ∷ []) n (rw (map-append number_of rest (step ∷ [])) at among)) [ inl here ↦ inl here | inr last ↦ inr (elim (Contains-cons_cases (number_of step) [] n last) [ inl same ↦ same | inr none ↦ absurd (omega (arith, none.1)) ]) ]
+
+  -- a step that leaves a number is the last or among the others
+  leave_cases : (rest : List Step) (step : Step) (n : ℕ) → Contains (rest ++ step ∷ []) (Leave n)
+      → Contains rest (Leave n) ⊎ (step ≡ Leave n)
+  leave_cases rest step n among =
+      elim (Contains-append_cases rest (step ∷ []) (Leave n) among) [ inl here ↦ inl here | inr last ↦ inr (elim (Contains-cons_cases step [] (Leave n) last) [ inl same ↦ same | inr none ↦ absurd (omega (arith, none.1)) ]) ]
+
+  -- at first nothing is done
+  pub at_first : (marks : List Mark) (steps : List Step) → length marks ≡ length targets
+      → ((n : ℕ) → n < length targets → mark_at marks n ≡ Fresh) → ((n : ℕ) → n < length targets → Contains steps (Enter n))
+      → ((n : ℕ) → ¬ Contains steps (Leave n)) → Progress marks steps []
+  at_first marks steps len fresh each only = record {
+    len = len;
+    within = λ n none. absurd (omega (arith, none.1));
+    done = λ n within. (λ none. absurd (omega (arith, none.1)), λ is. absurd (fresh_isnt_done (sym (fresh n within) ∙ is)));
+    open_ = λ n within. (λ leaves. absurd (only n leaves), λ is. absurd (fresh_isnt_open (sym (fresh n within) ∙ is)));
+    waits = λ n within. inr (image number_of steps (Enter n) (each n within));
+    are_steps = enters steps only;
+    after = λ before rest n to none leads. absurd (no_end before n rest none);
+  }
+    where
+      enters : (some : List Step) → ((n : ℕ) → ¬ Contains some (Leave n)) → AreSteps targets (IsPast []) None some
+      enters [] none = tt
+      enters (Enter n ∷ rest) none = (tt, enters rest (λ m there. none m (Contains-cons (Enter n) rest (Leave m) (inr there))))
+      enters (Leave n ∷ rest) none = absurd (none n (Contains-cons (Leave n) rest (Leave n) (inl refl)))
+
+      no_end : (before : List ℕ) (y : ℕ) (after : List ℕ) → ¬ ([] ≡ before ++ y ∷ after)
+      no_end [] y after wrong = cc
+      no_end (b ∷ before) y after wrong = cc
+
+  -- a step that enters an open number has found a cycle
+  pub cycle : (marks : List Mark) (rest : List Step) (n : ℕ) (order : List ℕ) → n < length targets → mark_at marks n ≡ Open
+      → Progress marks (rest ++ Enter n ∷ []) order → Chain (LeadsTo targets) n n
+  cycle marks rest n order within is so_far =
+      elim (leave_cases rest (Enter n) n ((so_far.open_ n within).1 is)) [ inl here ↦ leads_back targets (IsPast order) rest n within so_far.are_steps here | inr wrong ↦ absurd (enter_or_leave n n wrong) ]
+
+  -- a step that enters a number that is done or open, or that has no list, is done
+  pub skipped : (marks : List Mark) (rest : List Step) (n : ℕ) (order : List ℕ)
+      → (n < length targets → Contains order n ⊎ (mark_at marks n ≡ Open))
+      → Progress marks (rest ++ Enter n ∷ []) order → Progress marks rest order
+  skipped marks rest n order done so_far = record {
+    len = so_far.len;
+    within = so_far.within;
+    done = so_far.done;
+    open_ = λ m within. (
+      λ leaves. (so_far.open_ m within).0 (Contains-append_left rest (Enter n ∷ []) (Leave m) leaves),
+      λ is. elim (leave_cases rest (Enter n) m ((so_far.open_ m within).1 is)) [ inl here ↦ here | inr same ↦ absurd (enter_or_leave n m same) ],
+    );
+    waits = λ m within. elim (so_far.waits m within) [
+      | inl there ↦ inl there
+      | inr waiting ↦ elim (number_cases rest (Enter n) m waiting) [
+        | inl here ↦ inr here
+        | inr same ↦ elim (done (omega (arith, same, within))) [
+          | inl there ↦ inl (rw same at there)
+          | inr is ↦
+              let Waits : ℕ → Type 0 = Contains (map number_of rest) in
+              inr (subst Waits same (image number_of rest (Leave n) (still n (omega (arith, same, within)) is)))
+        ]
+      ]
+    ];
+    are_steps = steps_before targets (IsPast order) (IsPast order) (λ m there. there) None rest (Enter n)
+        (λ within. elim (done within) [ inl there ↦ inl there | inr is ↦ inr (cycle marks rest n order within is so_far) ])
+        so_far.are_steps;
+    after = so_far.after;
+  }
+    where
+      still : (m : ℕ) → m < length targets → mark_at marks m ≡ Open → Contains rest (Leave m)
+      still m within is = elim (leave_cases rest (Enter n) m ((so_far.open_ m within).1 is)) [
+        | inl here ↦ here
+        | inr same ↦ absurd (enter_or_leave n m same)
+      ]
+
+  -- a step that leaves a number puts it into the order
+  pub left : (marks : List Mark) (rest : List Step) (n : ℕ) (order : List ℕ) → Progress marks (rest ++ Leave n ∷ []) order
+      → Progress (set marks n Done) rest (order ++ n ∷ [])
+  left marks rest n order so_far =
+      let within_n = left_within targets (IsPast order) None rest n so_far.are_steps in
+      let not_again = left_once targets (IsPast order) None rest n so_far.are_steps in
+      let last = Contains-append_right rest (Leave n ∷ []) (Leave n) (Contains-cons (Leave n) [] (Leave n) (inl refl)) in
+      let is_open = (so_far.open_ n within_n).0 last in
+      let not_done : ¬ Contains order n = λ there. open_isnt_done (sym is_open ∙ (so_far.done n within_n).0 there) in
+      let here = Contains-append_right order (n ∷ []) n (Contains-cons n [] n (inl refl)) in
+      let Q : ℕ → Type 0 = Contains (order ++ n ∷ []) in
+      record {
+        len = length-set marks n Done ∙ so_far.len;
+        within = λ m there. ⊎_elim (so_far.within m)
+            (λ same. let R : ℕ → Type 0 = λ each. each < length targets in subst R (single n m same) within_n)
+            (Contains-append_cases order (n ∷ []) m there);
+        done = mark_set (λ m mark. m < length targets → Contains (order ++ n ∷ []) m ↔ (mark ≡ Done)) marks n Done
+            (omega (arith, within_n, so_far.len)) (λ within. (λ there. refl, λ same. here))
+            (λ m apart within. (
+              λ there. elim (Contains-append_cases order (n ∷ []) m there) [ inl before ↦ (so_far.done m within).0 before | inr same ↦ absurd (apart (sym (single n m same))) ],
+              λ is. Contains-append_left order (n ∷ []) m ((so_far.done m within).1 is),
+            ));
+        open_ = mark_set (λ m mark. m < length targets → Contains rest (Leave m) ↔ (mark ≡ Open)) marks n Done
+            (omega (arith, within_n, so_far.len))
+            (λ within. (λ there. absurd (not_again there), λ same. absurd (open_isnt_done (sym same))))
+            (λ m apart within. (
+              λ there. (so_far.open_ m within).0 (Contains-append_left rest (Leave n ∷ []) (Leave m) there),
+              λ is. elim (leave_cases rest (Leave n) m ((so_far.open_ m within).1 is)) [ inl before ↦ before | inr same ↦ absurd (apart (sym (ap number_of same))) ],
+            ));
+        waits = λ m within. elim (so_far.waits m within) [ inl there ↦ inl (Contains-append_left order (n ∷ []) m there) | inr waiting ↦ elim (number_cases rest (Leave n) m waiting) [ inl before ↦ inr before | inr same ↦ inl (subst Q same here) ] ];
+        are_steps = steps_before targets (IsPast order) (IsPast (order ++ n ∷ [])) (past_stays order n) None rest (Leave n)
+            (λ within. inl here) so_far.are_steps;
+        after = λ before others m to same leads. elim (snoc_cases order n before m others same) [
+          | inl whole ↦ let R : List ℕ → Type 0 = λ list. IsPast list to in
+              let S : ℕ → Type 0 = λ each. LeadsTo targets each to in
+              subst R whole.0 (left_covered targets (IsPast order) None rest n so_far.are_steps to (subst S (sym whole.1) leads))
+          | inr part ↦ so_far.after before part.0 m to part.1 leads
+        ];
+      }
+
+  -- a step that enters a fresh number opens it
+  pub opened : (marks : List Mark) (rest : List Step) (n : ℕ) (order numbers : List ℕ) → n < length targets
+      → mark_at marks n ≡ Fresh → ((to : ℕ) → IsTarget targets n to ↔ Contains numbers to)
+      → Progress marks (rest ++ Enter n ∷ []) order
+      → Progress (set marks n Open) (rest ++ Leave n ∷ map Enter numbers) order
+  opened marks rest n order numbers within_n fresh same so_far =
+      let not_again : ¬ Contains rest (Leave n) = λ there.
+      fresh_isnt_open (sym fresh ∙ (so_far.open_ n within_n).0 (Contains-append_left rest (Enter n ∷ []) (Leave n) there)) in
+      let not_done : ¬ Contains order n = λ there. fresh_isnt_done (sym fresh ∙ (so_far.done n within_n).0 there) in
+      let added = Leave n ∷ map Enter numbers in
+      let here = Contains-append_right rest added (Leave n) (Contains-cons (Leave n) (map Enter numbers) (Leave n) (inl refl)) in
+      let Q : ℕ → Type 0 = Contains (map number_of (rest ++ added)) in
+      let P : ℕ → List ℕ → Type 0 = λ m list. Contains list m in
+      record {
+        len = length-set marks n Open ∙ so_far.len;
+        within = so_far.within;
+        done = mark_set (λ m mark. m < length targets → Contains order m ↔ (mark ≡ Done)) marks n Open
+            (omega (arith, within_n, so_far.len)) (λ within. (λ there. absurd (not_done there), λ is. absurd (open_isnt_done is)))
+            (λ m apart within. so_far.done m within);
+        open_ = mark_set (λ m mark. m < length targets → Contains (rest ++ added) (Leave m) ↔ (mark ≡ Open)) marks n Open
+            (omega (arith, within_n, so_far.len)) (λ within. (λ there. refl, λ is. here))
+            (λ m apart within. (
+              λ there. elim (Contains-append_cases rest added (Leave m) there) [ inl before ↦ (so_far.open_ m within).0 (Contains-append_left rest (Enter n ∷ []) (Leave m) before) | inr new ↦ elim (Contains-cons_cases (Leave n) (map Enter numbers) (Leave m) new) [ inl is ↦ absurd (apart (sym (ap number_of is))) | inr later ↦ absurd (enters_leave_none numbers m later) ] ],
+              λ is. elim (leave_cases rest (Enter n) m ((so_far.open_ m within).1 is)) [ inl before ↦ Contains-append_left rest added (Leave m) before | inr wrong ↦ absurd (enter_or_leave n m wrong) ],
+            ));
+        waits = λ m within. elim (so_far.waits m within) [
+          | inl there ↦ inl there
+          | inr waiting ↦ elim (number_cases rest (Enter n) m waiting) [
+            | inl before ↦ inr (subst (P m) (sym (map-append number_of rest added))
+                (Contains-append_left (map number_of rest) (map number_of added) m before))
+            | inr is ↦ inr (subst Q is (image number_of (rest ++ added) (Leave n) here))
+          ]
+        ];
+        are_steps = steps_opened targets (IsPast order) None rest n numbers within_n not_again
+            (λ to leads. (same to).0 leads) (λ to there. (same to).1 there) so_far.are_steps;
+        after = so_far.after;
+      }
+
+  -- where no step is left the order is whole
+  pub whole : (marks : List Mark) (order : List ℕ) → Progress marks [] order → IsLowestFirst targets order
+  whole marks order so_far = record {
+    each = λ n. (λ there. so_far.within n there, λ within. elim (so_far.waits n within) [ inl there ↦ there | inr none ↦ absurd (omega (arith, none.1)) ]);
+    after = so_far.after;
+  }
+
+-- what is still to be paid for a mark of a number that leads to so many: a fresh one will take a step for itself and one
+-- for each
+abbrev pub cost : Mark → ℕ → ℕ
+cost Fresh count = suc count
+cost _ count = 0
+
+module _ {Z : Type 0} where
+  -- what is still to be paid for the marks
+  abbrev pub fresh_cost : List Mark → List (Vec ℕ Z) → ℕ
+  fresh_cost [] targets = 0
+  fresh_cost (mark ∷ marks) [] = 0
+  fresh_cost (mark ∷ marks) (numbers ∷ targets) = cost mark (length numbers.items) + fresh_cost marks targets
+
+  -- to open a fresh number pays for it
+  pub opening_pays : (marks : List Mark) (targets : List (Vec ℕ Z)) (n : ℕ) → n < length marks → n < length targets
+      → mark_at marks n ≡ Fresh
+      → fresh_cost marks targets ≡ suc (length (items_at targets n)) + fresh_cost (set marks n Open) targets
+  unfolding items_at
+  opening_pays [] targets n within within' fresh = absurd (omega (arith, within))
+  opening_pays (mark ∷ marks) [] n within within' fresh = absurd (omega (arith, within'))
+  opening_pays (mark ∷ marks) (numbers ∷ targets) zero within within' fresh =
+      let is : mark ≡ Fresh = fresh in
+      let paid : cost mark (length numbers.items) ≡ suc (length numbers.items) = ap (λ each. cost each (length numbers.items)) is in
+      omega (arith, paid)
+  opening_pays (mark ∷ marks) (numbers ∷ targets) (suc n) within within' fresh =
+      omega (arith, opening_pays marks targets n (omega (arith, within)) (omega (arith, within')) fresh)
+
+  -- to leave a number costs nothing more
+  pub leaving_is_free : (marks : List Mark) (targets : List (Vec ℕ Z)) (n : ℕ) → fresh_cost (set marks n Done) targets ≤ fresh_cost marks targets
+  leaving_is_free [] targets n = omega arith
+  leaving_is_free (mark ∷ marks) [] zero = omega arith
+  leaving_is_free (mark ∷ marks) [] (suc n) = omega arith
+  leaving_is_free (mark ∷ marks) (numbers ∷ targets) zero = omega arith
+  leaving_is_free (mark ∷ marks) (numbers ∷ targets) (suc n) = omega (arith, leaving_is_free marks targets n)
+
+-- within the list, the items of what stands there
+pub items_at-read : {X Z : Type 0} (lists : List (Vec X Z)) (i : ℕ) (d : Vec X Z) → i < length lists
+    → items_at lists i ≡ (get_or lists i d).items
+unfolding items_at
+items_at-read [] i d within = absurd (omega (arith, within))
+items_at-read (v ∷ vs) zero d within = refl
+items_at-read (v ∷ vs) (suc i) d within = items_at-read vs i d (omega (arith, within))

@@ -1,0 +1,39 @@
+use Rattle.std.proofs.Common.{take, sym, ◌∙◌, inr, refl}
+use Rattle.std.proofs.lemmas.Bool.{false≢true}
+use Rattle.cedar_below.proofs.Names.{internal_name_ord-Equal}
+use Rattle.cedar_written_out.specs.Words.{RawName, Twice, indexed_names, item_names, name_of, raw_reference, written_common}
+use Rattle.cedar_below.specs.contracts.internal_name.InternalNameOrd.TheImpl as order
+use Rattle.cedar_written_out.proofs.Entries.{found_name}
+use Rattle.cedar_written_out.proofs.IndexLemmas.{NumberedSoFar-more, repeated_name, names_more, names_split}
+use Rattle.cedar_written_out.proofs.indices.name_indices.Goals as goal
+
+pub returns-then-contains_key-clause-fault : goal.returns-then-contains_key-clause-fault
+returns-then-contains_key-clause-fault c =
+    let N = RawName in
+    let refer = raw_reference in
+    let declared = c.args.types.now in
+    let item = c.index-types-item_index.result in
+    let name = name_of item.0 in
+    let twice : Twice (item_names (written_common N refer declared)) name =
+    rw (names_split N refer declared c.loop-item_index.item_index item c.loop-item_index-test.true c.index-types-item_index.is)
+    (repeated_name (item_names (written_common N refer (take c.loop-item_index.item_index declared))) _ name (indexed_names c.loop-item_index.indices)
+    c.loop-item_index.invariant
+    ((found_name ((order.ghosts).cmp) name_of internal_name_ord-Equal (λ item_index. item_index) c.loop-item_index.indices.entries item.0
+    _ c.contains_key.ensures).0 c.if-contains_key.true)) in
+    inr (name_of c.in_ok-clone.field-0, refl, rw c.in_ok-clone.ensures.name twice)
+
+pub loop-item_index-preserved : goal.loop-item_index-preserved
+loop-item_index-preserved c =
+    let N = RawName in
+    let refer = raw_reference in
+    let declared = c.args.types.now in
+    let item = c.index-types-item_index.result in
+    let names = item_names (written_common N refer (take c.loop-item_index.item_index declared)) in
+    rw ((names_more N refer declared c.loop-item_index.item_index item c.loop-item_index-test.true c.index-types-item_index.is).0, c.in_ok-put.ensures)
+    (NumberedSoFar-more names c.loop-item_index.indices.entries c.in_ok-clone-2.field-0 (name_of item.0) c.loop-item_index.item_index
+    c.in_ok-clone-2.ensures.name
+    (names_more N refer declared c.loop-item_index.item_index item c.loop-item_index-test.true c.index-types-item_index.is).1
+    (λ among. false≢true (sym c.if-contains_key.false
+    ∙ (found_name ((order.ghosts).cmp) name_of internal_name_ord-Equal (λ item_index. item_index) c.loop-item_index.indices.entries item.0
+    _ c.contains_key.ensures).1 among))
+    c.loop-item_index.invariant)
