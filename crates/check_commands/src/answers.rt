@@ -68,9 +68,10 @@ pub(crate) fn counts(alloc: Global, schema: &ValidatorSchema) -> M<Outcome> {
     Ok(Outcome::done(alloc, text.whole()?))
 }
 
-/// What is external, at the first place where something is declared so.
-fn lacking(alloc: Global, error: &IncompleteSchemaError) -> M<Option<Finding>> {
-    let message = shortened(format!(in alloc; "{error}")?)?;
+/// What is external, at the first place where something is declared so, behind what the message
+/// begins with.
+fn lacking(alloc: Global, beginning: &str, error: &IncompleteSchemaError) -> M<Option<Finding>> {
+    let message = shortened(format!(in alloc; "{beginning}{error}")?)?;
     Ok(Some(Finding {
         file: file_of(error.loc),
         loc: error.loc,
@@ -80,12 +81,16 @@ fn lacking(alloc: Global, error: &IncompleteSchemaError) -> M<Option<Finding>> {
     }))
 }
 
-/// What of a schema is external, if anything is.
-pub(crate) fn incomplete(alloc: Global, schema: &ValidatorSchema) -> M<Option<Finding>> {
+/// What of a schema is external, if anything is, with what the message is to begin with.
+pub(crate) fn incomplete(
+    alloc: Global,
+    beginning: &str,
+    schema: &ValidatorSchema,
+) -> M<Option<Finding>> {
     match schema.check_complete(alloc) {
         Ok(()) => Ok(None),
         Err(CompleteError::Memory(refused)) => Err(refused),
-        Err(CompleteError::Incomplete(error)) => lacking(alloc, &error),
+        Err(CompleteError::Incomplete(error)) => lacking(alloc, beginning, &error),
     }
 }
 

@@ -91,7 +91,7 @@ fn build(alloc: Global, manner: Manner, matches: &ArgMatches<'_>, it: &BuiltFile
     if !matches.get_flag("complete") {
         return counts(alloc, &it.schema);
     }
-    match incomplete(alloc, &it.schema) {
+    match incomplete(alloc, "", &it.schema) {
         Ok(Some(finding)) => refused(alloc, manner, &it.sources, finding),
         Ok(None) => counts(alloc, &it.schema),
         Err(Memory) => Err(Memory),

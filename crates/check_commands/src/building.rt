@@ -88,32 +88,47 @@ fn is_one_file<F: FileAccess>(files: &mut F, one: &str, other: &str) -> bool {
     one != "-" && other != "-" && files.is_same(one, other)
 }
 
-/// The numbers of two of the files that are one file, where the definitions that a refusal is of
-/// stand in these.
-fn given_twice<F: FileAccess>(
-    files: &mut F,
-    sources: &[Source],
-    error: &SchemaError,
-    places: TwoPlaces,
-) -> Option<(usize, usize)> {
-    let (one, other) = (file_of(places.second)?, file_of(places.first)?);
-    let (first, second) = (sources.get(one)?, sources.get(other)?);
-    let is_twice = one != other
-        && is_of_two_definitions(error)
-        && is_one_file(files, first.name.as_str(), second.name.as_str());
-    if is_twice { Some((one, other)) } else { None }
+/// A file that is given twice.
+#[derive(Clone, Copy, Drop)]
+struct Twice<'a> {
+    /// The name that it is given by in one place.
+    name: &'a str,
+    /// The name that it is given by in the other.
+    other_name: &'a str,
+    /// The number of that in the other place.
+    other: usize,
 }
 
-/// What is told of a file that is given a second time.
-fn twice_finding(alloc: Global, sources: &[Source], one: usize, other: usize) -> M<Finding> {
+/// The file that is given twice, where the two definitions that a refusal is of stand in one.
+fn given_twice<'a, F: FileAccess>(
+    files: &mut F,
+    sources: &'a [Source],
+    error: &SchemaError,
+    places: TwoPlaces,
+) -> Option<Twice<'a>> {
+    let (one, other) = (file_of(places.second)?, file_of(places.first)?);
+    let name = sources.get(one)?.name.as_str();
+    let other_name = sources.get(other)?.name.as_str();
+    if one != other && is_of_two_definitions(error) && is_one_file(files, name, other_name) {
+        Some(Twice {
+            name,
+            other_name,
+            other,
+        })
+    } else {
+        None
+    }
+}
+
+/// What is told of a file that is given twice.
+fn twice_finding(alloc: Global, twice: Twice<'_>) -> M<Finding> {
     let mut why = Text::new(alloc);
     why.push_str("the file is given twice");
-    if let (Some(first), Some(second)) = (sources.get(one), sources.get(other))
-        && first.name.as_str() != second.name.as_str()
-    {
-        write!(why, ", also as {}", Repeated(first.name.as_str()));
+    if twice.name != twice.other_name {
+        write!(why, ", also as {}", Repeated(twice.name));
     }
-    Ok(Finding::in_file(other, None, "GivenTwice", why.whole()?))
+    let why = why.whole()?;
+    Ok(Finding::in_file(twice.other, None, "GivenTwice", why))
 }
 
 /// What is told of declarations that no schema is built of.
@@ -146,7 +161,7 @@ fn not_built<F: FileAccess>(
     }
     let places = places_of_refusal(alloc, sources, error)?;
     let finding = match given_twice(files, sources, error, places) {
-        Some((one, other)) => twice_finding(alloc, sources, one, other)?,
+        Some(twice) => twice_finding(alloc, twice)?,
         None => schema_finding(alloc, sources, error, places)?,
     };
     refused(alloc, manner, sources, finding)

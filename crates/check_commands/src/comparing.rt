@@ -29,6 +29,12 @@ const CALLS: &[(&str, &str)] = &[
     ("duration", "1h"),
 ];
 
+/// What is said of an old version that leaves something external, before what that is.
+const OLD_INCOMPLETE: &str = "the old version isn't compared: ";
+
+/// The same of a new one.
+const NEW_INCOMPLETE: &str = "the new version isn't compared: ";
+
 /// The arguments of a function that is given a text.
 fn args_of(alloc: Global, text: &str) -> M<Vec<RestrictedExpr>> {
     let text = String::from_str(alloc, text)?;
@@ -172,37 +178,52 @@ fn with_new_faults<F: FileAccess>(
     }
 }
 
-/// What is told of a version that leaves something external, if it does.
+/// What is told of a version that leaves something external, if it does, with what the message is
+/// to begin with.
 fn told_external(
     alloc: Global,
     manner: Manner,
+    beginning: &str,
     it: &BuiltFiles,
-    version: &str,
 ) -> M<Option<Outcome>> {
-    match incomplete(alloc, &it.schema)? {
-        Some(finding) => {
-            let why = finding.message.as_str();
-            let message = format!(in alloc; "the {version} version isn't compared: {why}")?;
-            let finding = Finding { message, ..finding };
-            Ok(Some(refused(alloc, manner, &it.sources, finding)?))
-        }
+    match incomplete(alloc, beginning, &it.schema)? {
+        Some(finding) => Ok(Some(refused(alloc, manner, &it.sources, finding)?)),
         None => Ok(None),
     }
 }
 
+/// What is told where an old version leaves something external: that, and behind it what the new
+/// one does.
+fn with_new_external(alloc: Global, manner: Manner, told: Outcome, new: &BuiltFiles) -> M<Outcome> {
+    match told_external(alloc, manner, NEW_INCOMPLETE, new)? {
+        Some(other) => told.with(&other),
+        None => Ok(told),
+    }
+}
+
+/// Compares the schema of an old version, which leaves nothing external, with that of a new one.
+fn compare_with_new(
+    alloc: Global,
+    telling: Telling,
+    old: &ValidatorSchema,
+    new: &BuiltFiles,
+) -> M<Outcome> {
+    match told_external(alloc, telling.manner, NEW_INCOMPLETE, new)? {
+        Some(told) => Ok(told),
+        None => compare_schemas(alloc, telling, old, &new.schema),
+    }
+}
+
 /// Compares the schemas of two versions, unless one leaves something external.
-fn compare_complete(
+fn compare_versions(
     alloc: Global,
     telling: Telling,
     old: &BuiltFiles,
     new: &BuiltFiles,
 ) -> M<Outcome> {
-    let manner = telling.manner;
-    let of_old = told_external(alloc, manner, old, "old")?;
-    match (of_old, told_external(alloc, manner, new, "new")?) {
-        (Some(told), Some(other)) => told.with(&other),
-        (Some(told), None) | (None, Some(told)) => Ok(told),
-        (None, None) => compare_schemas(alloc, telling, &old.schema, &new.schema),
+    match told_external(alloc, telling.manner, OLD_INCOMPLETE, old)? {
+        Some(told) => with_new_external(alloc, telling.manner, told, new),
+        None => compare_with_new(alloc, telling, &old.schema, new),
     }
 }
 
@@ -215,7 +236,7 @@ fn compare_built<F: FileAccess>(
     telling: Telling,
 ) -> M<Outcome> {
     match built(alloc, files, new, telling.manner, Walk::WrittenOut) {
-        Ok(new) => compare_complete(alloc, telling, old, &new),
+        Ok(new) => compare_versions(alloc, telling, old, &new),
         Err(told) => told,
     }
 }

@@ -54,16 +54,28 @@ fn repeated_words(alloc: Global, words: &[String]) -> M<Vec<String>> {
 }
 
 /// What is said of words that give no command.
-fn error_text(alloc: Global, words: &[String], error: &Error) -> M<String> {
+fn error_text(alloc: Global, error: &Error) -> M<String> {
+    if error.kind() == ErrorKind::OutOfMemory {
+        return Err(Memory);
+    }
+    Ok(format!(in alloc; "{error}")?)
+}
+
+/// The same of words as messages repeat them, which give none either.
+fn repeated_error_text(alloc: Global, words: &[String]) -> M<String> {
+    match matches_of(alloc, words) {
+        Ok(_) => Ok(String::from_str(alloc, "error: the words give no command\n")?),
+        Err(error) => error_text(alloc, &error),
+    }
+}
+
+/// What is said of words that give no command, with each of them as messages repeat it.
+fn told_error(alloc: Global, words: &[String], error: &Error) -> M<String> {
     if words.iter().all(|word| is_repeated(word.as_str())) {
-        return Ok(format!(in alloc; "{error}")?);
+        return error_text(alloc, error);
     }
     let words = repeated_words(alloc, words)?;
-    match matches_of(alloc, &words) {
-        Err(error) if error.kind() != ErrorKind::OutOfMemory => Ok(format!(in alloc; "{error}")?),
-        Err(_) => Err(Memory),
-        Ok(_) => Ok(String::from_str(alloc, "error: the words give no command\n")?),
-    }
+    repeated_error_text(alloc, &words)
 }
 
 /// The outcome where the words give no command: help or the version, or why they give none.
@@ -71,10 +83,7 @@ fn no_command(alloc: Global, words: &[String], error: &Error) -> M<Outcome>
     ensures { IfOk result (λ outcome. (outcome.status ≡ Status.Usage)
         ⊎ (outcome.status ≡ Status.Done)) }
 {
-    if error.kind() == ErrorKind::OutOfMemory {
-        return Err(Memory);
-    }
-    let text = error_text(alloc, words, error)?;
+    let text = told_error(alloc, words, error)?;
     Ok(if error.use_stderr() {
         Outcome::noted(alloc, text, Status::Usage)
     } else {
