@@ -1,6 +1,9 @@
+mod CopiedFragments
+mod CountLaws
 mod CycleLemmas
 mod Entries
 mod FigureLemmas
+mod GatheredLemmas
 mod IndexLemmas
 mod ListedLemmas
 mod MeasureLemmas
@@ -8,3 +11,4 @@ mod OrderProgress
 mod OrderSteps
 mod RecordParts
 mod ReferringLemmas
+mod WholeLemmas
