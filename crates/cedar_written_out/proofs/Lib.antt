@@ -6,6 +6,7 @@ mod FigureLemmas
 mod GatheredLemmas
 mod IndexLemmas
 mod ListedLemmas
+mod ListedParts
 mod MeasureLemmas
 mod OrderProgress
 mod OrderSteps
