@@ -5,7 +5,7 @@ use Rattle.std.proofs.lemmas.List.{map-append, take-append-drop}
 use Rattle.cedar_below.specs.Words.{TypeNamesFit, extension_types}
 use Rattle.cedar_below.specs.declared.internal_name.InternalName.{InternalName}
 use Rattle.cedar_names.specs.declared.json_schema.type_of.Type.{«Type»}
-use Rattle.cedar_written_out.specs.Words.{AreFigures, AreIndices, Bag, Defined, DefinesJust, Expr, Extensions, Fault, HoldsJust, IsFault, IsKnown, KnowsAll, PlainName, RawName, Twice, Written, aliases, built_ins, declared_common, definitions, duplicate_common_type, held_names, indexed_names, item_names, out_of_memory, raw_reference, written_common}
+use Rattle.cedar_written_out.specs.Words.{AreFigures, AreIndices, Bag, Defined, DefinesJust, Expr, Extensions, Fault, HoldsJust, IsFault, IsKnown, KnowsAll, Names, PlainName, RawName, Twice, Written, aliases, built_ins, declared_common, defined_names, definitions, duplicate_common_type, held_names, indexed_names, item_names, out_of_memory, raw_reference, written_common}
 use Rattle.cedar_written_out.specs.declared.gathering.Known.{Known}
 use Rattle.cedar_written_out.specs.declared.measuring.FigureScope.{FigureScope}
 use Rattle.cedar_written_out.proofs.GatheredLemmas.{defined_twice}
@@ -37,7 +37,7 @@ module _ (bag : Bag) (extensions : Extensions) (known : Known) (types : Types) (
   knows_all scope once same indices figures =
       let Once : List (PlainName × Expr) → Type 0 = λ items. (name : PlainName) → ¬ Twice (item_names items) name in
       let Indexed : List (PlainName × Expr) → Type 0 = λ items. AreIndices (item_names items) (indexed_names scope.indices.now) in
-      let Held : _ → Type 0 = λ names. HoldsJust names _ in
+      let Held : Names → Type 0 = λ held. HoldsJust held (defined_names bag extensions) in
       record {
         defines = record {
           common = refl;
@@ -65,13 +65,10 @@ module _ (bag : Bag) (extensions : Extensions) (known : Known) (types : Types) (
 
   -- a name that stands twice among them is a fault of the bag
   pub fault_of_twice : TypeNamesFit (extension_types extensions) → (fault : Fault)
-      → (fault ≡ out_of_memory) ⊎ ((name : PlainName) × (fault ≡ duplicate_common_type name)
+      → ((name : PlainName) × (fault ≡ duplicate_common_type name)
       × Twice (item_names (written_common RawName raw_reference types)) name)
-      → (fault ≡ out_of_memory) ⊎ IsFault bag extensions fault
-  fault_of_twice fit fault at_fault = elim at_fault [
-    | inl memory ↦ inl memory
-    | inr twice ↦
-        let P : List (PlainName × Expr) → Type 0 = λ items. Twice (item_names items) twice.0 in
-        let F : Fault → Type 0 = IsFault bag extensions in
-        inr (subst F (sym twice.1) (defined_twice bag extensions fit twice.0 (subst P all_common twice.2)))
-  ]
+      → IsFault bag extensions fault
+  fault_of_twice fit fault twice =
+      let P : List (PlainName × Expr) → Type 0 = λ items. Twice (item_names items) twice.0 in
+      let F : Fault → Type 0 = IsFault bag extensions in
+      subst F (sym twice.1) (defined_twice bag extensions fit twice.0 (subst P all_common twice.2))
