@@ -1,16 +1,18 @@
 -- Figures of common types, found one after another.
-use Rattle.std.proofs.Common.{◌≡◌, ◌≢◌, ◌⊎◌, ◌↔◌, ◌<◌, ◌++◌, ℕ, zero, suc, List, [], ◌∷◌, Option, Vec, length, map, set, replicate, None, Some, ap, sym, subst, ◌∙◌, refl, inl, inr, Contains, arith}
+use Rattle.std.proofs.Common.{◌≡◌, ◌≢◌, ◌⊎◌, ◌↔◌, ◌<◌, ◌++◌, ℕ, zero, suc, List, [], ◌∷◌, Option, Vec, length, get_or, map, set, replicate, None, Some, ap, sym, subst, ◌∙◌, refl, inl, inr, Contains, arith}
 use Rattle.std.proofs.Math.ListN.{length-map}
-use Rattle.std.proofs.lemmas.List.Elements.{Contains-append_cases}
+use Rattle.std.proofs.lemmas.List.Elements.{Contains-append_cases, Contains-get_or}
 use Rattle.std.proofs.lemmas.Option.{slice_get-map, slice_get_within}
 use Rattle.std.specs.Option.{option_map}
 use Rattle.std.specs.Prelude.{slice_get}
 use Rattle.cedar_declarations.proofs.OccurrenceLemmas.{Contains-single}
+use Rattle.cedar_below.specs.declared.internal_name.InternalName.{InternalName}
+use Rattle.cedar_names.specs.declared.json_schema.type_of.Type.{«Type»}
 use Rattle.cedar_type_rules.specs.Ty.{Ty}
-use Rattle.cedar_written_out.specs.Words.{AreFigures, AreIndices, Chain, Defined, DefinesJust, Expr, HoldsJust, IsLowestFirst, IsMeasured, Knows, LeadsTo, MayNameCommon, Names, PlainName, Reference, Refers, ResolvesTo, figure_at, held_names, indexed_names, item_names, items_at, names_of}
+use Rattle.cedar_written_out.specs.Words.{AreFigures, AreIndices, Chain, Defined, DefinesJust, Expr, HoldsJust, IsLowestFirst, IsMeasured, Knows, LeadsTo, MayNameCommon, Names, PlainName, RawName, Reference, Refers, ResolvesTo, Written, figure_at, held_names, indexed_names, item_names, items_at, name_of, names_of, raw_reference, written_common, written_expr}
 use Rattle.cedar_written_out.specs.declared.figure.Figure.{Figure}
 use Rattle.cedar_written_out.specs.declared.measuring.FigureScope.{FigureScope}
-use Rattle.cedar_written_out.proofs.CycleLemmas.{AreTargets, as_many, no_type_on_cycle, targets_at}
+use Rattle.cedar_written_out.proofs.CycleLemmas.{AreTargets, as_many, no_type_on_cycle, same_length, targets_at}
 use Rattle.cedar_written_out.proofs.IndexLemmas.{Contains-at, index_once}
 use Rattle.cedar_written_out.proofs.MeasureLemmas.{resolves_alike}
 
@@ -172,3 +174,14 @@ module _ (defined : Defined) (items : List (PlainName × Expr)) where
         let IsWithin : ℕ → Type 0 = λ count. place < count in
         so_far.measured place ((lowest.each place).1 (subst IsWithin (as_many defined names items indices targets defines numbered turns)
         (slice_get_within items place item here))) item here
+
+-- the index that an order has at a place is one of a common type
+pub order_within : {Z : Type 0} (types : List (InternalName × Written («Type» RawName))) (names : Names) (indices : List (PlainName × ℕ))
+    (targets : List (Vec ℕ Z)) → AreTargets names indices (written_common RawName raw_reference types) targets → (order : List ℕ)
+    → IsLowestFirst targets order → (index : ℕ) → index < length order → get_or order index 0 < length types
+order_within types names indices targets turns order lowest index below =
+    let place = get_or order index 0 in
+    let IsWithin : ℕ → Type 0 = λ count. place < count in
+    subst IsWithin (sym (same_length _ (written_common RawName raw_reference types) targets turns)
+    ∙ length-map types (λ it. (name_of it.0, written_expr RawName raw_reference it.1)))
+    ((lowest.each place).0 (Contains-get_or order index 0 below))

@@ -1,21 +1,16 @@
--- Fragments that are taken over one after another, and what stands twice among what they define.
-use Rattle.std.proofs.Common.{◌≡◌, ◌⊎◌, not, Bool, true, false, List, [], ◌∷◌, ◌++◌, map, ap, sym, subst, ◌∙◌, inl, inr, refl, arith, Contains, cond}
-use Rattle.std.proofs.lemmas.List.{map-append}
-use Rattle.std.proofs.lemmas.List.Elements.{Contains-append_right}
-use Rattle.std.specs.List.{AllByRecursion, filter}
+-- Fragments that are taken over one after another from copies, and what stands twice among what they define.
+use Rattle.std.proofs.Common.{◌≡◌, ◌⊎◌, ◌+◌, ◌<◌, ℕ, length, get_or, take, not, Bool, true, false, List, [], ◌∷◌, ◌++◌, map, ap, sym, subst, ◌∙◌, inl, inr, refl, arith, Contains, cond}
+use Rattle.std.proofs.lemmas.List.{map-append, take_more}
+use Rattle.std.specs.List.{filter}
 use Rattle.cedar_below.proofs.Lists.{Contains-preimage}
 use Rattle.cedar_below.specs.Words.{PlainName, Text, Twice, TypeNamesFit, extension_types}
 use Rattle.cedar_declarations.specs.Words.{alias_name, aliases, built_in_types, built_ins, declared_common, definitions, is_declared_here}
 use Rattle.cedar_declarations.proofs.BuiltInLemmas.{alias_apart, built_in_once}
 use Rattle.cedar_declarations.proofs.OccurrenceLemmas.{Contains-filter, Contains-image, Twice-append}
-use Rattle.cedar_fragments.proofs.ListedSoFar.{ListedSoFar}
-use Rattle.cedar_fragments.specs.Words.{IsSound, written_fragment}
+use Rattle.cedar_fragments.proofs.FragmentLemmas.{flat_map-included, refusal_included}
+use Rattle.cedar_fragments.specs.Words.{IsDefinitionFault, written_fragment}
 use Rattle.cedar_fragments.specs.declared.namespace.fragment.ValidatorSchemaFragment.{ValidatorSchemaFragment}
-use Rattle.cedar_written_out.specs.Words.{Bag, Expr, Extensions, Fragment, RawName, raw_fragment, raw_reference}
-
--- some fragments have given others that declare the same, soundly, and more are left
-abbrev pub WrittenSoFar : List (Fragment RawName) → List (ValidatorSchemaFragment RawName RawName) → List (Fragment RawName) → Type 0
-WrittenSoFar all made left = ListedSoFar (AllByRecursion IsSound) raw_fragment (written_fragment RawName raw_reference) all made left
+use Rattle.cedar_written_out.specs.Words.{Bag, Expr, Extensions, Fault, Fragment, IsFault, RawName, out_of_memory, raw_bag, raw_fragment, raw_reference}
 
 -- a built-in type under its alias
 abbrev alias_item : Text × Expr → PlainName × Expr
@@ -64,4 +59,35 @@ defined_twice bag extensions fit name twice =
           let there = Contains-preimage key (aliases bag extensions) name both.1 in
           let IsInFront : PlainName → Type 0 = λ each. Contains front (each, here.0.1) in
           absurd (alias_apart bag extensions there.0.0 there.0.1 here.0.1 there.1 (subst IsInFront (here.2 ∙ sym there.2) here.1))
+    ]
+
+-- the fragments up to an index declare what those made of them do, and so do those up to the next
+pub maps_more : (made : List (ValidatorSchemaFragment RawName RawName)) (all : List (Fragment RawName)) (index : ℕ)
+    (one : ValidatorSchemaFragment RawName RawName) (fragment : Fragment RawName) → index < length all
+    → fragment ≡ get_or all index fragment
+    → map (written_fragment RawName raw_reference) made ≡ map raw_fragment (take index all)
+    → written_fragment RawName raw_reference one ≡ raw_fragment fragment
+    → map (written_fragment RawName raw_reference) (made ++ one ∷ []) ≡ map raw_fragment (take (index + 1) all)
+maps_more made all index one fragment within is same this =
+    map-append (written_fragment RawName raw_reference) made (one ∷ [])
+    ∙ ((λ i. same i ++ this i ∷ [])
+    ∙ (sym (map-append raw_fragment (take index all) (fragment ∷ []))
+    ∙ ap (map raw_fragment) (sym (take_more all index fragment within ∙ ap (λ it. take index all ++ it ∷ []) (sym is)))))
+
+-- the fragment at an index is among all
+pub among_all : (all : List (Fragment RawName)) (index : ℕ) (fragment : Fragment RawName) → index < length all
+    → fragment ≡ get_or all index fragment → Contains all fragment
+among_all all index fragment within is = (index, within, sym is)
+
+-- the refusal of a copy is one of all fragments
+pub fault_of_copy : (all : List (Fragment RawName)) (fragment copy : Fragment RawName) (fault : Fault) → Contains all fragment
+    → raw_fragment copy ≡ raw_fragment fragment
+    → (fault ≡ out_of_memory) ⊎ IsDefinitionFault (raw_fragment copy) fault
+    → (fault ≡ out_of_memory) ⊎ ((extensions : Extensions) → IsFault (raw_bag all) extensions fault)
+fault_of_copy all fragment copy fault among same at_fault =
+    let P : Bag → Type 0 = λ bag. (fault ≡ out_of_memory) ⊎ IsDefinitionFault bag fault in
+    elim (refusal_included (raw_fragment fragment) (raw_bag all) (flat_map-included raw_fragment all fragment among) fault
+    (subst P same at_fault)) [
+      | inl memory ↦ inl memory
+      | inr is ↦ inr (λ extensions. is.1 extensions)
     ]

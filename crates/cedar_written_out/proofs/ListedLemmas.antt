@@ -1,8 +1,17 @@
 -- Types that are listed one after another.
-use Rattle.std.proofs.Common.{◌≡◌, ◌<◌, ◌+◌, ◌++◌, ℕ, List, [], ◌∷◌, length, get_or, map, take, ap, sym, ◌∙◌, refl, append_assoc, arith}
+use Rattle.std.proofs.Common.{◌≡◌, Option, Some, subst, ◌<◌, ◌+◌, ◌++◌, ℕ, List, [], ◌∷◌, length, get_or, map, take, ap, sym, ◌∙◌, refl, append_assoc, arith}
 use Rattle.std.proofs.lemmas.List.{append-nil, map-append, take_more}
 use Rattle.std.specs.List.{flat_map}
-use Rattle.cedar_written_out.specs.Words.{AreListed, Defined, Expr, HoldsPairwise, IsListed, ListsAlso, Owner}
+use Rattle.std.specs.Prelude.{slice_get}
+use Rattle.cedar_below.specs.declared.internal_name.InternalName.{InternalName}
+use Rattle.cedar_names.specs.declared.json_schema.type_of.Type.{«Type»}
+use Rattle.cedar_written_out.specs.Listed.{common}
+use Rattle.cedar_written_out.specs.Words.{AreListed, Defined, Expr, HoldsPairwise, IsListed, IsMeasured, Knows, KnowsAll, ListsAlso, Owner, PlainName, RawName, Written, common_expr, figure_at, name_of, raw_reference, type_expr, written_common, written_expr}
+use Rattle.cedar_written_out.specs.declared.figure.Figure.{Figure}
+use Rattle.cedar_written_out.specs.declared.listing.DeclaredType.TheVariants as variant
+use Rattle.cedar_written_out.specs.declared.measuring.FigureScope.{FigureScope}
+use Rattle.cedar_written_out.proofs.IndexLemmas.{item_at_index, items_more, slice_get-front}
+use Rattle.cedar_written_out.proofs.MeasureLemmas.{Knows-each}
 use Rattle.cedar_written_out.specs.declared.listing.Measured.{Measured}
 
 -- what holds pairwise holds pairwise of one item more on each side
@@ -43,3 +52,44 @@ module _ (defined : Defined) where
   pub ListsAlso-as : (these others : List (Owner × Expr)) (before after : List Measured) → these ≡ others
       → ListsAlso defined others before after → ListsAlso defined these before after
   ListsAlso-as these others before after same lists = rw same lists
+
+-- common types as they are written
+abbrev Types : Type 0
+Types = List (InternalName × Written («Type» RawName))
+
+-- the common types up to an index are listed, and so is the one at it
+pub lists_common : (defined : Defined) (scope : FigureScope) (declared : Types) (others : List (PlainName × Expr)) (index : ℕ)
+    (item : InternalName × Written («Type» RawName)) (name : InternalName) (figure : Option Figure) (before middle after : List Measured)
+    → KnowsAll defined scope → defined.common ≡ written_common RawName raw_reference declared ++ others
+    → index < length declared → item ≡ get_or declared index item → name_of name ≡ name_of item.0
+    → figure ≡ figure_at scope.figures.now index
+    → after ≡ middle ++ record { declared = variant.CommonType name; figure = figure } ∷ []
+    → ListsAlso defined (map common_expr (written_common RawName raw_reference (take index declared))) before middle
+    → ListsAlso defined (map common_expr (written_common RawName raw_reference (take (index + 1) declared))) before after
+lists_common defined scope declared others index item name figure before middle after knows are within is same_name same_figure pushed lists =
+    let expr = written_expr RawName raw_reference item.1 in
+    let it : PlainName × Expr = (name_of item.0, expr) in
+    let more : map common_expr (written_common RawName raw_reference (take (index + 1) declared))
+    ≡ map common_expr (written_common RawName raw_reference (take index declared)) ++ common_expr it ∷ [] =
+    ap (map common_expr) (items_more RawName raw_reference declared index item within is)
+    ∙ map-append common_expr (written_common RawName raw_reference (take index declared)) (it ∷ []) in
+    let At : List (PlainName × Expr) → Type 0 = λ items. slice_get items index ≡ Some it in
+    let stands = subst At (sym are) (slice_get-front (written_common RawName raw_reference declared) others index it
+    (item_at_index RawName raw_reference declared index item within is)) in
+    let Found : Option Figure → Type 0 = IsMeasured defined expr in
+    ListsAlso-as defined _ _ before after more
+    (ListsAlso-both defined (map common_expr (written_common RawName raw_reference (take index declared))) (common_expr it ∷ []) before middle after lists
+    (ListsAlso-one defined (common_expr it) (record { declared = variant.CommonType name; figure = figure }) middle after pushed (record {
+      owner = ap common same_name;
+      figure = subst Found (sym same_figure) (knows.figures index it stands);
+    })))
+
+-- what an answer measures it measures wherever all is known
+pub measured_all : (defined : Defined) (scope : FigureScope) (namespace other : Option PlainName) (ty : «Type» RawName) (found : Option Figure)
+    → namespace ≡ other → KnowsAll defined scope
+    → ((each : Defined) → Knows each scope (type_expr RawName (raw_reference namespace) ty)
+    → IsMeasured each (type_expr RawName (raw_reference namespace) ty) found)
+    → IsMeasured defined (type_expr RawName (raw_reference other) ty) found
+measured_all defined scope namespace other ty found same knows measures =
+    let P : Option PlainName → Type 0 = λ it. IsMeasured defined (type_expr RawName (raw_reference it) ty) found in
+    subst P same (measures defined (Knows-each defined scope (type_expr RawName (raw_reference namespace) ty) knows))

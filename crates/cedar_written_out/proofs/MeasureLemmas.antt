@@ -1,5 +1,5 @@
 -- What is measured of types, by what is measured of the types that stand in them.
-use Rattle.std.proofs.Common.{◌≡◌, ◌⊎◌, ◌+◌, ◌≤◌, ℕ, zero, suc, List, [], ◌∷◌, ◌++◌, Option, None, Some, map, max, min, ap, sym, subst, ◌∙◌, refl, inl, inr, append_assoc, arith, Contains}
+use Rattle.std.proofs.Common.{◌≡◌, ◌⊎◌, ◌+◌, ◌≤◌, ℕ, zero, suc, List, [], ◌∷◌, ◌++◌, Option, None, Some, map, max, min, ap, sym, subst, ◌∙◌, refl, inl, inr, append_assoc, arith, Contains, Result, IfOk}
 use Rattle.std.proofs.lemmas.List.{append-nil}
 use Rattle.std.specs.Prelude.{slice_get}
 use Rattle.std.specs.declared.alloc.Global.{Global}
@@ -203,6 +203,21 @@ set_not_measured defined expr element same none ty elaborated =
   where
     no_type : (it : Ty) → ¬ ElaboratesTo defined (set_expr element) it
     no_type it (as_set {ty = part} written) = none part written
+
+-- what an answer measures of an expression it measures of the same one
+pub measured_as : {E : Type 0} (result : Result (Option Figure) E) (scope : FigureScope) (expr other : Expr) → expr ≡ other
+    → IfOk result (λ found. (defined : Defined) → Knows defined scope other → IsMeasured defined other found)
+    → IfOk result (λ found. (defined : Defined) → Knows defined scope expr → IsMeasured defined expr found)
+measured_as result scope expr other same measures =
+    let Measures : Expr → Type 0 = λ it. IfOk result (λ found. (defined : Defined) → Knows defined scope it → IsMeasured defined it found) in
+    subst Measures (sym same) measures
+
+-- what is known for a set is known for its elements
+pub Knows-element : (defined : Defined) (scope : FigureScope) (expr element : Expr) → expr ≡ set_expr element → Knows defined scope expr
+    → Knows defined scope element
+Knows-element defined scope expr element same knows =
+    Knows-part defined scope expr element (λ reference refers.
+    let Refer : Expr → Type 0 = λ it. Refers it reference in subst Refer (sym same) refers) knows
 
 -- attributes over names of some form, where it is given what a name refers to at a place of each kind
 module _ (N : Type 0) (refer : ReferenceType → N → Reference) where

@@ -1,6 +1,7 @@
 -- How deep types are and how many types stand in them, and what is found of that.
-use Rattle.std.specs.Prelude.{◌≡◌, ◌+◌, ◌-◌, ◌^◌, ℕ, List, Option, None, Some, max, min, slice_get}
+use Rattle.std.specs.Prelude.{◌≡◌, ◌+◌, ◌-◌, ◌^◌, ℕ, List, Option, None, Some, Contains, max, min, slice_get}
 use Rattle.std.specs.Option.{unwrap_or}
+use Rattle.cedar_below.specs.Words.{PlainName}
 use Rattle.cedar_declarations.specs.Words.{Defined, ElaboratesTo}
 use Rattle.cedar_names.specs.Words.{Expr}
 use Rattle.cedar_type_rules.specs.Ty.{Fields, Ty, end, field, record_of, set_of}
@@ -51,6 +52,11 @@ abbrev pub IsMeasured : Defined → Expr → Option Figure → Type 0
 IsMeasured defined expr None = (ty : Ty) → ¬ ElaboratesTo defined expr ty
 IsMeasured defined expr (Some figure) =
     (ty : Ty) × ElaboratesTo defined expr ty × IsFigure figure ty
+
+-- no name of a common type has two definitions
+abbrev pub HasOneDefinition : Defined → Type 0
+HasOneDefinition defined = (name : PlainName) (body other : Expr)
+    → Contains defined.common (name, body) → Contains defined.common (name, other) → body ≡ other
 
 -- the figure at a place, where there is one
 abbrev pub figure_at : List (Option Figure) → ℕ → Option Figure

@@ -1,6 +1,6 @@
 -- The words of clauses, from one place.
 pub use Rattle.cedar_below.specs.Chain.{Chain, more, one}
-pub use Rattle.cedar_below.specs.Words.{HoldsPairwise, PlainName, Text, Twice, name_of, type_name, uid_of}
+pub use Rattle.cedar_below.specs.Words.{HoldsPairwise, PlainName, Text, Twice, TypeNamesFit, extension_types, name_of, type_name, uid_of}
 pub use Rattle.cedar_below.specs.declared.extension.Extensions.{Extensions}
 pub use Rattle.cedar_below.specs.declared.internal_name.InternalName.{InternalName}
 pub use Rattle.cedar_names.specs.Words.{Expr, Members, Reference, extension_expr, flag_and_expr, member, members_from, named, namespace_name, no_member, raw_bag, raw_fragment, raw_reference, record_expr, record_type_expr, set_expr, type_expr, variant_expr}
@@ -16,7 +16,7 @@ pub use Rattle.cedar_fragments.specs.Words.{HoldsJust, held_names}
 pub use Rattle.cedar_fragments.specs.WrittenDeclarations.{written_actions, written_common, written_entities, written_expr, written_namespace, written_action_body, written_entity_body}
 pub use Rattle.cedar_fragments.specs.declared.namespace.written.Written.{Written}
 pub use Rattle.cedar_resolution.specs.Words.{AreGathered, Collects, DeclaresJust}
-pub use Rattle.cedar_written_out.specs.Figures.{IsFigure, IsFigureOf, IsMeasured, figure_at, fields_depth, fields_size, most, type_depth, type_size}
+pub use Rattle.cedar_written_out.specs.Figures.{HasOneDefinition, IsFigure, IsFigureOf, IsMeasured, figure_at, fields_depth, fields_size, most, type_depth, type_size}
 pub use Rattle.cedar_written_out.specs.Gathered.{IsGathered, IsKnown}
 pub use Rattle.cedar_written_out.specs.Indices.{AddsIndices, AreIndices, NamesIndex, indexed_names, item_names}
 pub use Rattle.cedar_written_out.specs.Known.{AreFigures, DefinesJust, Knows, KnowsAll}

@@ -81,10 +81,10 @@ fn measure_variant(
         TypeVariant::EntityOrCommon { type_name } => {
             measure_reference(type_name, ReferenceType::CommonOrEntity, namespace, scope)
         }
-        TypeVariant::String
-        | TypeVariant::Long
-        | TypeVariant::Boolean
-        | TypeVariant::Extension { .. } => Ok(Some(Figure::single())),
+        TypeVariant::String => Ok(Some(Figure::single())),
+        TypeVariant::Long => Ok(Some(Figure::single())),
+        TypeVariant::Boolean => Ok(Some(Figure::single())),
+        TypeVariant::Extension { .. } => Ok(Some(Figure::single())),
     }
 }
 

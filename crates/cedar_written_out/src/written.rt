@@ -1,7 +1,7 @@
 //! The types that fragments declare, with their figures.
 
 ghost use Rattle.std.specs.Prelude.{◌≡◌, ◌⊎◌, IfErr, IfOk};
-ghost use Rattle.cedar_written_out.specs.Words.{AreListed, IsFault, declared_exprs, definitions, fault_of, out_of_memory, raw_bag};
+ghost use Rattle.cedar_written_out.specs.Words.{AreListed, IsFault, TypeNamesFit, declared_exprs, definitions, extension_types, fault_of, out_of_memory, raw_bag};
 
 use crate::common::common_figures;
 use crate::gathering::{Known, what_is_known};
@@ -38,7 +38,8 @@ pub fn written_out(
         AreListed (definitions (raw_bag fragments.now) extensions.now)
         (declared_exprs (raw_bag fragments.now)) listed.items) }
     ensures fault { IfErr result (λ error. (fault_of error ≡ out_of_memory)
-        ⊎ IsFault (raw_bag fragments.now) extensions.now (fault_of error)) }
+        ⊎ (TypeNamesFit (extension_types extensions.now)
+        → IsFault (raw_bag fragments.now) extensions.now (fault_of error))) }
 {
     let Known {
         declarations,
