@@ -80,7 +80,9 @@ fn list_entity_type(
         listed.old.items listed.new.items) }
 {
     let EntityTypeFragment::Standard {
-        attributes, tags, ..
+        attributes,
+        tags,
+        ..
     } = &written.declared
     else {
         return Ok(());
