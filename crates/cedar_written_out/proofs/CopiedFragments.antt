@@ -1,10 +1,10 @@
 -- A fragment that is copied declares the same.
-use Rattle.std.proofs.Common.{◌≡◌, ◌∙◌, ◌++◌, Bool, false, true, List, [], ◌∷◌, Option, None, Some, Vec, map, ap, refl, sym, string_bytes}
+use Rattle.std.proofs.Common.{◌≡◌, ◌∙◌, ◌++◌, Bool, false, true, List, [], ◌∷◌, Option, None, Some, Vec, map, ap, refl, string_bytes}
 use Rattle.std.specs.List.{flat_map}
 use Rattle.std.specs.Option.{is_some, option_map}
 use Rattle.std.specs.declared.alloc.Global.{Global}
 use Rattle.std.specs.declared.string.String.{String}
-use Rattle.cedar_below.specs.Words.{HoldsOfBoth, HoldsPairwise, PlainName, eid_text, items_of, plain_name, unreserved_id_text}
+use Rattle.cedar_below.specs.Words.{HoldsOfBoth, HoldsPairwise, PlainName, plain_name, unreserved_id_text}
 use Rattle.cedar_below.specs.declared.name.Name.{Name}
 use Rattle.cedar_below.specs.declared.unreserved_id.UnreservedId.{UnreservedId}
 use Rattle.cedar_names.specs.CommonTypeId.{common_type_text}
@@ -13,7 +13,7 @@ use Rattle.cedar_names.specs.Declaration.{Declaration}
 use Rattle.cedar_names.specs.DeclarationCopies.{IsActionReferenceCopy, IsActionTypeCopy, IsApplySpecCopy, IsCommonIdCopy, IsCommonTypeCopy, IsDefinitionCopy, IsEntityTypeCopy, IsFragmentCopy, IsIdCopy, IsKindCopy, IsNamespaceCopy, IsTextCopy}
 use Rattle.cedar_names.specs.ActionBody.{action_body, applies_to, parent_action, parent_actions, parent_type, requests_by}
 use Rattle.cedar_names.specs.EntityBody.{entity_body, kind_body}
-use Rattle.cedar_names.specs.Words.{Expr, Reference, action, common_type, entity_type, enumerated, external, raw_declarations, raw_fragment, raw_reference, requests, standard, type_expr}
+use Rattle.cedar_names.specs.Words.{action, common_type, entity_type, enumerated, external, raw_declarations, raw_fragment, raw_reference, requests, standard, type_expr}
 use Rattle.cedar_names.specs.Reference.{reference_to}
 use Rattle.cedar_names.specs.declared.json_schema.action_type.ActionEntityUID.{ActionEntityUID}
 use Rattle.cedar_names.specs.declared.json_schema.action_type.ActionType.{ActionType}

@@ -1,5 +1,5 @@
 -- How deep and how large types are.
-use Rattle.std.proofs.Common.{◌≡◌, ◌≤◌, ap, sym, ◌∙◌, arith}
+use Rattle.std.proofs.Common.{◌≤◌, arith}
 use Rattle.cedar_type_rules.specs.Ty.{Fields, Ty, any_entity, any_set, end, extension_of, field, long, never, record_of, set_of, text, truth, union_of}
 use Rattle.cedar_written_out.specs.Words.{fields_depth, fields_size, type_depth, type_size}
 

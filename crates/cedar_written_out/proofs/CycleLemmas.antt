@@ -1,5 +1,5 @@
 -- Common types whose places lead back to themselves are elaborated as no type.
-use Rattle.std.proofs.Common.{◌≡◌, ◌⊎◌, ◌<◌, ◌++◌, ℕ, zero, suc, List, [], ◌∷◌, Vec, length, Some, ap, sym, subst, ◌∙◌, refl, inl, inr, Contains, arith}
+use Rattle.std.proofs.Common.{◌≡◌, ℕ, zero, suc, List, [], ◌∷◌, Vec, length, Some, ap, sym, subst, refl, inl, inr, Contains, arith}
 use Rattle.std.specs.Prelude.{slice_get}
 use Rattle.cedar_below.proofs.Chains.{joined}
 use Rattle.cedar_declarations.proofs.OccurrenceLemmas.{value_once}

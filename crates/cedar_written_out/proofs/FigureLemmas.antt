@@ -1,5 +1,5 @@
 -- Figures of common types, found one after another.
-use Rattle.std.proofs.Common.{◌≡◌, ◌≢◌, ◌⊎◌, ◌↔◌, ◌<◌, ◌++◌, ℕ, zero, suc, List, [], ◌∷◌, Option, Vec, length, get_or, map, set, replicate, None, Some, ap, sym, subst, ◌∙◌, refl, inl, inr, Contains, arith}
+use Rattle.std.proofs.Common.{◌≡◌, ◌≢◌, ◌⊎◌, ◌<◌, ◌++◌, ℕ, zero, suc, List, [], ◌∷◌, Option, Vec, length, get_or, set, replicate, None, Some, ap, sym, subst, ◌∙◌, refl, inl, inr, Contains, arith}
 use Rattle.std.proofs.Math.ListN.{length-map}
 use Rattle.std.proofs.lemmas.List.Elements.{Contains-append_cases, Contains-get_or}
 use Rattle.std.proofs.lemmas.Option.{slice_get-map, slice_get_within}
@@ -8,7 +8,6 @@ use Rattle.std.specs.Prelude.{slice_get}
 use Rattle.cedar_declarations.proofs.OccurrenceLemmas.{Contains-single}
 use Rattle.cedar_below.specs.declared.internal_name.InternalName.{InternalName}
 use Rattle.cedar_names.specs.declared.json_schema.type_of.Type.{«Type»}
-use Rattle.cedar_type_rules.specs.Ty.{Ty}
 use Rattle.cedar_written_out.specs.Words.{AreFigures, AreIndices, Chain, Defined, DefinesJust, Expr, HoldsJust, IsLowestFirst, IsMeasured, Knows, LeadsTo, MayNameCommon, Names, PlainName, RawName, Reference, Refers, ResolvesTo, Written, figure_at, held_names, indexed_names, item_names, items_at, name_of, names_of, raw_reference, written_common, written_expr}
 use Rattle.cedar_written_out.specs.declared.figure.Figure.{Figure}
 use Rattle.cedar_written_out.specs.declared.measuring.FigureScope.{FigureScope}

@@ -1,12 +1,12 @@
 -- Types that are listed one after another.
-use Rattle.std.proofs.Common.{◌≡◌, Option, Some, subst, ◌<◌, ◌+◌, ◌++◌, ℕ, List, [], ◌∷◌, length, get_or, map, take, ap, sym, ◌∙◌, refl, append_assoc, arith}
+use Rattle.std.proofs.Common.{◌≡◌, Option, Some, subst, ◌<◌, ◌+◌, ◌++◌, ℕ, List, [], ◌∷◌, length, get_or, map, take, ap, sym, ◌∙◌, append_assoc}
 use Rattle.std.proofs.lemmas.List.{append-nil, map-append, take_more}
 use Rattle.std.specs.List.{flat_map}
 use Rattle.std.specs.Prelude.{slice_get}
 use Rattle.cedar_below.specs.declared.internal_name.InternalName.{InternalName}
 use Rattle.cedar_names.specs.declared.json_schema.type_of.Type.{«Type»}
 use Rattle.cedar_written_out.specs.Listed.{common}
-use Rattle.cedar_written_out.specs.Words.{AreListed, Defined, Expr, HoldsPairwise, IsListed, IsMeasured, Knows, KnowsAll, ListsAlso, Owner, PlainName, RawName, Written, common_expr, figure_at, name_of, raw_reference, type_expr, written_common, written_expr}
+use Rattle.cedar_written_out.specs.Words.{Defined, Expr, HoldsPairwise, IsListed, IsMeasured, Knows, KnowsAll, ListsAlso, Owner, PlainName, RawName, Written, common_expr, figure_at, name_of, raw_reference, type_expr, written_common, written_expr}
 use Rattle.cedar_written_out.specs.declared.figure.Figure.{Figure}
 use Rattle.cedar_written_out.specs.declared.listing.DeclaredType.TheVariants as variant
 use Rattle.cedar_written_out.specs.declared.measuring.FigureScope.{FigureScope}

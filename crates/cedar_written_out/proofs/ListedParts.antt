@@ -1,5 +1,5 @@
 -- What is listed of one entity type and of one action.
-use Rattle.std.proofs.Common.{◌≡◌, ◌++◌, List, [], ◌∷◌, Option, None, Some, Vec, ap, ◌∙◌, refl}
+use Rattle.std.proofs.Common.{◌≡◌, ◌++◌, List, [], ◌∷◌, Option, None, Some, Vec, ap, ◌∙◌}
 use Rattle.std.specs.Option.{option_map}
 use Rattle.std.specs.declared.alloc.Global.{Global}
 use Rattle.cedar_below.specs.declared.entity_type.EntityType.{EntityType}
@@ -13,7 +13,7 @@ use Rattle.cedar_fragments.specs.declared.namespace.entity_types.EntityTypeFragm
 use Rattle.cedar_names.specs.declared.json_schema.entity_type.AttributesOrContext.{AttributesOrContext}
 use Rattle.cedar_names.specs.declared.json_schema.type_of.Type.{«Type»}
 use Rattle.cedar_written_out.specs.Listed.{context, shape, tags}
-use Rattle.cedar_written_out.specs.Words.{Defined, Expr, IsMeasured, ListsAlso, Owner, RawName, Written, context_exprs, entity_exprs, raw_reference, tags_exprs, type_expr, type_name, uid_of, written_action_body, written_entity_body, written_namespace}
+use Rattle.cedar_written_out.specs.Words.{Defined, Expr, IsMeasured, ListsAlso, RawName, Written, context_exprs, entity_exprs, raw_reference, tags_exprs, type_expr, type_name, uid_of, written_action_body, written_entity_body, written_namespace}
 use Rattle.cedar_written_out.specs.declared.figure.Figure.{Figure}
 use Rattle.cedar_written_out.specs.declared.listing.DeclaredType.TheVariants as variant
 use Rattle.cedar_written_out.specs.declared.listing.Measured.{Measured}

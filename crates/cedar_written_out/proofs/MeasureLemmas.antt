@@ -1,17 +1,16 @@
 -- What is measured of types, by what is measured of the types that stand in them.
-use Rattle.std.proofs.Common.{◌≡◌, ◌⊎◌, ◌+◌, ◌≤◌, ℕ, zero, suc, List, [], ◌∷◌, ◌++◌, Option, None, Some, map, max, min, ap, sym, subst, ◌∙◌, refl, inl, inr, append_assoc, arith, Contains, Result, IfOk}
+use Rattle.std.proofs.Common.{◌≡◌, ◌+◌, ◌≤◌, ℕ, zero, suc, List, [], ◌∷◌, ◌++◌, Option, None, Some, map, max, min, ap, sym, subst, ◌∙◌, refl, inl, inr, append_assoc, arith, Contains, Result, IfOk}
 use Rattle.std.proofs.lemmas.List.{append-nil}
 use Rattle.std.specs.Prelude.{slice_get}
 use Rattle.std.specs.declared.alloc.Global.{Global}
 use Rattle.std.specs.declared.string.String.{String}
 use Rattle.std.proofs.Common.{string_bytes}
-use Rattle.cedar_below.proofs.Lists.{Contains-preimage}
 use Rattle.cedar_type_rules.specs.Ty.{Fields, Ty, end, field, record_of, set_of, union_of}
 use Rattle.cedar_type_rules.specs.declared.open_tag.OpenTag.TheVariants.{ClosedAttributes}
 use Rattle.cedar_names.proofs.ExprLemmas.{record_type_expr-entries}
 use Rattle.cedar_declarations.proofs.OccurrenceLemmas.{Contains-image, value_once}
 use Rattle.cedar_declarations.proofs.ResolutionLemmas.{IsFirst-like, IsFirst-same, first_defined}
-use Rattle.cedar_written_out.specs.Words.{Defined, DefinesJust, ElaboratesTo, Expr, HoldsJust, IsCommon, IsDefined, IsEntity, IsFigure, IsFigureOf, IsMeasured, IsUnresolved, Knows, KnowsAll, MayNameCommon, Members, MembersElaborateTo, MembersRefer, Names, PlainName, RecordType, Reference, ReferenceType, Refers, ResolvesTo, TypeOfAttribute, Twice, as_common, as_entity, as_member, as_no_member, as_record, as_set, fields_depth, fields_size, figure_at, held_names, indexed_names, item_names, member, most, named, names_of, no_member, out-RecordType, out-TypeOfAttribute, record_expr, record_type_expr, set_expr, type_depth, type_size}
+use Rattle.cedar_written_out.specs.Words.{Defined, ElaboratesTo, Expr, HoldsJust, IsCommon, IsDefined, IsEntity, IsFigureOf, IsMeasured, IsUnresolved, Knows, KnowsAll, MayNameCommon, Members, MembersElaborateTo, Names, PlainName, RecordType, Reference, ReferenceType, Refers, ResolvesTo, TypeOfAttribute, as_common, as_entity, as_member, as_no_member, as_record, as_set, fields_depth, fields_size, figure_at, held_names, indexed_names, item_names, member, most, named, names_of, no_member, out-RecordType, out-TypeOfAttribute, record_expr, record_type_expr, set_expr, type_depth, type_size}
 use Rattle.cedar_written_out.specs.declared.figure.Figure.{Figure}
 use Rattle.cedar_written_out.specs.declared.measuring.FigureScope.{FigureScope}
 use Rattle.cedar_written_out.proofs.IndexLemmas.{Contains-at}

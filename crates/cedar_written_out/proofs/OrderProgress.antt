@@ -1,6 +1,6 @@
 -- How far numbers are ordered, and what each step makes of it.
-use Rattle.std.proofs.Common.{◌≡◌, ◌≢◌, ◌⊎◌, ◌↔◌, ◌<◌, ◌≤◌, ◌+◌, ℕ, zero, suc, List, [], ◌∷◌, ◌++◌, None, Vec, AllPairs, Contains, length, map, get_or, set, ap, sym, subst, ◌∙◌, refl, inl, inr, ⊎_elim, arith}
-use Rattle.std.proofs.lemmas.List.{append_assoc, map-append, get_or-set_same, get_or-set_other, length-set, length-append}
+use Rattle.std.proofs.Common.{◌≡◌, ◌≢◌, ◌⊎◌, ◌↔◌, ◌<◌, ◌≤◌, ◌+◌, ℕ, zero, suc, List, [], ◌∷◌, ◌++◌, None, Vec, Contains, length, map, get_or, set, ap, sym, subst, ◌∙◌, refl, inl, inr, ⊎_elim, arith}
+use Rattle.std.proofs.lemmas.List.{map-append, get_or-set_same, get_or-set_other, length-set}
 use Rattle.std.proofs.lemmas.List.Elements.{Contains-append_left, Contains-append_right, Contains-append_cases}
 use Rattle.cedar_below.proofs.Lists.{Contains-cons, Contains-cons_cases}
 use Rattle.cedar_below.specs.Chain.{Chain}
@@ -8,8 +8,6 @@ use Rattle.cedar_written_out.specs.Order.{IsLowestFirst, IsTarget, LeadsTo, item
 use Rattle.cedar_written_out.specs.declared.ordering.Step.{Step}
 use Rattle.cedar_written_out.specs.declared.ordering.Step.TheVariants.{Enter, Leave}
 use Rattle.cedar_written_out.specs.declared.ordering.Mark.{Mark}
-use Rattle.std.proofs.Math.ListN.{get_or-append}
-use Rattle.std.proofs.Math.Seq.{get_or-append_seam}
 use Rattle.cedar_written_out.proofs.OrderSteps.{number_of, single, image, enter_or_leave, enters_leave_none, AreSteps, steps_before, steps_opened, left_once, left_covered, left_within, leads_back}
 use Rattle.cedar_written_out.specs.declared.ordering.Mark.TheVariants.{Fresh, Open, Done}
 

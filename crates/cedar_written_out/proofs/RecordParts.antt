@@ -1,5 +1,5 @@
 -- The attributes of record types, in the order of their entries.
-use Rattle.std.proofs.Common.{◌≡◌, ◌⊎◌, ◌+◌, Bool, List, [], ◌∷◌, ◌++◌, map, max, ap, sym, ◌∙◌, refl, inl, inr, string_bytes, arith}
+use Rattle.std.proofs.Common.{◌≡◌, ◌⊎◌, ◌+◌, Bool, List, [], ◌∷◌, ◌++◌, map, max, ap, ◌∙◌, refl, inl, inr, string_bytes, arith}
 use Rattle.std.proofs.lemmas.List.{map-append}
 use Rattle.std.specs.declared.alloc.Global.{Global}
 use Rattle.std.specs.declared.string.String.{String}

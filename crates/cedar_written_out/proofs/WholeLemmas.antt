@@ -1,11 +1,11 @@
 -- What is known of all that a bag defines.
-use Rattle.std.proofs.Common.{◌≡◌, ◌⊎◌, ◌++◌, ℕ, List, [], ◌∷◌, map, take, drop, length, ap, sym, subst, ◌∙◌, refl, inl, inr, append_assoc}
+use Rattle.std.proofs.Common.{◌≡◌, ◌++◌, ℕ, List, take, drop, length, ap, sym, subst, ◌∙◌, refl, append_assoc}
 use Rattle.std.proofs.Math.Seq.{take-append_seam}
 use Rattle.std.proofs.lemmas.List.{map-append, take-append-drop}
 use Rattle.cedar_below.specs.Words.{TypeNamesFit, extension_types}
 use Rattle.cedar_below.specs.declared.internal_name.InternalName.{InternalName}
 use Rattle.cedar_names.specs.declared.json_schema.type_of.Type.{«Type»}
-use Rattle.cedar_written_out.specs.Words.{AreFigures, AreIndices, Bag, Defined, DefinesJust, Expr, Extensions, Fault, HoldsJust, IsFault, IsKnown, KnowsAll, Names, PlainName, RawName, Twice, Written, aliases, built_ins, declared_common, defined_names, definitions, duplicate_common_type, held_names, indexed_names, item_names, out_of_memory, raw_reference, written_common}
+use Rattle.cedar_written_out.specs.Words.{AreFigures, AreIndices, Bag, DefinesJust, Expr, Extensions, Fault, HoldsJust, IsFault, IsKnown, KnowsAll, Names, PlainName, RawName, Twice, Written, aliases, built_ins, declared_common, defined_names, definitions, duplicate_common_type, held_names, indexed_names, item_names, raw_reference, written_common}
 use Rattle.cedar_written_out.specs.declared.gathering.Known.{Known}
 use Rattle.cedar_written_out.specs.declared.measuring.FigureScope.{FigureScope}
 use Rattle.cedar_written_out.proofs.GatheredLemmas.{defined_twice}

@@ -1,7 +1,8 @@
 -- The types that are declared, in order, and what is listed of them.
 use Rattle.std.specs.Prelude.{◌≡◌, List, [], ◌∷◌, ◌++◌, map, Option, None, Some}
 use Rattle.std.specs.List.{flat_map}
-use Rattle.cedar_below.specs.Words.{HoldsPairwise, PlainName, PlainUid, name_of, type_name, uid_of}
+use Rattle.cedar_below.specs.Words.{HoldsPairwise, PlainName, PlainUid, name_loc, name_of, type_loc, type_name, uid_loc, uid_of}
+use Rattle.cedar_below.specs.declared.loc.Loc.{Loc}
 use Rattle.cedar_declarations.specs.Words.{Bag, Defined, declared_actions, declared_common, declared_entities}
 use Rattle.cedar_names.specs.Words.{ActionBody, EntityBody, Expr, Requests, elsewhere, enumerated, external, requests, standard}
 use Rattle.cedar_written_out.specs.Figures.{IsMeasured}
@@ -23,6 +24,13 @@ owner_of (variant.CommonType name) = common (name_of name)
 owner_of (variant.Shape ty) = shape (type_name ty)
 owner_of (variant.Tags ty) = tags (type_name ty)
 owner_of (variant.Context uid) = context (uid_of uid)
+
+-- where the declaration of what the type is of was written, if that is known
+abbrev pub declared_loc : DeclaredType → Option Loc
+declared_loc (variant.CommonType name) = name_loc name
+declared_loc (variant.Shape ty) = type_loc ty
+declared_loc (variant.Tags ty) = type_loc ty
+declared_loc (variant.Context uid) = uid_loc uid
 
 -- of a common type its definition
 abbrev pub common_expr : PlainName × Expr → Owner × Expr

@@ -20,6 +20,6 @@ pub use Rattle.cedar_written_out.specs.Figures.{HasOneDefinition, IsFigure, IsFi
 pub use Rattle.cedar_written_out.specs.Gathered.{IsGathered, IsKnown}
 pub use Rattle.cedar_written_out.specs.Indices.{AddsIndices, AreIndices, NamesIndex, indexed_names, item_names}
 pub use Rattle.cedar_written_out.specs.Known.{AreFigures, DefinesJust, Knows, KnowsAll}
-pub use Rattle.cedar_written_out.specs.Listed.{AreListed, IsListed, ListsAlso, Owner, common_expr, context_exprs, declared_exprs, entity_exprs, exprs_of_actions, exprs_of_entities, owner_of, tags_exprs}
+pub use Rattle.cedar_written_out.specs.Listed.{AreListed, IsListed, ListsAlso, Owner, common_expr, context_exprs, declared_exprs, declared_loc, entity_exprs, exprs_of_actions, exprs_of_entities, owner_of, tags_exprs}
 pub use Rattle.cedar_written_out.specs.Order.{IsLowestFirst, IsTarget, LeadsTo}
 unfoldable pub use Rattle.cedar_written_out.specs.Order.{items_at}

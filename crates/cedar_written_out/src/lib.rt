@@ -2,7 +2,8 @@
 //!
 //! [`written_out`] tells of each type that fragments declare ([`DeclaredType`]) how deep and how
 //! large it is once the common types that it refers to stand in their places ([`Figure`]). None is
-//! written out for that: each common type is measured once, after those that it refers to. [`theorems`] has laws of these numbers.
+//! written out for that: each common type is measured once, after those that it refers to.
+//! [`theorems`] has laws of these numbers.
 #![tactic(auto)]
 
 pub use figure::Figure;

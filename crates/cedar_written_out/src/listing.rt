@@ -1,7 +1,7 @@
 //! The types that are declared, listed with their figures.
 
 ghost use Rattle.std.specs.Prelude.{◌≡◌, ◌++◌, List, OnOk, map};
-ghost use Rattle.cedar_written_out.specs.Words.{Defined, Expr, KnowsAll, ListsAlso, PlainName, common_expr, context_exprs, entity_exprs, exprs_of_actions, exprs_of_entities, raw_reference, type_name, uid_of, written_action_body, written_actions, written_common, written_entities, written_entity_body};
+ghost use Rattle.cedar_written_out.specs.Words.{Defined, Expr, KnowsAll, ListsAlso, PlainName, common_expr, context_exprs, declared_loc, entity_exprs, exprs_of_actions, exprs_of_entities, raw_reference, type_name, uid_of, written_action_body, written_actions, written_common, written_entities, written_entity_body};
 ghost use Rattle.cedar_written_out.specs.Words.{RawName as Raw};
 
 use crate::figure::Figure;
@@ -27,7 +27,9 @@ pub enum DeclaredType {
 
 impl DeclaredType {
     /// Where the declaration was written, if that is known.
-    pub fn loc(&self) -> Option<Loc> {
+    pub fn loc(&self) -> Option<Loc>
+        ensures { result ≡ declared_loc self.now }
+    {
         match self {
             DeclaredType::CommonType(name) => name.loc(),
             DeclaredType::Shape(ty) | DeclaredType::Tags(ty) => ty.loc(),

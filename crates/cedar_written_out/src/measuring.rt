@@ -43,8 +43,10 @@ fn measure_reference(
     scope: &FigureScope,
 ) -> M<Option<Figure>>
     ensures { IfOk result (λ found. (defined : Defined)
-        → Knows defined scope.now (named (raw_reference (namespace_name namespace.entry) kind name.now))
-        → IsMeasured defined (named (raw_reference (namespace_name namespace.entry) kind name.now)) found) }
+        → Knows defined scope.now
+        (named (raw_reference (namespace_name namespace.entry) kind name.now))
+        → IsMeasured defined
+        (named (raw_reference (namespace_name namespace.entry) kind name.now)) found) }
 {
     let Some(full) = name.resolved_within(kind, namespace, scope.defs)? else {
         return Ok(None);

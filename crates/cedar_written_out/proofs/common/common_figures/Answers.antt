@@ -1,7 +1,6 @@
-use Rattle.std.proofs.Common.{◌≡◌, ◌<◌, ℕ, List, Option, length, take, get_or, sym, subst, ◌∙◌, ap, refl, rules, arith}
+use Rattle.std.proofs.Common.{◌<◌, ℕ, List, Option, length, take, get_or, sym, subst, ◌∙◌, refl, rules}
 use Rattle.std.proofs.lemmas.List.{get_or_default, length-set, take_all, take_more}
-use Rattle.cedar_below.specs.Words.{PlainName}
-use Rattle.cedar_written_out.specs.Words.{Defined, DefinesJust, IsLowestFirst, IsMeasured, Knows, RawName, held_names, indexed_names, name_of, raw_reference, type_expr, written_common, written_expr, written_namespace}
+use Rattle.cedar_written_out.specs.Words.{IsLowestFirst, RawName, held_names, indexed_names, name_of, raw_reference, written_common, written_expr}
 use Rattle.cedar_written_out.specs.declared.figure.Figure.{Figure}
 use Rattle.cedar_written_out.specs.declared.measuring.FigureScope.{FigureScope}
 use Rattle.cedar_written_out.proofs.FigureLemmas.{AreFigures-whole, FiguresSoFar, FiguresSoFar-more, FiguresSoFar-none, Knows-next, order_within}

@@ -1,12 +1,12 @@
-use Rattle.std.proofs.Common.{◌≡◌, [], ◌∷◌, ◌++◌, List, map, take, get_or, ap, arith, inl, inr, refl, subst, sym, ◌∙◌}
-use Rattle.std.proofs.lemmas.List.{map-append, take_all, take_more}
-use Rattle.cedar_fragments.proofs.FragmentLemmas.{exit_holds, flat_map-included, flat_map-same, refusal_included}
+use Rattle.std.proofs.Common.{◌≡◌, [], ◌∷◌, ◌++◌, map, ap, refl, subst, ◌∙◌}
+use Rattle.std.proofs.lemmas.List.{take_all}
+use Rattle.cedar_fragments.proofs.FragmentLemmas.{exit_holds, flat_map-same}
 use Rattle.cedar_fragments.proofs.DeclaredNames.{written_names_are_declared}
 use Rattle.cedar_fragments.specs.Words.{declared_names, listed_names, written_bag, written_fragment}
 use Rattle.cedar_resolution.proofs.NamesDefined.{just_declared}
 use Rattle.cedar_written_out.proofs.CopiedFragments.{copied_fragment}
 use Rattle.cedar_written_out.proofs.GatheredLemmas.{among_all, fault_of_copy, maps_more}
-use Rattle.cedar_written_out.specs.Words.{Bag, Fault, IsFault, IsGathered, RawName, fault_of, out_of_memory, raw_bag, raw_fragment, raw_reference}
+use Rattle.cedar_written_out.specs.Words.{Bag, IsGathered, RawName, raw_bag, raw_fragment, raw_reference}
 use Rattle.cedar_written_out.proofs.gathering.gathered.Goals as goal
 
 -- at first no fragment is taken over

@@ -1,6 +1,5 @@
 use Rattle.std.proofs.Common.{◌≡◌, sym, ◌∙◌, ap, min}
 use Rattle.cedar_declarations.proofs.ResolutionLemmas.{elaborated_once}
-use Rattle.cedar_type_rules.specs.Ty.{Ty}
 use Rattle.cedar_written_out.specs.Words.{most, type_depth, type_size}
 use Rattle.cedar_written_out.proofs.theorems.one_figure_is_found.Goals as goal
 
