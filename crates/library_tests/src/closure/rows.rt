@@ -94,7 +94,11 @@ fn linking(alloc: Global, edges: &[(u32, u32)], enforce_dag: bool) -> Result<Str
 const LINKED: &[(&[(u32, u32)], &str, &str)] = &[
     (&[], "1 edges", "1 edges"),
     (&[(0, 1), (1, 2)], "4 edges", "4 edges"),
-    (&[(0, 1), (0, 1), (1, 0)], "HasCycle(0)", "4 edges"),
+    (
+        &[(0, 1), (0, 1), (1, 0)],
+        "HasCycle(0) or else HasCycle(1)",
+        "4 edges",
+    ),
     (&[(0, 1), (1, 9)], "Lacks(9)", "Lacks(9)"),
     (&[(9, 0), (0, 0)], "Lacks(9)", "Lacks(9)"),
 ];
@@ -103,7 +107,7 @@ const LINKED: &[(&[(u32, u32)], &str, &str)] = &[
 fn tables_are_linked_or_refused(rt: HostRuntime) -> Result<(), Fail> {
     let alloc = rt.alloc();
     for &(edges, refusing, allowing) in LINKED {
-        same(refusing, linking(alloc, edges, true)?.as_str(), refusing)?;
+        one_of(refusing, linking(alloc, edges, true)?.as_str(), refusing)?;
         same(allowing, linking(alloc, edges, false)?.as_str(), allowing)?;
     }
     Ok(())
