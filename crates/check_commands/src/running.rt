@@ -31,7 +31,7 @@ fn asked<F: FileAccess>(alloc: Global, files: &mut F, matches: &ArgMatches<'_>) 
 
 /// Whether a message may repeat a word as it is.
 fn is_repeated(word: &str) -> bool {
-    Repeated(word).is_whole() && !word.chars().any(is_hidden)
+    Repeated(word).is_whole() && word.chars().all(|character| !is_hidden(character))
 }
 
 /// A word as messages repeat it.
