@@ -1,13 +1,12 @@
 //! Texts put in the place of files, whole or not at all.
 
 use std::alloc::AllocGlobal;
-use std::fs;
 use std::fs::{File, Metadata};
-use std::io;
 use std::io::Write;
 use std::os::unix::fs::{MetadataExt, OpenOptionsExt, chown};
 use std::path::{Path, PathBuf};
 use std::rt::Files;
+use std::{fs, io};
 
 /// How many names are tried beside a file, where others have them.
 const NAMES: u32 = 10_000;
@@ -37,7 +36,12 @@ fn make_beside<R: Files + AllocGlobal>(
     for number in 0..NAMES {
         let name = format!(in rt.alloc(); ".cedar_check-{number}")?;
         let path = place.with_file_name(rt.alloc(), name.as_str())?;
-        match File::options().write(true).create_new(true).mode(mode).open(rt, &path) {
+        match File::options()
+            .write(true)
+            .create_new(true)
+            .mode(mode)
+            .open(rt, &path)
+        {
             Ok(file) => return Ok(Beside { file, path }),
             Err(error) if error.kind() == io::ErrorKind::AlreadyExists => {}
             Err(error) => return Err(error),
