@@ -28,7 +28,9 @@ use std::alloc::Global;
 ///
 /// It is refused only where the builder of a schema refuses these fragments too, before it
 /// elaborates any type: where an action has attributes, a name is reserved, is that of actions'
-/// types or shadows another, or a common type is declared twice; or where memory runs out.
+/// types or shadows another, or a common type is declared twice; or where memory runs out. As for
+/// the builder, the names of extension types have to fit, as [`Extensions::type_names_fit`] tests:
+/// where they don't, it may be refused for a common type that stands twice among the built-in ones.
 pub fn written_out(
     alloc: Global,
     fragments: &[Fragment<RawName>],
