@@ -17,7 +17,7 @@ const TYPES: &str = r#"{"": {"commonTypes": {
     "C": {"type": "Set", "element": {"type": "decimal"}},
     "D": {"type": "E"}, "E": {"type": "Set", "element": {"type": "D"}},
     "F": {"type": "Gone"}, "G": {"type": "Set", "element": {"type": "F"}},
-    "H": {"type": "Record", "attributes": {}}, "I": {"type": "User"}},
+    "H": {"type": "Record", "attributes": {}}, "I": {"type": "EntityOrCommon", "name": "User"}},
   "entityTypes": {"Photo": {"tags": {"type": "A"}}, "User": {"shape": {"type": "Record",
     "attributes": {"a": {"type": "A"}, "b": {"type": "B"}, "c": {"type": "I"}}}}},
   "actions": {"none": {}, "view": {"appliesTo": {"principalTypes": ["User"],
@@ -68,11 +68,11 @@ fn answer(alloc: Global, fragments: &[Fragment<RawName>]) -> Result<String, Fail
     }
 }
 
-/// Fails unless measuring what a text declares gives an answer.
-fn measures(alloc: Global, text: &str, expected: &str) -> Result<(), Fail> {
+/// Fails, with the row, unless measuring what a text declares gives an answer.
+fn measures(alloc: Global, row: &str, text: &str, expected: &str) -> Result<(), Fail> {
     let mut fragments = Vec::new(alloc);
     fragments.push(fragment_from_json(alloc, text, 0)?)?;
-    same(text, answer(alloc, &fragments)?.as_str(), expected)
+    same(row, answer(alloc, &fragments)?.as_str(), expected)
 }
 
 #[test]
@@ -80,14 +80,11 @@ fn common_types_are_counted_where_they_are_used(rt: HostRuntime) -> Result<(), F
     let expected = "A 4 5; B 3 4; C 2 2; D none; E none; F none; G none; H 1 1; I 1 1; \
         shape Photo 1 1; tags Photo 4 5; shape User 5 11; context Action::\"none\" 1 1; \
         context Action::\"view\" 3 4; ";
-    measures(rt.alloc(), TYPES, expected)
+    measures(rt.alloc(), "types", TYPES, expected)
 }
 
 #[test]
 fn what_shadows_another_is_refused(rt: HostRuntime) -> Result<(), Fail> {
-    measures(
-        rt.alloc(),
-        SHADOWED,
-        "the type N::A would shadow the type A",
-    )
+    let expected = "the type N::A would shadow the type A";
+    measures(rt.alloc(), "shadowed", SHADOWED, expected)
 }
