@@ -7,7 +7,7 @@ use crate::outcome::{Manner, Outcome, refused};
 use crate::reading::{ReadFiles, source_number, well_formed};
 use crate::repeating::{Repeated, shortened};
 use crate::text::Text;
-use cedar_below::{Extensions, Loc, M, Memory};
+use cedar_below::{Loc, M, Memory};
 use cedar_json::{
     JsonSchemaFault, Places, cedar_extensions, fragment_from_json, place_of, second_place_of,
 };
@@ -178,43 +178,49 @@ fn refusal<F: FileAccess>(
     not_built(alloc, files, manner, sources, &error)
 }
 
+/// The schema that fragments declare, over the extensions of Cedar.
+fn schema_of(
+    alloc: Global,
+    fragments: Vec<Fragment<RawName>>,
+) -> Result<ValidatorSchema, SchemaError> {
+    let extensions = cedar_extensions(alloc)?;
+    ValidatorSchema::from_raw_fragments(alloc, fragments, &extensions)
+}
+
 /// That the types of files are within the limits of a command.
 fn check_limits(
     alloc: Global,
     manner: Manner,
     read: &ReadFiles,
-    extensions: &Extensions,
     walk: Walk,
 ) -> Result<(), M<Outcome>> {
-    match beyond_limits(alloc, &read.fragments, extensions, walk) {
+    match beyond_limits(alloc, &read.fragments, walk) {
         Ok(None) => Ok(()),
         Ok(Some(found)) => Err(refused(alloc, manner, &read.sources, found)),
         Err(refused) => Err(Err(refused)),
     }
 }
 
-/// The schema that files declare together over some extensions, with the files; where there is
-/// none, what is told.
-fn built_over<F: FileAccess>(
+/// The schema that files declare together, with the files; where there is none, what is told.
+fn built_of<F: FileAccess>(
     alloc: Global,
     files: &mut F,
     read: ReadFiles,
     manner: Manner,
-    extensions: &Extensions,
 ) -> Result<BuiltFiles, M<Outcome>> {
     let ReadFiles {
         sources,
         fragments,
         ..
     } = read;
-    match ValidatorSchema::from_raw_fragments(alloc, fragments, extensions) {
+    match schema_of(alloc, fragments) {
         Ok(schema) => Ok(BuiltFiles { sources, schema }),
         Err(error) => Err(refusal(alloc, files, manner, &sources, error)),
     }
 }
 
-/// The schema that files declare together over the extensions of Cedar, with the files; where there
-/// is none, or where its types are beyond the limits of a command, what is told.
+/// The schema that files declare together, with the files; where there is none, or where its types
+/// are beyond the limits of a command, what is told.
 pub(crate) fn built<F: FileAccess>(
     alloc: Global,
     files: &mut F,
@@ -223,10 +229,6 @@ pub(crate) fn built<F: FileAccess>(
     walk: Walk,
 ) -> Result<BuiltFiles, M<Outcome>> {
     let read = well_formed(alloc, files, names, manner)?;
-    let extensions = match cedar_extensions(alloc) {
-        Ok(extensions) => extensions,
-        Err(refused) => return Err(Err(refused)),
-    };
-    check_limits(alloc, manner, &read, &extensions, walk)?;
-    built_over(alloc, files, read, manner, &extensions)
+    check_limits(alloc, manner, &read, walk)?;
+    built_of(alloc, files, read, manner)
 }

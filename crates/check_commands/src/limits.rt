@@ -2,7 +2,8 @@
 
 use crate::finding::{Finding, file_of};
 use crate::repeating::shortened;
-use cedar_below::{Extensions, M, Memory};
+use cedar_below::{M, Memory};
+use cedar_json::cedar_extensions;
 use cedar_names::json_schema::{Fragment, RawName};
 use cedar_schema::SchemaError;
 use cedar_written_out::{DeclaredType, Measured, written_out};
@@ -87,15 +88,15 @@ fn too_large(alloc: Global, types: &[Measured]) -> M<Option<Finding>> {
     Ok(None)
 }
 
-/// What is told of types that are beyond a limit of a command, if there are some. Where what is
-/// declared is refused otherwise, nothing is.
+/// What is told of types that are beyond a limit of a command over the extensions of Cedar, if there
+/// are some. Where what is declared is refused otherwise, nothing is.
 pub(crate) fn beyond_limits(
     alloc: Global,
     fragments: &[Fragment<RawName>],
-    extensions: &Extensions,
     walk: Walk,
 ) -> M<Option<Finding>> {
-    let types = match written_out(alloc, fragments, extensions) {
+    let extensions = cedar_extensions(alloc)?;
+    let types = match written_out(alloc, fragments, &extensions) {
         Ok(types) => types,
         Err(SchemaError::Memory(refused)) => return Err(refused),
         Err(_) => return Ok(None),
