@@ -1,7 +1,7 @@
-use Rattle.std.specs.Prelude.{◌≡◌, ◌⊎◌, ℕ, List, [], ◌∷◌, codes, IsTrue}
 use Rattle.std.specs.Borrow.{Bor}
-use Rattle.cedar_below.specs.Text.{Text}
-pub use Rattle.cedar_json.specs.Words.{is_among}
+use Rattle.std.specs.Prelude.{◌≡◌, ◌⊎◌, ℕ, List, [], ◌∷◌, codes, IsTrue}
+use Rattle.cedar_ast.specs.Text.{Text}
+pub use Rattle.cedar_json.specs.Fields.{is_among}
 use Rattle.bench.specs.declared.piece.Piece.{Piece}
 
 -- the names of the pieces of work, in the order in which they are measured

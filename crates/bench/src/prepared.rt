@@ -1,6 +1,6 @@
 //! What pieces of work are done on, made ready before the clock runs.
 
-ghost use Rattle.cedar_below.specs.Words.{TypeNamesFit, extension_types};
+ghost use Rattle.cedar_ast.specs.Words.{TypeNamesFit, extension_types};
 
 use crate::by_hand::{actions, growing_types, standard_types, uid};
 use crate::declared::{Declared, FIRST, fragments_of, whole_fragment};

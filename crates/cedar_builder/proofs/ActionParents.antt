@@ -2,16 +2,16 @@
 use Rattle.std.proofs.Common.{◌≡◌, List, [], ◌∷◌, Option, map, ap, sym, subst, ◌∙◌, inl, inr, Contains}
 use Rattle.std.proofs.lemmas.Simd.{map-map}
 use Rattle.std.specs.Global.{Box}
-use Rattle.cedar_below.proofs.Lists.{Contains-preimage}
-use Rattle.cedar_below.proofs.TurnLemmas.{turn_weaker}
-use Rattle.cedar_below.proofs.Uids.{entity_uid_eq-same}
-use Rattle.cedar_below.specs.contracts.entity_uid.EntityUIDPartialEq.TheImpl as uid_eq
-use Rattle.cedar_builder.specs.Words.{ActionBody, ActionFragment, ActionReference, AreActionsOf, Bag, Chain, EntityType, EntityUID, Entries, Extensions, Fault, HasParentAction, HoldsPairwise, IsActionParent, IsDescendantAction, IsEdgeOf, IsFirst, IsParentActionFault, IsParentFault, Names, NamesAction, PlainName, PlainUid, Reference, ReferenceType, SameItems, Text, TypeScope, ValidatorEntityType, Written, action_uids, declared_actions, held_names, more, one, parents_in, requests_in, uid_of, written_action_body, written_actions}
-use Rattle.cedar_declarations.proofs.OccurrenceLemmas.{Contains-image}
-use Rattle.cedar_declarations.proofs.ResolutionLemmas.{IsFirst-like, IsFirst-same}
-use Rattle.cedar_declarations.proofs.TurnLemmas.{turn_back, turn_forth}
+use Rattle.cedar_ast.proofs.Lists.{Contains-preimage}
+use Rattle.cedar_ast.proofs.TurnLemmas.{turn_weaker}
+use Rattle.cedar_ast.proofs.Uids.{entity_uid_eq-same}
+use Rattle.cedar_ast.specs.contracts.entity_uid.EntityUIDPartialEq.TheImpl as uid_eq
 use Rattle.cedar_builder.proofs.NodeParents as any
 use Rattle.cedar_builder.specs.ActionNodes.{IsAbove}
+use Rattle.cedar_builder.specs.Words.{ActionBody, ActionFragment, ActionReference, AreActionsOf, Bag, Chain, EntityType, EntityUID, Entries, Extensions, Fault, HasParentAction, HoldsPairwise, IsActionParent, IsDescendantAction, IsEdgeOf, IsFirst, IsParentActionFault, IsParentFault, Names, NamesAction, PlainName, PlainUid, Reference, ReferenceType, SameItems, Text, TypeScope, ValidatorEntityType, Written, action_uids, declared_actions, held_names, more, one, parents_in, requests_in, uid_of, written_action_body, written_actions}
+use Rattle.cedar_schema_semantics.proofs.OccurrenceLemmas.{Contains-image}
+use Rattle.cedar_schema_semantics.proofs.ResolutionLemmas.{IsFirst-like, IsFirst-same}
+use Rattle.cedar_schema_semantics.proofs.TurnLemmas.{turn_back, turn_forth}
 
 -- the parents of what is declared
 abbrev pub parents_of : ActionBody → List ActionReference

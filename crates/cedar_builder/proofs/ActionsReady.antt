@@ -3,18 +3,9 @@ use Rattle.std.proofs.Common.{◌≡◌, ◌⊎◌, ◌↔◌, List, [], ◌∷�
 use Rattle.std.proofs.lemmas.List.Elements.{Contains-append_cases}
 use Rattle.std.proofs.lemmas.List.Folds.{flat_map-map}
 use Rattle.std.proofs.lemmas.Simd.{map-map}
-use Rattle.cedar_table.specs.Entries.{Entries as TableEntries}
 use Rattle.std.specs.List.{flat_map}
-use Rattle.cedar_schema_elements.proofs.SetLemmas.{list_any-uids}
-use Rattle.cedar_schema_elements.specs.ValidatorActionId.{parts_of}
-use Rattle.cedar_builder.specs.Words.{ActionBody, ActionKind, ActionReference, ActionSays, ActionsAreSound, AreActionsOf, AreNamed, AreReady, AreSoundRequests, Bag, CountsInRequests, Covers, Entity, EntityType, EntityUID, Expr, Extensions, Fault, IsActionParent, IsActionType, IsAtEntityTypePosition, IsCollected, IsCollectedAt, IsCollectingFault, IsCounted, IsDeclaredAction, IsDeclaredActionKind, IsDefined, IsDescendantAction, IsElaboratedAction, IsElaboratedKind, IsFault, IsNamedBy, IsParentActionFault, IsParentFault, IsPlaceFault, IsPrincipalOrResource, IsRequestsFault, Names, NamesNoAction, PlainName, PlainUid, Reference, Requests, ResolvesTo, SameAction, SaysTogether, Twice, TypeScope, ValidatorActionId, ValidatorEntityType, action_definition_in, action_not_defined, action_of, action_uids, context_not_record, declared_actions, declared_entities, defined_action, defined_actions, defined_in, defined_names, definition_in, definitions, duplicate_action, elsewhere, extensions_in_scope, external_action, held_names, is_action_definition, names_in, names_of, out_of_memory, parents_in, plain_action_entry, requests, requests_in, reserved_name, type_not_defined, uid_of}
-use Rattle.cedar_below.proofs.Lists.{Contains-cons, Contains-preimage}
-use Rattle.cedar_below.specs.contracts.entity_uid.EntityUIDPartialEq.TheImpl as uid_eq
-use Rattle.cedar_declarations.proofs.DeclarationLemmas.{action_declaration}
-use Rattle.cedar_declarations.proofs.Definitions.{declared_definition, said_definition}
-use Rattle.cedar_declarations.proofs.OccurrenceLemmas.{Contains-image, Contains-single}
-use Rattle.cedar_declarations.proofs.ResolutionLemmas.{IsFirst-same, elaborated_once, first_defined}
-use Rattle.cedar_elaboration.proofs.ScopeLemmas.{same_resolves}
+use Rattle.cedar_ast.proofs.Lists.{Contains-cons, Contains-preimage}
+use Rattle.cedar_ast.specs.contracts.entity_uid.EntityUIDPartialEq.TheImpl as uid_eq
 use Rattle.cedar_builder.proofs.ActionParents.{AreEdges, chain_descends, chain_to_same, descendant_declared, descends_by_chain, edge_declared, listed_parent, lower_declared, parent_named, parents_of}
 use Rattle.cedar_builder.proofs.ActionsTogether.{definitions_alike}
 use Rattle.cedar_builder.proofs.NodeParents.{with_parents}
@@ -23,6 +14,15 @@ use Rattle.cedar_builder.proofs.NodesLinked.{alike_after, alike_before, collecte
 use Rattle.cedar_builder.proofs.ReadyLemmas.{action_type, expr_fault, type_fault}
 use Rattle.cedar_builder.specs.ActionNodes.{AreLinked, IsLinkingFault, has_descendant, node_at}
 use Rattle.cedar_builder.specs.ActionSteps.{HasNoRecord}
+use Rattle.cedar_builder.specs.Words.{ActionBody, ActionKind, ActionReference, ActionSays, ActionsAreSound, AreActionsOf, AreNamed, AreReady, AreSoundRequests, Bag, CountsInRequests, Covers, Entity, EntityType, EntityUID, Expr, Extensions, Fault, IsActionParent, IsActionType, IsAtEntityTypePosition, IsCollected, IsCollectedAt, IsCollectingFault, IsCounted, IsDeclaredAction, IsDeclaredActionKind, IsDefined, IsDescendantAction, IsElaboratedAction, IsElaboratedKind, IsFault, IsNamedBy, IsParentActionFault, IsParentFault, IsPlaceFault, IsPrincipalOrResource, IsRequestsFault, Names, NamesNoAction, PlainName, PlainUid, Reference, Requests, ResolvesTo, SameAction, SaysTogether, Twice, TypeScope, ValidatorActionId, ValidatorEntityType, action_definition_in, action_not_defined, action_of, action_uids, context_not_record, declared_actions, declared_entities, defined_action, defined_actions, defined_in, defined_names, definition_in, definitions, duplicate_action, elsewhere, extensions_in_scope, external_action, held_names, is_action_definition, names_in, names_of, out_of_memory, parents_in, plain_action_entry, requests, requests_in, reserved_name, type_not_defined, uid_of}
+use Rattle.cedar_elaboration.proofs.ScopeLemmas.{same_resolves}
+use Rattle.cedar_schema_elements.proofs.SetLemmas.{list_any-uids}
+use Rattle.cedar_schema_elements.specs.ValidatorActionId.{parts_of}
+use Rattle.cedar_schema_semantics.proofs.DeclarationLemmas.{action_declaration}
+use Rattle.cedar_schema_semantics.proofs.Definitions.{declared_definition, said_definition}
+use Rattle.cedar_schema_semantics.proofs.OccurrenceLemmas.{Contains-image, Contains-single}
+use Rattle.cedar_schema_semantics.proofs.ResolutionLemmas.{IsFirst-same, elaborated_once, first_defined}
+use Rattle.cedar_table.specs.Entries.{Entries as TableEntries}
 
 abbrev Entry : Type 0
 Entry = PlainUid × Requests
@@ -283,7 +283,7 @@ module _ (bag : Bag) (extensions : Extensions) (declared : List (PlainUid × Act
     ready_to_link = record {
       apart = collected_apart (uid_eq.ghosts).eq uid_of has_descendant (λ it. (parts_of it).descendants.keys) (λ it key. list_any-uids key (parts_of it).descendants.keys)
           is_action_definition IsExternal uid_in (GivesAction scope) (λ body it given. given.no_descendants) Entries before collected;
-      uppers = λ upper lower above.
+      ancestors = λ upper lower above.
           stands upper (edge_declared bag extensions declared types scope ready edges are upper lower above);
       lowers = λ upper lower above.
           stands lower (lower_declared bag extensions declared types scope ready edges are upper lower above);

@@ -2,17 +2,17 @@
 use Rattle.std.proofs.Common.{◌≡◌, IsTrue, List, [], ◌∷◌, ◌++◌, Option, None, Some, is_some, false, refl, map, sym, Contains, inl, inr}
 use Rattle.std.proofs.lemmas.Bool.{true≢false}
 use Rattle.std.proofs.lemmas.List.{map-append}
+use Rattle.std.proofs.lemmas.List.Elements.{Contains-append_cases}
 use Rattle.std.specs.BTreeMap.{is_at}
 use Rattle.std.specs.Map.{lookup}
-use Rattle.std.proofs.lemmas.List.Elements.{Contains-append_cases}
-use Rattle.cedar_below.proofs.Names.{entity_type_eq-same}
-use Rattle.cedar_builder.specs.Words.{EntityType, IsDistinct, IsEnumerated, IsEnumeratedAt, IsExternalAt, LeadsTo, ValidatorEntityType, entity_type_of, has_descendant, keys_of, node_at, type_name}
-use Rattle.cedar_below.specs.contracts.entity_type.EntityTypeEq.TheImpl as entity_type_equal
-use Rattle.cedar_below.specs.contracts.entity_type.EntityTypeOrd.TheImpl as entity_type_ord
-use Rattle.cedar_below.specs.contracts.entity_type.EntityTypePartialEq.TheImpl as entity_type_eq
-use Rattle.cedar_graph.proofs.KeyedEdges.{some_with}
+use Rattle.cedar_ast.proofs.Names.{entity_type_eq-same}
+use Rattle.cedar_ast.specs.contracts.entity_type.EntityTypeEq.TheImpl as entity_type_equal
+use Rattle.cedar_ast.specs.contracts.entity_type.EntityTypeOrd.TheImpl as entity_type_ord
+use Rattle.cedar_ast.specs.contracts.entity_type.EntityTypePartialEq.TheImpl as entity_type_eq
 use Rattle.cedar_builder.proofs.AtKeys.{at_equal_keys, entry_at_key, entry_standing, found_at_key}
-use Rattle.cedar_declarations.proofs.OccurrenceLemmas.{Contains-image, Contains-single}
+use Rattle.cedar_builder.specs.Words.{EntityType, IsDistinct, IsEnumerated, IsEnumeratedAt, IsExternalAt, LeadsTo, ValidatorEntityType, entity_type_of, has_descendant, keys_of, node_at, type_name}
+use Rattle.cedar_graph.proofs.KeyedEdges.{some_with}
+use Rattle.cedar_schema_semantics.proofs.OccurrenceLemmas.{Contains-image, Contains-single}
 use Rattle.cedar_types.proofs.MemberLemmas.{Contains-named, list_any-names}
 
 -- what holds of each that was shown, and of one more

@@ -1,8 +1,8 @@
 -- Entity types that are linked, and what is checked of the links.
 use Rattle.std.proofs.Common.{◌≡◌, ◌↔◌, List, Option, None, Some, IsSome, sym, subst, inr, Contains}
-use Rattle.cedar_builder.specs.Words.{AreLinked, AreTheSame, Chain, EntityType, Fault, IsAbove, IsEdgeSound, IsEnumerated, IsEnumeratedAt, IsExternalAt, IsLinkFault, IsLinkingFault, LeadsTo, PlainEntityType, ValidatorEntityType, external_kind, node_at}
-use Rattle.cedar_below.specs.contracts.entity_type.EntityTypeEq.TheImpl as entity_type_equal
+use Rattle.cedar_ast.specs.contracts.entity_type.EntityTypeEq.TheImpl as entity_type_equal
 use Rattle.cedar_builder.proofs.AtKeys.{at_equal_keys}
+use Rattle.cedar_builder.specs.Words.{AreLinked, AreTheSame, Chain, EntityType, Fault, IsAbove, IsEdgeSound, IsEnumerated, IsEnumeratedAt, IsExternalAt, IsLinkFault, IsLinkingFault, LeadsTo, PlainEntityType, ValidatorEntityType, external_kind, node_at}
 
 -- an enumerated entity type stands at a key before and after
 enumerated_same : (o p : Option ValidatorEntityType) → AreTheSame o p → IsEnumeratedAt o ↔ IsEnumeratedAt p
@@ -45,7 +45,7 @@ module _ (edges : List (EntityType × EntityType)) (before : List (EntityType ×
     are_linked checked = record {
       same = same;
       linked = leads;
-      uppers = upper_stands;
+      ancestors = upper_stands;
       lowers = λ upper lower above. (above_sound upper lower above).1;
       external_above = λ upper lower chain is_enumerated is_external.
           checked upper lower ((leads upper lower).1 chain)

@@ -2,16 +2,16 @@
 use Rattle.std.proofs.Common.{◌≡◌, ◌∙◌, List, Option, ap, map, subst, sym, Contains}
 use Rattle.std.proofs.lemmas.Simd.{map-map}
 use Rattle.std.specs.Global.{Box}
-use Rattle.cedar_below.proofs.Lists.{Contains-preimage}
-use Rattle.cedar_below.proofs.Names.{entity_type_eq-same}
-use Rattle.cedar_builder.specs.Words.{Bag, Chain, EntityBody, EntityType, EntityTypeFragment, Extensions, Fault, HasParent, HoldsPairwise, IsAbove, IsAtEntityTypePosition, IsDefined, IsDescendant, IsEdgeOf, IsParent, IsParentFault, IsReady, IsTypeFault, Names, NamesType, PlainName, Reference, ReferenceType, ResolvesTo, TypeScope, Written, declared_entities, defined_names, entity_parents, held_names, parents_in, type_name, written_entities, written_entity_body}
-use Rattle.cedar_below.specs.contracts.entity_type.EntityTypePartialEq.TheImpl as entity_type_eq
-use Rattle.cedar_below.proofs.TurnLemmas.{turn_weaker}
-use Rattle.cedar_declarations.proofs.DeclarationLemmas.{entity_declaration}
-use Rattle.cedar_declarations.proofs.ResolutionLemmas.{IsFirst-same}
-use Rattle.cedar_declarations.proofs.TurnLemmas.{turn_back, turn_forth}
-use Rattle.cedar_elaboration.proofs.ScopeLemmas.{same_resolves}
+use Rattle.cedar_ast.proofs.Lists.{Contains-preimage}
+use Rattle.cedar_ast.proofs.Names.{entity_type_eq-same}
+use Rattle.cedar_ast.proofs.TurnLemmas.{turn_weaker}
+use Rattle.cedar_ast.specs.contracts.entity_type.EntityTypePartialEq.TheImpl as entity_type_eq
 use Rattle.cedar_builder.proofs.NodeParents as any
+use Rattle.cedar_builder.specs.Words.{Bag, Chain, EntityBody, EntityType, EntityTypeFragment, Extensions, Fault, HasParent, HoldsPairwise, IsAbove, IsAtEntityTypePosition, IsDefined, IsDescendant, IsEdgeOf, IsParent, IsParentFault, IsReady, IsTypeFault, Names, NamesType, PlainName, Reference, ReferenceType, ResolvesTo, TypeScope, Written, declared_entities, defined_names, entity_parents, held_names, parents_in, type_name, written_entities, written_entity_body}
+use Rattle.cedar_elaboration.proofs.ScopeLemmas.{same_resolves}
+use Rattle.cedar_schema_semantics.proofs.DeclarationLemmas.{entity_declaration}
+use Rattle.cedar_schema_semantics.proofs.ResolutionLemmas.{IsFirst-same}
+use Rattle.cedar_schema_semantics.proofs.TurnLemmas.{turn_back, turn_forth}
 
 -- the edges are those to what is declared from what its parents resolve to, over some names
 abbrev pub AreEdges : Names → List (PlainName × EntityBody) → List (EntityType × EntityType) → Type 0

@@ -1,4 +1,5 @@
--- Records that are elaborated are closed, and entity types as they are elaborated have no descendants.
+-- Records that are elaborated are closed, and entity types as they are elaborated have no
+-- descendants.
 use Rattle.std.proofs.Common.{◌≡◌, List, [], ◌∷◌, refl, arith}
 use Rattle.cedar_builder.specs.Words.{ClosedAttributes, Defined, ElaboratesTo, Expr, Fields, OpenTag, PlainName, SameItems, as_common, as_record, record_of}
 

@@ -1,22 +1,22 @@
 -- What the steps promise, read of a bag for which they are ready.
 use Rattle.std.proofs.Common.{◌≡◌, ◌⊎◌, true, is_some, List, [], ◌∷◌, Option, None, Some, IsSome, map, ap, sym, ◌∙◌, refl, inl, inr, arith, Contains}
 use Rattle.std.proofs.lemmas.Bool.{false≢true}
-use Rattle.std.specs.List.{flat_map}
 use Rattle.std.proofs.lemmas.List.Elements.{Contains-append_cases}
-use Rattle.cedar_builder.specs.Words.{AreDeclaredTags, AreElaboratedTags, AreLinked, AreUnlinked, Bag, CountsInEntity, Covers, Defined, Entity, EntityBody, EntitySays, EntityType, EntityTypeKind, EntityTypesAreSound, Expr, Extensions, Fault, HasNoRecord, HasParent, IsAbove, IsActionType, IsBodyFault, IsCollected, IsCollectedAt, IsCollectingFault, IsCounted, IsDeclaredEntityType, IsDeclaredKind, IsDefined, IsDescendant, IsElaboratedEntity, IsEnumerated, IsEnumeratedAt, IsExternalAt, IsExternalType, IsFault, IsLinkingFault, IsNoRecord, IsParent, IsParentFault, IsReady, IsSoundBody, IsTypeFault, LeadsTo, NamesType, PlainEntityType, PlainName, Reference, ResolvesTo, SameType, SaysTogether, Text, Twice, Ty, TypeScope, ValidatorEntityType, action_uids, declared_entities, defined_entities, defined_in, defined_names, definition_in, definitions, duplicate_entity_type, entity_definition_in, entity_definitions, entity_parents, entity_type_of, entry_names, enumerated, enumerated_below, enumerated_kind, extensions_in_scope, external, external_kind, has_descendant, held_names, is_entity_definition, node_at, out_of_memory, parents_in, plain_entry, shape_not_record, standard, standard_kind, type_name, undeclared_entity_types}
-use Rattle.cedar_below.specs.contracts.entity_type.EntityTypePartialEq.TheImpl as entity_type_eq
-use Rattle.cedar_declarations.proofs.DeclarationLemmas.{entity_declaration}
-use Rattle.cedar_declarations.proofs.Definitions.{declared_definition, key_defined, said_declared, said_definition}
-use Rattle.cedar_declarations.proofs.OccurrenceLemmas.{Contains-image, Contains-single, value_once}
-use Rattle.cedar_declarations.proofs.ResolutionLemmas.{elaborated_once, first_defined}
-use Rattle.cedar_declarations.proofs.TogetherLemmas.{IsDefinition, entity_counted}
-use Rattle.cedar_types.proofs.MemberLemmas.{list_any-names}
+use Rattle.std.specs.List.{flat_map}
+use Rattle.cedar_ast.specs.contracts.entity_type.EntityTypePartialEq.TheImpl as entity_type_eq
 use Rattle.cedar_builder.proofs.EntityTypeParents.{AreEdges, an_edge, chain_descends, descends_by_chain, edge_has_parent, edge_names, listed_parent, parent_edge, parent_placed, parent_resolves}
 use Rattle.cedar_builder.proofs.NodeParents.{with_parents}
 use Rattle.cedar_builder.proofs.NodesCollected.{by_test}
 use Rattle.cedar_builder.proofs.NodesLinked.{alike_after, alike_before, collected_apart, descendants}
 use Rattle.cedar_builder.proofs.ReadyLemmas.{action_type, expr_fault, type_fault}
 use Rattle.cedar_builder.specs.EntityTypeSteps.{IsElaboratedKind}
+use Rattle.cedar_builder.specs.Words.{AreDeclaredTags, AreElaboratedTags, AreLinked, AreUnlinked, Bag, CountsInEntity, Covers, Defined, Entity, EntityBody, EntitySays, EntityType, EntityTypeKind, EntityTypesAreSound, Expr, Extensions, Fault, HasNoRecord, HasParent, IsAbove, IsActionType, IsBodyFault, IsCollected, IsCollectedAt, IsCollectingFault, IsCounted, IsDeclaredEntityType, IsDeclaredKind, IsDefined, IsDescendant, IsElaboratedEntity, IsEnumerated, IsEnumeratedAt, IsExternalAt, IsExternalType, IsFault, IsLinkingFault, IsNoRecord, IsParent, IsParentFault, IsReady, IsSoundBody, IsTypeFault, LeadsTo, NamesType, PlainEntityType, PlainName, Reference, ResolvesTo, SameType, SaysTogether, Text, Twice, Ty, TypeScope, ValidatorEntityType, action_uids, declared_entities, defined_entities, defined_in, defined_names, definition_in, definitions, duplicate_entity_type, entity_definition_in, entity_definitions, entity_parents, entity_type_of, entry_names, enumerated, enumerated_below, enumerated_kind, extensions_in_scope, external, external_kind, has_descendant, held_names, is_entity_definition, node_at, out_of_memory, parents_in, plain_entry, shape_not_record, standard, standard_kind, type_name, undeclared_entity_types}
+use Rattle.cedar_schema_semantics.proofs.DeclarationLemmas.{entity_declaration}
+use Rattle.cedar_schema_semantics.proofs.Definitions.{declared_definition, key_defined, said_declared, said_definition}
+use Rattle.cedar_schema_semantics.proofs.OccurrenceLemmas.{Contains-image, Contains-single, value_once}
+use Rattle.cedar_schema_semantics.proofs.ResolutionLemmas.{elaborated_once, first_defined}
+use Rattle.cedar_schema_semantics.proofs.TogetherLemmas.{IsDefinition, entity_counted}
+use Rattle.cedar_types.proofs.MemberLemmas.{list_any-names}
 
 abbrev Entry : Type 0
 Entry = PlainName × EntityBody
@@ -430,7 +430,7 @@ module _ (bag : Bag) (extensions : Extensions) (declared : List Entry)
                 → Contains (entry_names (declared_entities bag)) upper
             parent_declared name upper parent =
                 let edge = parent_edge bag extensions declared scope ready edges are name upper parent in
-                let there = linked.uppers edge.0.0 edge.0.1 (an_edge edges edge.0 edge.0.0 edge.0.1 edge.1 refl refl) in
+                let there = linked.ancestors edge.0.0 edge.0.1 (an_edge edges edge.0 edge.0.0 edge.0.1 edge.1 refl refl) in
                 rw (edge.2, ready.entities) at (stands_declared edge.0.0 there)
 
             no_enumerated_below : (lower upper : PlainName) (choices : List Text)

@@ -4,8 +4,8 @@ use Rattle.std.proofs.lemmas.Bool.{cases_Bool, cond-false, cond-true, false≢tr
 use Rattle.std.proofs.lemmas.List.Elements.{Contains-append_right}
 use Rattle.std.specs.Cmp.{IsEquivalence}
 use Rattle.std.specs.Map.{lookup}
-use Rattle.cedar_below.proofs.Lists.{Contains-cons_cases, Contains-preimage}
-use Rattle.cedar_below.specs.Words.{HoldsPairwise}
+use Rattle.cedar_ast.proofs.Lists.{Contains-cons_cases, Contains-preimage}
+use Rattle.cedar_ast.specs.Words.{HoldsPairwise}
 use Rattle.cedar_builder.proofs.AtKeys.{entry_where}
 use Rattle.cedar_builder.specs.Words.{AreAlike, AreLocated, AreReady, Chain, HasCycle, HasEntry, IsCollectedAt, IsEdgeIn, IsEndIn, IsFaultOf, IsLinkedTo, Lacks, Leads, Memory, TableFault, at_key, more, one}
 use Rattle.cedar_graph.proofs.Numbers.{eq_back, eq_trans}
@@ -101,8 +101,8 @@ module _ {K Node : Type 0} {eq : K → K → Bool} (laws : IsEquivalence eq) (ha
   module _ (ready : AreReady eq has_edge edges before) where
     -- a chain of edges begins where something stands
     begins : {upper lower : K} → Chain (IsEdgeIn eq edges) upper lower → IsSome (at_key eq before upper)
-    begins {upper = upper} {lower = lower} (one step) = ready.uppers upper lower step
-    begins {upper = upper} (more {b = between} step rest) = ready.uppers upper between step
+    begins {upper = upper} {lower = lower} (one step) = ready.ancestors upper lower step
+    begins {upper = upper} (more {b = between} step rest) = ready.ancestors upper between step
 
     -- a node leads to another just where a chain of edges does
     pub linked_leads : (upper lower : K) → Leads eq has_edge after upper lower ↔ Chain (IsEdgeIn eq edges) upper lower
@@ -138,7 +138,7 @@ module _ {K Node : Type 0} {eq : K → K → Bool} (laws : IsEquivalence eq) (ha
       let edge = it.0 in
       let itself : IsEdgeIn eq edges edge.0 edge.1 = (edge, it.1, laws.refl edge.0, laws.refl edge.1) in
       elim it.2 [
-        | inl from ↦ lacks (equal_entry edge.0 key from (ready.uppers edge.0 edge.1 itself))
+        | inl from ↦ lacks (equal_entry edge.0 key from (ready.ancestors edge.0 edge.1 itself))
         | inr to ↦ lacks (equal_entry edge.1 key to (ready.lowers edge.0 edge.1 itself))
       ]
   cycle_alone OnCycle Memory is = is

@@ -13,11 +13,11 @@ use Rattle.std.specs.Option.{option_to_list}
 use Rattle.std.specs.Ordering.{is_eq, is_lt, ordering_reverse}
 use Rattle.std.specs.declared.cmp.Ordering.{Ordering}
 use Rattle.std.specs.declared.cmp.Ordering.TheVariants.{Equal, Greater, Less}
-use Rattle.cedar_below.proofs.Lists.{Contains-cons, Contains-cons_cases}
-use Rattle.cedar_below.proofs.Ordered.{AllByRecursion-middle}
-use Rattle.cedar_table.proofs.ColumnLemmas.{zip_behind}
+use Rattle.cedar_ast.proofs.Lists.{Contains-cons, Contains-cons_cases}
+use Rattle.cedar_ast.proofs.Ordered.{AllByRecursion-middle}
 use Rattle.cedar_builder.proofs.AtKeys.{at_equal_keys}
 use Rattle.cedar_builder.specs.DeclaredNodes.{AreInOrder, AreLocated, IsDefinedAt, IsPut, NoneAbove, at_key}
+use Rattle.cedar_table.proofs.ColumnLemmas.{zip_behind}
 
 -- a list whose last item is known ends in it
 pub ends_in : {A : Type 0} (xs : List A) (n : ℕ) (x : A) → length xs ≡ n + 1 → slice_get xs n ≡ Some x
@@ -220,8 +220,8 @@ module _ {K Node : Type 0} (IsLocatedAs : K → Node → Type 0) where
     ]
   ]
 
--- a node may be put behind the front of columns under its name: these are the columns, or all of them but an external node that it
--- takes the place of
+-- a node may be put behind the front of columns under its name: these are the columns, or all of
+-- them but an external node that it takes the place of
 pub record HasRoom {K Name Node : Type 0} (cmp : K → K → Ordering) (key_name : K → Name) (node_name : Node → Name)
     (IsExternal : Node → Type 0) (keys : List K) (nodes : List Node) (front : List K) (others : List Node) (name : K)
     (it : Node) : Type 0 where
@@ -382,8 +382,8 @@ module _ {K Name Node : Type 0} {eq : K → K → Bool} (laws : IsEquivalence eq
       located = put_located;
     }
 
--- columns of keys in order, each with a node at its place that is located as it is, none above the key of a declaration that is
--- left, and these in order
+-- columns of keys in order, each with a node at its place that is located as it is, none above the
+-- key of a declaration that is left, and these in order
 pub record AreColumns {K D Node : Type 0} (cmp : K → K → Ordering) (IsLocatedAs : K → Node → Type 0) (keys : List K) (nodes : List Node)
     (left : List (Box (K × D))) : Type 0 where
   pub len : length nodes ≡ length keys

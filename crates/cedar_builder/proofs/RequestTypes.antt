@@ -1,18 +1,18 @@
 -- Names of principals and resources, as they are looked up one after another.
 use Rattle.std.proofs.Common.{◌≡◌, ◌++◌, Bool, List, [], ◌∷◌, is_some, Contains, inl, inr, sym, subst}
 use Rattle.std.proofs.lemmas.List.Elements.{Contains-append_cases, Contains-append_left, Contains-append_right}
-use Rattle.std.proofs.lemmas.Simd.{map-map}
-use Rattle.std.specs.Bool.{Decides}
 use Rattle.std.proofs.lemmas.Map.Made.{is_some-lookup}
+use Rattle.std.proofs.lemmas.Simd.{map-map}
 use Rattle.std.specs.BTreeMap.{is_at}
+use Rattle.std.specs.Bool.{Decides}
 use Rattle.std.specs.Map.{keys_of}
-use Rattle.cedar_below.proofs.Names.{entity_type_ord-Equal}
+use Rattle.cedar_ast.proofs.Lists.{Contains-cons}
+use Rattle.cedar_ast.proofs.Names.{entity_type_ord-Equal}
+use Rattle.cedar_ast.specs.contracts.entity_type.EntityTypeOrd.TheImpl as order
 use Rattle.cedar_builder.specs.Words.{AreNamed, EntityType, Entries, IsDefined, Names, PlainName, Reference, ResolvesTo, ValidatorEntityType, get_by, names_in, type_name}
-use Rattle.cedar_below.proofs.Lists.{Contains-cons}
-use Rattle.cedar_below.specs.contracts.entity_type.EntityTypeOrd.TheImpl as order
-use Rattle.cedar_declarations.proofs.OccurrenceLemmas.{Contains-single}
-use Rattle.cedar_declarations.proofs.ResolutionLemmas.{IsFirst-same}
 use Rattle.cedar_fragments.proofs.SetLemmas.{found-Decides}
+use Rattle.cedar_schema_semantics.proofs.OccurrenceLemmas.{Contains-single}
+use Rattle.cedar_schema_semantics.proofs.ResolutionLemmas.{IsFirst-same}
 
 -- a map has an entity type exactly where its name is among those of the map
 pub has_name : (types : Entries EntityType ValidatorEntityType) (ty : EntityType) (found : Bool)

@@ -1,17 +1,17 @@
 -- What the private steps promise of actions as nodes of a graph, which stand under their uids.
-use Rattle.std.specs.Prelude.{◌≡◌, ◌⊎◌, ◌↔◌, Bool, List, [], Option}
 use Rattle.std.specs.HashSet.{contains}
-use Rattle.cedar_schema_elements.specs.ValidatorActionId.{action_of, parts_of}
-use Rattle.cedar_schema_elements.specs.declared.action_id.ValidatorActionId.{ValidatorActionId}
-use Rattle.cedar_below.specs.Words.{Chain, PlainUid, uid_of}
-use Rattle.cedar_below.specs.contracts.entity_uid.EntityUIDPartialEq.TheImpl as uid_eq
-use Rattle.cedar_below.specs.declared.entity_uid.EntityUID.{EntityUID}
-use Rattle.cedar_graph.specs.Edges.{IsEdgeIn, AreAlike}
-use Rattle.cedar_declarations.specs.Fault.{Fault, action_cycle, out_of_memory}
-use Rattle.cedar_names.specs.ActionBody.{Requests}
+use Rattle.std.specs.Prelude.{◌≡◌, ◌⊎◌, ◌↔◌, Bool, List, [], Option}
+use Rattle.cedar_ast.specs.Words.{Chain, PlainUid, uid_of}
+use Rattle.cedar_ast.specs.contracts.entity_uid.EntityUIDPartialEq.TheImpl as uid_eq
+use Rattle.cedar_ast.specs.declared.entity_uid.EntityUID.{EntityUID}
 use Rattle.cedar_builder.specs.ActionSteps.{IsElaboratedKind}
 use Rattle.cedar_builder.specs.DeclaredNodes.{Leads, at_key}
 use Rattle.cedar_elaboration.specs.declared.type_scope.TypeScope.{TypeScope}
+use Rattle.cedar_graph.specs.Edges.{IsEdgeIn, AreAlike}
+use Rattle.cedar_schema_ast.specs.ActionBody.{Requests}
+use Rattle.cedar_schema_elements.specs.ValidatorActionId.{action_of, parts_of}
+use Rattle.cedar_schema_elements.specs.declared.action_id.ValidatorActionId.{ValidatorActionId}
+use Rattle.cedar_schema_semantics.specs.Fault.{Fault, action_cycle, out_of_memory}
 
 -- the action is what a declaration of the uid says alone, and has no descendants
 pub record IsElaboratedAction (scope : TypeScope) (stated : PlainUid) (applies_to : Requests)

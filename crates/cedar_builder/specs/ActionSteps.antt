@@ -1,18 +1,18 @@
 -- What the private steps promise of declarations: those of one uid together, their parents, and
 -- what is elaborated.
-use Rattle.std.specs.Prelude.{Bool, true, false, ◌≡◌, ◌⊎◌, ◌↔◌, ◌∷◌, [], List, Contains, map}
-use Rattle.cedar_table.specs.Entries.{Entries}
 use Rattle.std.specs.List.{flat_map}
-use Rattle.cedar_below.specs.Words.{PlainName, PlainUid, type_name}
-use Rattle.cedar_below.specs.declared.entity_type.EntityType.{EntityType}
-use Rattle.cedar_declarations.specs.Words.{ActionKind, CountsInRequests, Fault, HasOpenRecord, IsActionKindOver, IsNamedBy, IsPrincipalOrResource, IsRecordType, Names, ResolvesTo, action_definition_in, context_not_record, out_of_memory, undeclared_entity_types}
-use Rattle.cedar_fragments.specs.Words.{IsUnresolvable, held_names}
-use Rattle.cedar_schema_elements.specs.declared.entity_type.ValidatorEntityType.{ValidatorEntityType}
-use Rattle.cedar_names.specs.Words.{ActionBody, ActionReference, Expr, Reference, Requests, elsewhere, requests}
-use Rattle.cedar_names.specs.declared.json_schema.reference_type.ReferenceType.TheVariants.{Entity}
-use Rattle.cedar_type_rules.specs.Ty.{Ty}
+use Rattle.std.specs.Prelude.{Bool, true, false, ◌≡◌, ◌⊎◌, ◌↔◌, ◌∷◌, [], List, Contains, map}
+use Rattle.cedar_ast.specs.Words.{PlainName, PlainUid, type_name}
+use Rattle.cedar_ast.specs.declared.entity_type.EntityType.{EntityType}
 use Rattle.cedar_elaboration.specs.Words.{CoversExtensions, ElaboratesAs, IsRefusal, ResolvesEach}
 use Rattle.cedar_elaboration.specs.declared.type_scope.TypeScope.{TypeScope}
+use Rattle.cedar_fragments.specs.Words.{IsUnresolvable, held_names}
+use Rattle.cedar_schema_ast.specs.Words.{ActionBody, ActionReference, Expr, Reference, Requests, elsewhere, requests}
+use Rattle.cedar_schema_ast.specs.declared.json_schema.reference_type.ReferenceType.TheVariants.{Entity}
+use Rattle.cedar_schema_elements.specs.declared.entity_type.ValidatorEntityType.{ValidatorEntityType}
+use Rattle.cedar_schema_semantics.specs.Words.{ActionKind, CountsInRequests, Fault, HasOpenRecord, IsActionKindOver, IsNamedBy, IsPrincipalOrResource, IsRecordType, Names, ResolvesTo, action_definition_in, context_not_record, out_of_memory, undeclared_entity_types}
+use Rattle.cedar_table.specs.Entries.{Entries}
+use Rattle.cedar_type_rules.specs.Ty.{Ty}
 
 -- the names of the entity types of a map
 abbrev pub names_in : Entries EntityType ValidatorEntityType → List PlainName

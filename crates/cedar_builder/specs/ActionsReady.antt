@@ -1,16 +1,16 @@
 -- When the actions of a bag can be built.
 use Rattle.std.specs.Prelude.{◌≡◌, List, Contains, map}
-use Rattle.cedar_table.specs.Entries.{Entries}
-use Rattle.cedar_below.specs.Words.{IsReserved, PlainName, PlainUid, SameItems, extension_types}
-use Rattle.cedar_below.specs.declared.entity_type.EntityType.{EntityType}
-use Rattle.cedar_below.specs.declared.extension.Extensions.{Extensions}
-use Rattle.cedar_declarations.specs.Words.{Bag, IsCounted, declared_actions, declared_entities, defined_names, definitions}
-use Rattle.cedar_fragments.specs.Words.{HoldsJust, held_names}
-use Rattle.cedar_schema_elements.specs.declared.entity_type.ValidatorEntityType.{ValidatorEntityType}
-use Rattle.cedar_names.specs.Words.{ActionBody, Expr}
+use Rattle.cedar_ast.specs.Words.{IsReserved, PlainName, PlainUid, SameItems, extension_types}
+use Rattle.cedar_ast.specs.declared.entity_type.EntityType.{EntityType}
+use Rattle.cedar_ast.specs.declared.extension.Extensions.{Extensions}
 use Rattle.cedar_builder.specs.ActionSteps.{names_in}
 use Rattle.cedar_elaboration.specs.Scope.{Covers, extensions_in_scope}
 use Rattle.cedar_elaboration.specs.declared.type_scope.TypeScope.{TypeScope}
+use Rattle.cedar_fragments.specs.Words.{HoldsJust, held_names}
+use Rattle.cedar_schema_ast.specs.Words.{ActionBody, Expr}
+use Rattle.cedar_schema_elements.specs.declared.entity_type.ValidatorEntityType.{ValidatorEntityType}
+use Rattle.cedar_schema_semantics.specs.Words.{Bag, IsCounted, declared_actions, declared_entities, defined_names, definitions}
+use Rattle.cedar_table.specs.Entries.{Entries}
 
 -- the declared actions and the entity types are those of the bag; the names in scope are those that
 -- it defines; enough is known of these, with the extension types that it is over; no common type

@@ -1,11 +1,11 @@
 -- The actions that a bag declares, as they stand in a schema.
 use Rattle.std.specs.Prelude.{List, Contains, map}
+use Rattle.cedar_ast.specs.Words.{PlainUid, uid_of}
+use Rattle.cedar_ast.specs.declared.entity_uid.EntityUID.{EntityUID}
+use Rattle.cedar_ast.specs.declared.extension.Extensions.{Extensions}
 use Rattle.cedar_schema_elements.specs.ValidatorActionId.{plain_action_entry}
 use Rattle.cedar_schema_elements.specs.declared.action_id.ValidatorActionId.{ValidatorActionId}
-use Rattle.cedar_below.specs.Words.{PlainUid, uid_of}
-use Rattle.cedar_below.specs.declared.entity_uid.EntityUID.{EntityUID}
-use Rattle.cedar_below.specs.declared.extension.Extensions.{Extensions}
-use Rattle.cedar_declarations.specs.Words.{Bag, IsDeclaredAction, declared_actions}
+use Rattle.cedar_schema_semantics.specs.Words.{Bag, IsDeclaredAction, declared_actions}
 
 -- each entry is what the bag declares of its uid, and each declared uid has an entry
 pub record AreDeclaredActions (bag : Bag) (extensions : Extensions)

@@ -1,11 +1,11 @@
 -- The entity types that a bag declares, as they stand in a schema.
 use Rattle.std.specs.Prelude.{List, Contains, map}
-use Rattle.cedar_below.specs.Words.{PlainName, type_name}
-use Rattle.cedar_below.specs.declared.entity_type.EntityType.{EntityType}
-use Rattle.cedar_below.specs.declared.extension.Extensions.{Extensions}
-use Rattle.cedar_declarations.specs.Words.{Bag, IsDeclaredEntityType, declared_entities}
+use Rattle.cedar_ast.specs.Words.{PlainName, type_name}
+use Rattle.cedar_ast.specs.declared.entity_type.EntityType.{EntityType}
+use Rattle.cedar_ast.specs.declared.extension.Extensions.{Extensions}
 use Rattle.cedar_schema_elements.specs.ValidatorEntityType.{plain_entry}
 use Rattle.cedar_schema_elements.specs.declared.entity_type.ValidatorEntityType.{ValidatorEntityType}
+use Rattle.cedar_schema_semantics.specs.Words.{Bag, IsDeclaredEntityType, declared_entities}
 
 -- each entry is what the bag declares of its name, and each declared name has an entry
 pub record AreDeclaredEntityTypes (bag : Bag) (extensions : Extensions)

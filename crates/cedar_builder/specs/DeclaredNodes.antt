@@ -1,14 +1,14 @@
 -- What the private steps promise of what is declared, entity types and actions alike: as nodes of a
 -- graph, which stand under their names, as entries of a table.
-use Rattle.std.specs.Prelude.{◌≡◌, ◌≢◌, ◌⊎◌, ◌↔◌, ◌∷◌, [], AllPairs, Bool, true, false, List, Option, None, Some, IsSome, IsSomeAnd, IsTrue, Contains, map, if◌then◌else◌}
 use Rattle.std.specs.Global.{Box}
 use Rattle.std.specs.List.{flat_map}
 use Rattle.std.specs.Map.{lookup}
+use Rattle.std.specs.Prelude.{◌≡◌, ◌≢◌, ◌⊎◌, ◌↔◌, ◌∷◌, [], AllPairs, Bool, true, false, List, Option, None, Some, IsSome, IsSomeAnd, IsTrue, Contains, map, if◌then◌else◌}
 use Rattle.std.specs.declared.cmp.Ordering.{Ordering}
 use Rattle.std.specs.declared.cmp.Ordering.TheVariants.{Greater}
-use Rattle.cedar_below.specs.Lists.{Twice}
-use Rattle.cedar_declarations.specs.Fault.{Fault, out_of_memory}
+use Rattle.cedar_ast.specs.Lists.{Twice}
 use Rattle.cedar_graph.specs.Edges.{IsEdgeIn}
+use Rattle.cedar_schema_semantics.specs.Fault.{Fault, out_of_memory}
 
 module _ {Name Body : Type 0} (is_definition : Body → Bool) where
   -- a declaration that is a definition gives itself, and any other nothing
@@ -85,7 +85,7 @@ module _ {K Node : Type 0} (eq : K → K → Bool) (has_edge : Node → K → Bo
   -- no node has edges, and one stands at either end of each edge
   pub record AreReady (edges : List (K × K)) (nodes : List (K × Node)) : Type 0 where
     pub apart : (upper lower : K) → ¬ Leads eq has_edge nodes upper lower
-    pub uppers : (upper lower : K) → IsEdgeIn eq edges upper lower → IsSome (at_key eq nodes upper)
+    pub ancestors : (upper lower : K) → IsEdgeIn eq edges upper lower → IsSome (at_key eq nodes upper)
     pub lowers : (upper lower : K) → IsEdgeIn eq edges upper lower → IsSome (at_key eq nodes lower)
 
 -- no key is above the other

@@ -1,18 +1,18 @@
 -- What the private steps promise of entity types as nodes of a graph, which stand under their
 -- names.
-use Rattle.std.specs.Prelude.{◌≡◌, ◌⊎◌, ◌↔◌, Bool, List, [], ◌∷◌, Option, None, Some, IsSome, Contains}
 use Rattle.std.specs.HashSet.{contains}
-use Rattle.cedar_below.specs.Words.{Chain, PlainName, type_name}
-use Rattle.cedar_below.specs.contracts.entity_type.EntityTypePartialEq.TheImpl as entity_type_eq
-use Rattle.cedar_below.specs.declared.entity_type.EntityType.{EntityType}
-use Rattle.cedar_graph.specs.Edges.{IsEdgeIn, AreAlike}
-use Rattle.cedar_declarations.specs.Words.{Fault, IsEnumerated, enumerated_below, external_below_enumerated, external_kind, out_of_memory, undeclared_entity_types}
-use Rattle.cedar_schema_elements.specs.ValidatorEntityType.{entity_type_of, descendant_names}
-use Rattle.cedar_schema_elements.specs.declared.entity_type.ValidatorEntityType.{ValidatorEntityType}
-use Rattle.cedar_names.specs.EntityBody.{EntityBody}
+use Rattle.std.specs.Prelude.{◌≡◌, ◌⊎◌, ◌↔◌, Bool, List, [], ◌∷◌, Option, None, Some, IsSome, Contains}
+use Rattle.cedar_ast.specs.Words.{Chain, PlainName, type_name}
+use Rattle.cedar_ast.specs.contracts.entity_type.EntityTypePartialEq.TheImpl as entity_type_eq
+use Rattle.cedar_ast.specs.declared.entity_type.EntityType.{EntityType}
 use Rattle.cedar_builder.specs.DeclaredNodes.{Leads, at_key}
 use Rattle.cedar_builder.specs.EntityTypeSteps.{IsElaboratedKind}
 use Rattle.cedar_elaboration.specs.declared.type_scope.TypeScope.{TypeScope}
+use Rattle.cedar_graph.specs.Edges.{IsEdgeIn, AreAlike}
+use Rattle.cedar_schema_ast.specs.EntityBody.{EntityBody}
+use Rattle.cedar_schema_elements.specs.ValidatorEntityType.{entity_type_of, descendant_names}
+use Rattle.cedar_schema_elements.specs.declared.entity_type.ValidatorEntityType.{ValidatorEntityType}
+use Rattle.cedar_schema_semantics.specs.Words.{Fault, IsEnumerated, enumerated_below, external_below_enumerated, external_kind, out_of_memory, undeclared_entity_types}
 
 -- at a key stands an enumerated entity type
 abbrev pub IsEnumeratedAt : Option ValidatorEntityType → Type 0
@@ -89,7 +89,7 @@ pub record AreLinked (edges : List (EntityType × EntityType))
   pub same : (key : EntityType) → AreTheSame (node_at before key) (node_at after key)
   pub linked : (upper lower : EntityType)
       → LeadsTo after upper lower ↔ Chain (IsAbove edges) upper lower
-  pub uppers : (upper lower : EntityType) → IsAbove edges upper lower
+  pub ancestors : (upper lower : EntityType) → IsAbove edges upper lower
       → IsSome (node_at before upper)
   pub lowers : (upper lower : EntityType) → IsAbove edges upper lower
       → ¬ IsEnumeratedAt (node_at before lower)

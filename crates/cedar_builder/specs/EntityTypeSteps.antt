@@ -1,13 +1,13 @@
 -- What the private steps promise of declarations: those of one name together, their parents, and
 -- what is elaborated.
 use Rattle.std.specs.Prelude.{Bool, true, false, ◌≡◌, ◌⊎◌, List, Option, map}
-use Rattle.cedar_below.specs.Words.{HoldsOfBoth, PlainName}
-use Rattle.cedar_declarations.specs.Words.{CountsInEntity, EntityTypeKind, Fault, HasOpenRecord, IsKindOver, IsRecordType, out_of_memory, shape_not_record}
-use Rattle.cedar_names.specs.Words.{EntityBody, Expr, external, standard}
-use Rattle.cedar_type_rules.specs.Ty.{Ty, Fields, record_of}
-use Rattle.cedar_type_rules.specs.declared.open_tag.OpenTag.TheVariants.{ClosedAttributes}
+use Rattle.cedar_ast.specs.Words.{HoldsOfBoth, PlainName}
 use Rattle.cedar_elaboration.specs.Words.{CoversExtensions, ElaboratesAs, IsRefusal, ResolvesEach}
 use Rattle.cedar_elaboration.specs.declared.type_scope.TypeScope.{TypeScope}
+use Rattle.cedar_schema_ast.specs.Words.{EntityBody, Expr, external, standard}
+use Rattle.cedar_schema_semantics.specs.Words.{CountsInEntity, EntityTypeKind, Fault, HasOpenRecord, IsKindOver, IsRecordType, out_of_memory, shape_not_record}
+use Rattle.cedar_type_rules.specs.Ty.{Ty, Fields, record_of}
+use Rattle.cedar_type_rules.specs.declared.open_tag.OpenTag.TheVariants.{ClosedAttributes}
 
 -- the names of declarations
 abbrev pub entry_names : List (PlainName × EntityBody) → List PlainName

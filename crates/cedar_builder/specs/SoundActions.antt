@@ -1,10 +1,10 @@
 -- What is certain of the declarations of actions once these are built.
 use Rattle.std.specs.Prelude.{Contains, map}
-use Rattle.cedar_below.specs.Words.{PlainName, PlainUid, Text, Twice, extension_types}
-use Rattle.cedar_below.specs.declared.extension.Extensions.{Extensions}
-use Rattle.cedar_declarations.specs.Words.{Bag, CountsInRequests, HasOpenRecord, IsActionParent, IsDescendantAction, IsFault, IsPrincipalOrResource, MentionsExtension, NamesAction, Refers, ResolvesTo, action_uids, context_not_record, declared_actions, declared_entities, defined_actions, defined_names}
-use Rattle.cedar_names.specs.Words.{ActionBody, ActionReference, Expr, Reference}
+use Rattle.cedar_ast.specs.Words.{PlainName, PlainUid, Text, Twice, extension_types}
+use Rattle.cedar_ast.specs.declared.extension.Extensions.{Extensions}
 use Rattle.cedar_elaboration.specs.Scope.{extension_name}
+use Rattle.cedar_schema_ast.specs.Words.{ActionBody, ActionReference, Expr, Reference}
+use Rattle.cedar_schema_semantics.specs.Words.{Bag, CountsInRequests, HasOpenRecord, IsActionParent, IsDescendantAction, IsFault, IsPrincipalOrResource, MentionsExtension, NamesAction, Refers, ResolvesTo, action_uids, context_not_record, declared_actions, declared_entities, defined_actions, defined_names}
 
 -- no action has two definitions, and none is a descendant of itself; contexts are record types;
 -- what counts has no open record, its extension types are handed in, and its references resolve;

@@ -1,10 +1,10 @@
 -- What is certain of the declarations of entity types once these are built.
 use Rattle.std.specs.Prelude.{Contains, map}
-use Rattle.cedar_below.specs.Words.{PlainName, Text, Twice, extension_types}
-use Rattle.cedar_below.specs.declared.extension.Extensions.{Extensions}
-use Rattle.cedar_declarations.specs.Words.{Bag, CountsInEntity, HasOpenRecord, IsFault, IsParent, MentionsExtension, Refers, ResolvesTo, declared_entities, defined_entities, defined_names, enumerated_below, external_below_enumerated, shape_not_record}
-use Rattle.cedar_names.specs.Words.{EntityBody, Expr, Reference}
+use Rattle.cedar_ast.specs.Words.{PlainName, Text, Twice, extension_types}
+use Rattle.cedar_ast.specs.declared.extension.Extensions.{Extensions}
 use Rattle.cedar_elaboration.specs.Scope.{extension_name}
+use Rattle.cedar_schema_ast.specs.Words.{EntityBody, Expr, Reference}
+use Rattle.cedar_schema_semantics.specs.Words.{Bag, CountsInEntity, HasOpenRecord, IsFault, IsParent, MentionsExtension, Refers, ResolvesTo, declared_entities, defined_entities, defined_names, enumerated_below, external_below_enumerated, shape_not_record}
 
 -- no entity type has two definitions; shapes are record types; what counts has no open record, its
 -- extension types are handed in, and its references resolve; parents resolve, to declared entity

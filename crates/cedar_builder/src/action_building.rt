@@ -8,12 +8,12 @@ use crate::action_links::linked_nodes;
 use crate::action_nodes::ActionScope;
 use crate::declared_node::collected_nodes;
 use crate::parents::parent_edges;
-use cedar_below::{EntityType, EntityUID};
-use cedar_declarations::SchemaError;
+use cedar_ast::{EntityType, EntityUID};
 use cedar_elaboration::TypeScope;
 use cedar_fragments::defs::WrittenName;
 use cedar_fragments::namespace::{ActionFragment, Written};
 use cedar_schema_elements::{ValidatorActionId, ValidatorEntityType};
+use cedar_schema_semantics::SchemaError;
 use cedar_table::Table;
 use std::alloc::Global;
 

@@ -5,10 +5,10 @@ ghost use Rattle.cedar_schema_elements.specs.ValidatorActionId.{AreLocatedAsKeys
 ghost use Rattle.cedar_builder.specs.ActionNodes.{AreLinked, IsLinkingFault, has_descendant};
 
 use crate::links::link;
-use cedar_below::{EntityUID, Memory};
-use cedar_declarations::SchemaError;
+use cedar_ast::{EntityUID, Memory};
 use cedar_graph::TableFault;
 use cedar_schema_elements::ValidatorActionId;
+use cedar_schema_semantics::SchemaError;
 use cedar_table::Table;
 use std::alloc::Global;
 

@@ -5,12 +5,12 @@ ghost use Rattle.cedar_builder.specs.Words.{ActionReference, AreSoundRequests, I
 use crate::action_requests::elaborated_action;
 use crate::declared_node::DeclaredNode;
 use crate::parents::HasParents;
-use cedar_below::{EntityType, EntityUID, M};
-use cedar_declarations::SchemaError;
+use cedar_ast::{EntityType, EntityUID, M};
 use cedar_elaboration::TypeScope;
 use cedar_fragments::defs::{AllDefs, WrittenName};
 use cedar_fragments::namespace::{ActionFragment, ActionParent, Written};
 use cedar_schema_elements::{ValidatorActionId, ValidatorEntityType};
+use cedar_schema_semantics::SchemaError;
 use cedar_table::Table;
 use std::alloc::Global;
 

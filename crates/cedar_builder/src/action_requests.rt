@@ -5,13 +5,13 @@ ghost use Rattle.cedar_builder.specs.Words.{AreSoundRequests, CoversExtensions, 
 ghost use Rattle.cedar_elaboration.specs.Refusals.{IsRefusal};
 
 use crate::request_types::declared_types;
-use cedar_below::{EntityType, EntityUID, InternalName, Loc};
-use cedar_declarations::{ContextOrShape, SchemaError};
+use cedar_ast::{EntityType, EntityUID, InternalName, Loc};
 use cedar_elaboration::{TypeScope, elaborate};
 use cedar_fragments::defs::WrittenName;
 use cedar_fragments::namespace::{ActionFragment, ActionRequests, Written};
-use cedar_names::json_schema;
+use cedar_schema_ast::json_schema;
 use cedar_schema_elements::{ValidatorActionId, ValidatorEntityType};
+use cedar_schema_semantics::{ContextOrShape, SchemaError};
 use cedar_table::Table;
 use cedar_types::Type;
 use std::alloc::Global;

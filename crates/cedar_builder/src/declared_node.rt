@@ -4,9 +4,9 @@ ghost use Rattle.std.specs.Prelude.{◌≡◌, ◌≢◌, ◌⊎◌, ◌↔◌, 
 ghost use Rattle.std.specs.List.Sorted.{IsStrictlySortedBy};
 ghost use Rattle.cedar_builder.specs.Words.{AreInOrder, AreLocated, Fault, IsCollectedAt, IsCollectingFault, IsDefinedAt, IsPut, NoneAbove, Twice, at_key, defined_in, fault_of, named, out_of_memory};
 
-use cedar_below::QuickHash;
-use cedar_declarations::SchemaError;
+use cedar_ast::QuickHash;
 use cedar_schema_elements::SchemaNode;
+use cedar_schema_semantics::SchemaError;
 use cedar_table::{Table, TableKeys};
 use std::alloc::Global;
 use std::hash::Hash;

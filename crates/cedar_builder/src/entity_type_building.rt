@@ -6,12 +6,12 @@ ghost use Rattle.cedar_builder.specs.Words.{AreDeclaredEntityTypes, AreLocatedAs
 use crate::declared_node::collected_nodes;
 use crate::entity_type_links::linked_nodes;
 use crate::parents::parent_edges;
-use cedar_below::EntityType;
-use cedar_declarations::SchemaError;
+use cedar_ast::EntityType;
 use cedar_elaboration::TypeScope;
 use cedar_fragments::defs::WrittenName;
 use cedar_fragments::namespace::{EntityTypeFragment, Written};
 use cedar_schema_elements::ValidatorEntityType;
+use cedar_schema_semantics::SchemaError;
 use cedar_table::Table;
 use std::alloc::Global;
 

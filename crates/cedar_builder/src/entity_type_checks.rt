@@ -1,12 +1,12 @@
 //! What is refused of the edges between entity types.
 
 ghost use Rattle.std.specs.Prelude.{◌≡◌, ◌⊎◌, ◌↔◌, Contains, IfErr, IsTrue, OnOk};
-ghost use Rattle.cedar_below.specs.declared.entity_type.EntityType.{EntityType as Key};
+ghost use Rattle.cedar_ast.specs.declared.entity_type.EntityType.{EntityType as Key};
 ghost use Rattle.cedar_builder.specs.Words.{IsEdgeFault, IsEdgeSound, IsEnumeratedAt, IsExternalAt, IsLinkFault, LeadsTo, fault_of, node_at, out_of_memory};
 
 use crate::entity_type_links::{Edge, Nodes};
-use cedar_below::{EntityType, NonEmpty};
-use cedar_declarations::SchemaError;
+use cedar_ast::{EntityType, NonEmpty};
+use cedar_schema_semantics::SchemaError;
 use std::alloc::Global;
 use std::collections::HashSet;
 

@@ -4,13 +4,13 @@ ghost use Rattle.std.specs.Prelude.{◌≡◌, ◌⊎◌, IfErr, IfOk, List, OnO
 ghost use Rattle.cedar_builder.specs.Words.{AreElaboratedTags, CoversExtensions, ElaboratesAs, Expr, HasOpenRecord, IsBodyFault, IsElaboratedEntity, IsRecordType, IsSoundBody, Reference, ResolvesEach, Ty, fault_of, fields_of, fragment_body, namespace_name, option_map, out_of_memory, record_of, shape_not_record, standard, ty_of, type_expr, type_name};
 ghost use Rattle.cedar_elaboration.specs.Refusals.{IsRefusal};
 
-use cedar_below::{EntityType, InternalName};
-use cedar_declarations::{ContextOrShape, SchemaError};
+use cedar_ast::{EntityType, InternalName};
 use cedar_elaboration::{TypeScope, elaborate};
 use cedar_fragments::defs::WrittenName;
 use cedar_fragments::namespace::EntityTypeFragment;
-use cedar_names::json_schema;
+use cedar_schema_ast::json_schema;
 use cedar_schema_elements::ValidatorEntityType;
+use cedar_schema_semantics::{ContextOrShape, SchemaError};
 use cedar_types::{Attributes, OpenTag, Type};
 use std::alloc::Global;
 

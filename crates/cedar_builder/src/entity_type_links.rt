@@ -4,9 +4,9 @@ ghost use Rattle.cedar_builder.specs.Words.{AreLinked, AreLocatedAsKeys, AreUnli
 
 use crate::entity_type_checks::{check_descendants, check_edges};
 use crate::links::link;
-use cedar_below::{EntityType, Memory};
-use cedar_declarations::SchemaError;
+use cedar_ast::{EntityType, Memory};
 use cedar_schema_elements::ValidatorEntityType;
+use cedar_schema_semantics::SchemaError;
 use cedar_table::Table;
 use std::alloc::Global;
 

@@ -1,18 +1,18 @@
 //! What the steps that entity types and actions have in common ask of an entity type.
 
 ghost use Rattle.cedar_builder.specs.Words.{Entity, EntityBody, IsBodyFault, IsElaboratedEntity, IsSoundBody, IsTypeFault, NamesType, PlainName, entity_parents, entity_type_of, is_entity_definition, type_name, written_entity_body, written_namespace};
-ghost use Rattle.cedar_names.specs.Reference.{Reference as PlainReference};
+ghost use Rattle.cedar_schema_ast.specs.Reference.{Reference as PlainReference};
 
 use crate::declared_node::DeclaredNode;
 use crate::entity_type_kinds::elaborated_type;
 use crate::named_type::named_type;
 use crate::parents::HasParents;
-use cedar_below::{EntityType, M};
-use cedar_declarations::SchemaError;
+use cedar_ast::{EntityType, M};
 use cedar_elaboration::TypeScope;
 use cedar_fragments::defs::{AllDefs, WrittenName};
 use cedar_fragments::namespace::{EntityTypeFragment, Written};
 use cedar_schema_elements::ValidatorEntityType;
+use cedar_schema_semantics::SchemaError;
 use std::alloc::Global;
 
 impl<N: WrittenName> HasParents<EntityType> for Written<EntityTypeFragment<N>> {

@@ -3,7 +3,7 @@
 ghost use Rattle.std.specs.Prelude.{◌↔◌, IfErr, IfOk, IsTrue, OnOk};
 ghost use Rattle.cedar_builder.specs.Words.{AreAlike, AreLocated, AreReady, Chain, IsCycle, IsDistinct, IsEdgeIn, Leads, at_key, keys_of};
 
-use cedar_below::QuickHash;
+use cedar_ast::QuickHash;
 use cedar_graph::{TableFault, link_table};
 use cedar_schema_elements::SchemaNode;
 use cedar_table::Table;

@@ -3,11 +3,11 @@
 ghost use Rattle.std.specs.Prelude.{IfErr, IfOk};
 ghost use Rattle.cedar_builder.specs.Words.{Entity, IsTypeFault, NamesType, fault_of, held_names, namespace_name, type_name};
 
-use cedar_below::{EntityType, InternalName};
-use cedar_declarations::SchemaError;
+use cedar_ast::{EntityType, InternalName};
 use cedar_elaboration::undefined_type;
 use cedar_fragments::defs::{AllDefs, WrittenName};
-use cedar_names::json_schema::ReferenceType;
+use cedar_schema_ast::json_schema::ReferenceType;
+use cedar_schema_semantics::SchemaError;
 use std::alloc::Global;
 
 /// The entity type that a name stands for where it is written in a namespace, which must not be

@@ -3,9 +3,9 @@
 ghost use Rattle.std.specs.Prelude.{◌≡◌, ◌⊎◌, ◌++◌, IfErr, IfOk, List, OnOk, map};
 ghost use Rattle.cedar_builder.specs.Words.{Fault, HoldsPairwise, IsEdgeOf, IsParentFault, Names, fault_of, held_names, named, out_of_memory, parents_in};
 
-use cedar_below::M;
-use cedar_declarations::SchemaError;
+use cedar_ast::M;
 use cedar_fragments::defs::AllDefs;
+use cedar_schema_semantics::SchemaError;
 use std::alloc::Global;
 
 /// A declaration with parents, which keys stand for.

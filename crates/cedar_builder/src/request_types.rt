@@ -4,10 +4,10 @@ ghost use Rattle.std.specs.Prelude.{Contains, IfErr, IfOk, OnOk, map};
 ghost use Rattle.cedar_builder.specs.Words.{AreNamed, Entity, IsPlaceFault, IsRequestTypeFault, NamesType, PlainName, Reference, ResolvesTo, fault_of, held_names, namespace_name, names_in, set_names, type_name};
 
 use crate::named_type::named_type;
-use cedar_below::{EntityType, InternalName, NonEmpty};
-use cedar_declarations::SchemaError;
+use cedar_ast::{EntityType, InternalName, NonEmpty};
 use cedar_fragments::defs::{AllDefs, WrittenName};
 use cedar_schema_elements::{TypeSet, ValidatorEntityType};
+use cedar_schema_semantics::SchemaError;
 use cedar_table::Table;
 use std::alloc::Global;
 

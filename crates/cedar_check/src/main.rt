@@ -4,7 +4,7 @@
 
 mod replacing;
 
-use check_commands::{FileAccess, FileFault, run, unread};
+use cedar_cli::{FileAccess, FileFault, run, unread};
 use replacing::replace;
 use std::alloc::{AllocGlobal, Global};
 use std::env::Env;

@@ -68,8 +68,8 @@ fn fill<R: Files>(
     fs::rename(rt, &beside.path, place)
 }
 
-/// Puts a text in the place of a regular file, or where there is none. What was written beside it is
-/// taken away again where that fails.
+/// Puts a text in the place of a regular file, or where there is none. What was written beside it
+/// is taken away again where that fails.
 fn put_in_place<R: Files + AllocGlobal>(
     rt: &R,
     place: &Path<'_>,

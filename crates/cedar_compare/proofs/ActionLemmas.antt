@@ -1,8 +1,8 @@
 -- Actions whose entities the new version of a schema lacks, and those that it keeps.
 use Rattle.std.proofs.Common.{◌≡◌, ◌⊎◌, List, [], ◌∷◌, inl, inr, refl, subst, sym, ◌∙◌, ⊎_elim, Contains}
-use Rattle.cedar_below.proofs.Lists.{Contains-cons}
-use Rattle.cedar_compare.specs.Words.{ActionEntity, AreTagsOf, DefinesAction, EntityTypeKind, Entries, Extensions, Has, IsActionCause, IsEntityOfAction, IsEntityOfKind, IsEntityOfType, IsLostAction, IsReal, KeepsAction, ListsApart, ListsDescendantAction, MayStandAbove, PlainCause, PlainSchema, PlainUid, action_above, enumerated_kind, external_kind, gone, map_value, record_of, standard_kind}
-use Rattle.cedar_compare.proofs.ToldLemmas.{none_there}
+use Rattle.cedar_ast.proofs.Lists.{Contains-cons}
+use Rattle.cedar_compare.proofs.ReportedLemmas.{none_there}
+use Rattle.cedar_compare.specs.Words.{ActionEntity, AreTagsOf, DefinesAction, EntityTypeKind, Entries, Extensions, Has, IsActionCause, IsEntityOfAction, IsEntityOfKind, IsEntityOfType, IsLostAction, IsReal, KeepsAction, ListsApart, ListsDescendantAction, MayStandAbove, PlainCause, PlainSchema, PlainUid, action_above, enumerated_kind, external_kind, removed, map_value, record_of, standard_kind}
 
 -- a list without members is empty
 pub no_members : {A : Type 0} (xs : List A) → ((x : A) → ¬ Contains xs x) → xs ≡ []
@@ -39,8 +39,8 @@ of_type_alike extensions schema old one it same of also (ty, there, of_kind) = (
 )
 
 module _ (extensions : Extensions) (old new : PlainSchema) where
-  -- the entity of an action is lost where it is of no type of the new schema, and that doesn't define
-  -- the action or one of the two alone lists another above it
+  -- the entity of an action is lost where it is of no type of the new schema, and that doesn't
+  -- define the action or one of the two alone lists another above it
   pub lost_action : (it : ActionEntity) → IsReal it → IsEntityOfAction old it → ¬ IsEntityOfType extensions new it
       → (¬ DefinesAction new it.uid) ⊎ ((upper : PlainUid) × ListsApart old new it.uid upper)
       → IsLostAction extensions old new it
@@ -86,6 +86,6 @@ module _ (extensions : Extensions) (old new : PlainSchema) where
   -- an entity whose action has a true cause to be lost is lost, where it is of no type
   pub lost_by_cause : (it : ActionEntity) (cause : PlainCause) → IsReal it → IsEntityOfAction old it → ¬ IsEntityOfType extensions new it
       → IsActionCause old new it.uid cause → IsLostAction extensions old new it
-  lost_by_cause it gone real of no_type undefined = lost_action it real of no_type (inl undefined)
+  lost_by_cause it removed real of no_type undefined = lost_action it real of no_type (inl undefined)
   lost_by_cause it (action_above upper) real of no_type apart = lost_action it real of no_type (inr (upper, apart))
   lost_by_cause it _ real of no_type cause = absurd cause

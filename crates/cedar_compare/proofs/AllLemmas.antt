@@ -1,4 +1,4 @@
--- What is told of all that two versions of a schema admit.
+-- What is reported of all that two versions of a schema admit.
 use Rattle.std.proofs.Common.{◌≡◌, ◌⊎◌, List, [], ◌∷◌, ◌++◌, inl, inr, refl, ap, subst, sym, ◌∙◌, ⊎_elim, map, Contains}
 use Rattle.std.proofs.lemmas.List.Elements.{Contains-append_cases, Contains-append_left, Contains-append_right}
 use Rattle.std.specs.List.{AllByRecursion}
@@ -6,11 +6,11 @@ use Rattle.std.specs.List.Sorted.{IsStrictlySortedBy}
 use Rattle.std.specs.Ordering.{ordering_then}
 use Rattle.std.specs.declared.cmp.Ordering.{Ordering}
 use Rattle.std.specs.declared.cmp.Ordering.TheVariants.{Less, Equal}
-use Rattle.cedar_below.proofs.Lists.{Contains-cons_cases, Contains-preimage}
-use Rattle.cedar_below.proofs.Ordered.{IsStrictlySortedBy-map}
-use Rattle.cedar_below.proofs.PlainNames.{name_cmp-Equal, uid_cmp-Equal}
+use Rattle.cedar_ast.proofs.Lists.{Contains-cons_cases, Contains-preimage}
+use Rattle.cedar_ast.proofs.Ordered.{IsStrictlySortedBy-map}
+use Rattle.cedar_ast.proofs.PlainNames.{name_cmp-Equal, uid_cmp-Equal}
+use Rattle.cedar_compare.proofs.ReportedLemmas.{answered_append, none_there}
 use Rattle.cedar_compare.specs.Words.{AreActionAnswers, AreAnswers, AreLosses, DefinesAction, Environment, Extensions, IsEnvironmentOf, IsLoss, Keeps, KeepsOf, LosesOf, PlainDifference, PlainName, PlainSchema, PlainUid, SchemaEntityType, Subject, action_lost, action_subject, entity_lost, environment_subject, name_cmp, request_lost, subject_cmp, subject_of, type_subject, uid_cmp}
-use Rattle.cedar_compare.proofs.ToldLemmas.{answered_append, none_there}
 
 -- environments of one action with one principal are in the order of their resources
 same_head : (uid : PlainUid) (principal r s : PlainName)
@@ -38,23 +38,24 @@ pub actions_below : (u v : PlainUid) (p q r s : PlainName) → uid_cmp u v ≡ L
 actions_below u v p q r s less = ap (λ a. ordering_then a (ordering_then (name_cmp p q) (name_cmp r s))) less
 
 module _ (extensions : Extensions) (old new : PlainSchema) where
-  -- the requests of some actions are told, but for actions that are left, which are above all these
-  pub record RequestsSoFar (left : List PlainUid) (told : List PlainDifference) : Type 0 where
+  -- the requests of some actions are reported, but for actions that are left, which are above all
+  -- these
+  pub record RequestsSoFar (left : List PlainUid) (reported : List PlainDifference) : Type 0 where
     pub subjects : List Subject
-    pub answers : AreAnswers extensions old new subjects told
+    pub answers : AreAnswers extensions old new subjects reported
     pub all : (it : Environment) → IsEnvironmentOf old it
         → Contains left it.action ⊎ Contains subjects (environment_subject it.principal it.action it.resource)
     pub alone : (it : Subject) → Contains subjects it → (principal : PlainName) × (uid : PlainUid) × (resource : PlainName)
         × (it ≡ environment_subject principal uid resource) × AllByRecursion (λ other. uid_cmp uid other ≡ Less) left
     pub in_order : IsStrictlySortedBy uid_cmp left
 
-  -- the requests of one more action are told
-  pub requests_more : (uid : PlainUid) (rest : List PlainUid) (told more : List PlainDifference)
-      → AreActionAnswers extensions old new uid more → RequestsSoFar (uid ∷ rest) told → RequestsSoFar rest (told ++ more)
+  -- the requests of one more action are reported
+  pub requests_more : (uid : PlainUid) (rest : List PlainUid) (reported more : List PlainDifference)
+      → AreActionAnswers extensions old new uid more → RequestsSoFar (uid ∷ rest) reported → RequestsSoFar rest (reported ++ more)
   unfolding IsStrictlySortedBy
-  requests_more uid rest told more (subjects, are, answers) so_far = record {
+  requests_more uid rest reported more (subjects, are, answers) so_far = record {
     subjects = so_far.subjects ++ subjects;
-    answers = answered_append extensions old new so_far.subjects subjects told more below so_far.answers answers;
+    answers = answered_append extensions old new so_far.subjects subjects reported more below so_far.answers answers;
     all = λ it of. ⊎_elim
         (λ left. ⊎_elim
         (λ same. inr (Contains-append_right so_far.subjects subjects (environment_subject it.principal it.action it.resource)
@@ -97,8 +98,8 @@ module _ (extensions : Extensions) (old new : PlainSchema) where
     pub environments : (it : Environment) → IsEnvironmentOf old it
         → Contains subjects (environment_subject it.principal it.action it.resource)
 
-  module _ (subjects : List Subject) (told : List PlainDifference) (all : AreAllSubjects subjects)
-      (answers : AreAnswers extensions old new subjects told) where
+  module _ (subjects : List Subject) (reported : List PlainDifference) (all : AreAllSubjects subjects)
+      (answers : AreAnswers extensions old new subjects reported) where
     -- a subject of which something is lost is one of them
     lost_among : (subject : Subject) → LosesOf extensions old new subject → Contains subjects subject
     lost_among (type_subject name) (it, named, (real, (ty, there, of), none)) =
@@ -110,11 +111,11 @@ module _ (extensions : Extensions) (old new : PlainSchema) where
         (subst (λ v. P environment.principal v r) (sym types'.of_action ∙ types.of_action)
         (subst (λ s. P environment.principal environment.action s) (sym types'.resource_type ∙ types.resource_type) (all.environments environment of)))
 
-    -- what is told is just what is lost
-    pub all_losses : AreLosses extensions old new told
+    -- what is reported is just what is lost
+    pub all_losses : AreLosses extensions old new reported
     all_losses = record {
       each = λ subject. (
-        λ among. (let found = Contains-preimage subject_of told subject among in
+        λ among. (let found = Contains-preimage subject_of reported subject among in
             subst (LosesOf extensions old new) found.2 (loses_subject found.0 (answers.true_ones found.0 found.1))),
         λ loses. ⊎_elim (λ keeps. absurd (lost_not_kept subject loses keeps)) (λ there. there) (answers.each subject (lost_among subject loses)),
       );
@@ -122,8 +123,8 @@ module _ (extensions : Extensions) (old new : PlainSchema) where
       in_order = answers.in_order;
     }
 
-    -- where nothing is told, all is kept
-    pub nothing_lost : told ≡ [] → Keeps extensions old new
+    -- where nothing is reported, all is kept
+    pub nothing_lost : reported ≡ [] → Keeps extensions old new
     nothing_lost none =
         let keeps : (subject : Subject) → Contains subjects subject → KeepsOf extensions old new subject = λ subject among.
         ⊎_elim (λ kept. kept) (λ there. absurd (none_there subject (subst (λ ds. Contains (map subject_of ds) subject) none there)))

@@ -1,8 +1,8 @@
 -- What is answered of a standard entity type.
 use Rattle.std.proofs.Common.{Option, Some, None, Result, Ok, Err, IfOk, Contains}
 use Rattle.std.specs.Option.{option_map}
-use Rattle.cedar_compare.specs.Words.{Difference, Extensions, IsAnswer, IsBesideAnswer, IsKeyed, IsStandard, Memory, PlainName, PlainSchema, SchemaEntityType, ValuesIncluded, kind_fields, kind_openness, kind_tags, plain_difference, record_of, type_subject}
 use Rattle.cedar_compare.proofs.LostLemmas.{kept_standard}
+use Rattle.cedar_compare.specs.Words.{Difference, Extensions, IsAnswer, IsBesideAnswer, IsKeyed, IsStandard, Memory, PlainName, PlainSchema, SchemaEntityType, ValuesIncluded, kind_fields, kind_openness, kind_tags, plain_difference, record_of, type_subject}
 
 -- where the attributes are included, what is found beside them is the answer
 pub standard_answered : (extensions : Extensions) (old new : PlainSchema) (name : PlainName) (ty other : SchemaEntityType) → IsKeyed old

@@ -9,7 +9,7 @@ alike_enumerated (standard_kind fields openness tags) b alike enumerated = absur
 alike_enumerated external_kind b alike enumerated = absurd enumerated
 alike_enumerated a b alike enumerated = elim alike [ ]
 
--- a kind that is told to be enumerated is
+-- a kind that is reported to be enumerated is
 pub is_enumerated : (kind : EntityTypeKind) (choices : List _) → kind ≡ enumerated_kind choices → IsEnumerated kind
 is_enumerated kind choices is = subst IsEnumerated (sym is) tt
 

@@ -1,6 +1,6 @@
 -- What a schema below another admits, that one admits.
 use Rattle.std.proofs.Common.{◌≡◌, Contains, None, Option, Some, inl, inr, refl, subst, sym, ◌∙◌, ⊎_elim}
-use Rattle.cedar_below.proofs.Lists.{Contains-preimage}
+use Rattle.cedar_ast.proofs.Lists.{Contains-preimage}
 use Rattle.cedar_compare.specs.Words.{ActionBelow, ActionEntity, ActionKind, AreTagsOf, EntityTypeKind, Entries, Environment, Extensions, Gives, Has, HasEntityType, IsDefinedKind, IsEntityIn, IsEntityOfKind, IsIdOf, IsRequestIn, IsRequestOf, Keeps, KindBelow, MayHaveId, MayStandAbove, Permissive, PlainName, PlainRequest, PlainSchema, PlainUid, SchemaBelow, SchemaEntityType, TagsBelow, Text, Tree, Ty, defined_action, entry_at, enumerated_kind, external_action, external_kind, map_value, record_of, standard_kind}
 use Rattle.cedar_type_rules.proofs.MemberLaws.{HasBy-above}
 

@@ -1,6 +1,6 @@
--- What is told of each choice of an enumerated entity type.
+-- What is reported of each choice of an enumerated entity type.
 use Rattle.std.proofs.Common.{List, ◌∷◌, All, map, subst, ap, ◌∙◌, ⊎_elim, Contains}
-use Rattle.cedar_below.proofs.Lists.{Contains-cons_cases, Contains-preimage}
+use Rattle.cedar_ast.proofs.Lists.{Contains-cons_cases, Contains-preimage}
 
 -- what holds of the first image and of each of the others holds of all
 pub each_image : {A B : Type 0} (P : B → Type 0) (f : A → B) (first : A) (rest : List A) → P (f first) → All (λ x. P (f x)) rest

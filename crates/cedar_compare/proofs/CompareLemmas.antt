@@ -1,4 +1,4 @@
--- What is told of two versions of a schema as their parts are gone over.
+-- What is reported of two versions of a schema as their parts are gone over.
 use Rattle.std.proofs.Common.{◌≡◌, Bool, true, List, [], ◌∷◌, ◌++◌, Option, Some, None, inl, inr, refl, ap, subst, sym, ◌∙◌, ⊎_elim, map, Contains}
 use Rattle.std.proofs.Math.Logic.{∥∥₁_elim}
 use Rattle.std.proofs.Props.{props}
@@ -10,16 +10,16 @@ use Rattle.std.proofs.lemmas.Simd.{map-map}
 use Rattle.std.specs.List.Sorted.{IsPermutation, IsStrictlySortedBy}
 use Rattle.std.specs.Option.{option_map}
 use Rattle.std.specs.declared.cmp.Ordering.TheVariants.{Less}
-use Rattle.cedar_below.proofs.Lists.{Contains-cons, Contains-cons_cases, Contains-preimage}
-use Rattle.cedar_below.proofs.Ordered.{IsStrictlySortedBy-map}
-use Rattle.cedar_below.proofs.PlainNames.{name_cmp-total, uid_cmp-total}
-use Rattle.cedar_compare.specs.Words.{ActionEntity, ActionKind, AreActionAnswers, AreActionEntities, AreAllRequests, AreAnswers, AreEnvironmentSubjects, AreLosses, Difference, Entity, EntityType, EntityTypeKind, EntityUID, Extensions, IsAnswer, IsCompleteSchema, IsEntityOfAction, IsKeyed, IsLoss, Keeps, PlainDifference, PlainName, PlainSchema, PlainUid, SchemaAction, SchemaEntityType, Subject, ValidatorActionId, ValidatorEntityType, ValidatorSchema, action_entries, action_lost, action_of, action_subject, action_subjects, defined_action, entity_lost, entity_type_of, entity_uid, environment_subject, external_action, external_actions, external_kind, external_types, is_external_kind, is_external_type, name_cmp, plain_action_entity, plain_action_entry, plain_difference, plain_entry, plain_type, request_lost, schema_entries, schema_of, schema_with, subject_cmp, type_name, type_subject, type_subjects, uid_cmp, uid_of, unresolved, unresolved_action, unresolved_type}
+use Rattle.cedar_ast.proofs.Lists.{Contains-cons, Contains-cons_cases, Contains-preimage}
+use Rattle.cedar_ast.proofs.Ordered.{IsStrictlySortedBy-map}
+use Rattle.cedar_ast.proofs.PlainNames.{name_cmp-total, uid_cmp-total}
 use Rattle.cedar_compare.proofs.AllLemmas.{AreAllSubjects, RequestsSoFar, all_losses, nothing_lost, requests_more}
 use Rattle.cedar_compare.proofs.LeftLemmas.{SureSoFar}
+use Rattle.cedar_compare.proofs.ReportedLemmas.{AnswersSoFar, answered_append, answered_none, none_there, reported_kept, reported_lost, reported_none}
 use Rattle.cedar_compare.proofs.SortedLemmas.{one_at}
-use Rattle.cedar_compare.proofs.ToldLemmas.{AnswersSoFar, answered_append, answered_none, none_there, told_kept, told_lost, told_none}
-use Rattle.cedar_declarations.proofs.OccurrenceLemmas.{Contains-filter, Contains-image}
+use Rattle.cedar_compare.specs.Words.{ActionEntity, ActionKind, AreActionAnswers, AreActionEntities, AreAllRequests, AreAnswers, AreEnvironmentSubjects, AreLosses, Difference, Entity, EntityType, EntityTypeKind, EntityUID, Extensions, IsAnswer, IsCompleteSchema, IsEntityOfAction, IsKeyed, IsLoss, Keeps, PlainDifference, PlainName, PlainSchema, PlainUid, SchemaAction, SchemaEntityType, Subject, ValidatorActionId, ValidatorEntityType, ValidatorSchema, action_entries, action_lost, action_of, action_subject, action_subjects, defined_action, entity_lost, entity_type_of, entity_uid, environment_subject, external_action, external_actions, external_kind, external_types, is_external_kind, is_external_type, name_cmp, plain_action_entity, plain_action_entry, plain_difference, plain_entry, plain_type, request_lost, schema_entries, schema_of, schema_with, subject_cmp, type_name, type_subject, type_subjects, uid_cmp, uid_of, unresolved, unresolved_action, unresolved_type}
 use Rattle.cedar_queries.proofs.SelectedLemmas.{Contains-kept}
+use Rattle.cedar_schema_semantics.proofs.OccurrenceLemmas.{Contains-filter, Contains-image}
 
 -- the subjects of names are those of the schema's entity types
 pub named_subjects : (schema : ValidatorSchema) (names : List EntityType) → names ≡ map (λ entry. entry.0) (schema_entries schema)
@@ -46,33 +46,33 @@ entities_sorted entities sorted = subst (IsStrictlySortedBy subject_cmp) (map-ma
     (IsStrictlySortedBy-map uid_cmp subject_cmp action_subject (λ a b. refl) (map entity_uid entities) sorted)
 
 module _ (extensions : Extensions) (old new : PlainSchema) where
-  -- at first nothing is told, and all subjects are left
-  pub told_start : (all left : List Subject) (lost : List Difference) → left ≡ all → lost ≡ [] → IsStrictlySortedBy subject_cmp left
+  -- at first nothing is reported, and all subjects are left
+  pub reported_start : (all left : List Subject) (lost : List Difference) → left ≡ all → lost ≡ [] → IsStrictlySortedBy subject_cmp left
       → AnswersSoFar extensions old new all left (map plain_difference lost)
-  told_start all left lost same nothing sorted =
+  reported_start all left lost same nothing sorted =
       subst (λ xs. AnswersSoFar extensions old new all left (map plain_difference xs)) (sym nothing)
-      (subst (λ xs. AnswersSoFar extensions old new xs left []) same (told_none extensions old new left sorted))
+      (subst (λ xs. AnswersSoFar extensions old new xs left []) same (reported_none extensions old new left sorted))
 
   -- the answer for the next subject is that it is kept
-  pub told_nothing : (all left rest : List Subject) (lost : List Difference) (first : Subject) (found : Option Difference)
+  pub reported_nothing : (all left rest : List Subject) (lost : List Difference) (first : Subject) (found : Option Difference)
       → left ≡ first ∷ rest → found ≡ None → IsAnswer extensions old new first (option_map plain_difference found)
       → AnswersSoFar extensions old new all left (map plain_difference lost)
       → AnswersSoFar extensions old new all rest (map plain_difference lost)
-  told_nothing all left rest lost first found steps is answer so_far =
-      told_kept extensions old new all rest (map plain_difference lost) first
+  reported_nothing all left rest lost first found steps is answer so_far =
+      reported_kept extensions old new all rest (map plain_difference lost) first
       (subst (λ o. IsAnswer extensions old new first (option_map plain_difference o)) is answer)
       (subst (λ xs. AnswersSoFar extensions old new all xs (map plain_difference lost)) steps so_far)
 
-  -- the answer for the next subject is a difference, which is told
-  pub told_difference : (all left rest : List Subject) (lost more : List Difference) (first : Subject) (found : Option Difference)
+  -- the answer for the next subject is a difference, which is reported
+  pub reported_difference : (all left rest : List Subject) (lost more : List Difference) (first : Subject) (found : Option Difference)
       (it : Difference) → left ≡ first ∷ rest → found ≡ Some it → more ≡ lost ++ it ∷ []
       → IsAnswer extensions old new first (option_map plain_difference found)
       → AnswersSoFar extensions old new all left (map plain_difference lost)
       → AnswersSoFar extensions old new all rest (map plain_difference more)
-  told_difference all left rest lost more first found it steps is are answer so_far =
+  reported_difference all left rest lost more first found it steps is are answer so_far =
       let loss = subst (λ o. IsAnswer extensions old new first (option_map plain_difference o)) is answer in
       subst (AnswersSoFar extensions old new all rest) (sym (ap (map plain_difference) are ∙ map-append plain_difference lost (it ∷ [])))
-      (told_lost extensions old new all rest (map plain_difference lost) first (plain_difference it) loss.0 loss.1
+      (reported_lost extensions old new all rest (map plain_difference lost) first (plain_difference it) loss.0 loss.1
       (subst (λ xs. AnswersSoFar extensions old new all xs (map plain_difference lost)) steps so_far))
 
   -- at first the requests of all actions are left
@@ -88,7 +88,7 @@ module _ (extensions : Extensions) (old new : PlainSchema) where
         in_order = sorted;
       })
 
-  -- the requests of the next action are told
+  -- the requests of the next action are reported
   pub requests_next : (left rest : List PlainUid) (lost more longer : List Difference) (uid : PlainUid) → left ≡ uid ∷ rest
       → longer ≡ lost ++ more → AreActionAnswers extensions old new uid (map plain_difference more)
       → RequestsSoFar extensions old new left (map plain_difference lost)
@@ -98,10 +98,10 @@ module _ (extensions : Extensions) (old new : PlainSchema) where
       (requests_more extensions old new uid rest (map plain_difference lost) (map plain_difference more) answers
       (subst (λ xs. RequestsSoFar extensions old new xs (map plain_difference lost)) steps so_far))
 
-  -- where no action is left, all requests are told
-  pub requests_all : (left : List PlainUid) (told : List PlainDifference) → left ≡ [] → RequestsSoFar extensions old new left told
-      → AreAllRequests extensions old new told
-  requests_all left told nothing so_far = (
+  -- where no action is left, all requests are reported
+  pub requests_all : (left : List PlainUid) (reported : List PlainDifference) → left ≡ [] → RequestsSoFar extensions old new left reported
+      → AreAllRequests extensions old new reported
+  requests_all left reported nothing so_far = (
     so_far.subjects,
     record {
       all = λ it of. ⊎_elim
@@ -186,29 +186,29 @@ module _ (extensions : Extensions) (schema : ValidatorSchema) (new : PlainSchema
             (environment_subject it.principal it.action it.resource) (of_requests.1.all it of);
       }
 
-  -- what is told answers all of them
+  -- what is reported answers all of them
   answers : AreAnswers extensions (schema_of schema) new subjects (map plain_difference lost)
   unfolding subjects
   answers =
       let old = schema_of schema in
-      let told = map plain_difference types in
+      let reported = map plain_difference types in
       let more = map plain_difference actions in
       let last = map plain_difference requests in
-      let same : map plain_difference lost ≡ (told ++ more) ++ last = ap (map plain_difference) are
+      let same : map plain_difference lost ≡ (reported ++ more) ++ last = ap (map plain_difference) are
       ∙ (map-append plain_difference (types ++ actions) requests ∙ ap (λ ds. ds ++ last) (map-append plain_difference types actions)) in
       subst (AreAnswers extensions old new ((type_subjects old ++ action_subjects entities) ++ of_requests.0)) (sym same)
-      (answered_append extensions old new (type_subjects old ++ action_subjects entities) of_requests.0 (told ++ more) last
+      (answered_append extensions old new (type_subjects old ++ action_subjects entities) of_requests.0 (reported ++ more) last
       (all_below old entities of_requests.0 of_requests.1)
-      (answered_append extensions old new (type_subjects old) (action_subjects entities) told more (types_below old entities) of_types of_actions)
+      (answered_append extensions old new (type_subjects old) (action_subjects entities) reported more (types_below old entities) of_types of_actions)
       of_requests.2)
 
   -- so it is all that is lost
-  pub told_losses : AreLosses extensions (schema_of schema) new (map plain_difference lost)
-  told_losses = all_losses extensions (schema_of schema) new subjects (map plain_difference lost) all answers
+  pub reported_losses : AreLosses extensions (schema_of schema) new (map plain_difference lost)
+  reported_losses = all_losses extensions (schema_of schema) new subjects (map plain_difference lost) all answers
 
   -- and where it is nothing, all is kept
-  pub told_kept_all : lost ≡ [] → Keeps extensions (schema_of schema) new
-  told_kept_all nothing =
+  pub reported_kept_all : lost ≡ [] → Keeps extensions (schema_of schema) new
+  reported_kept_all nothing =
       nothing_lost extensions (schema_of schema) new subjects (map plain_difference lost) all answers (ap (map plain_difference) nothing)
 
 -- what is kept isn't lost
@@ -218,18 +218,18 @@ kept_not_lost extensions old new keeps (entity_lost it cause) ((real, of, none),
 kept_not_lost extensions old new keeps (action_lost it cause) ((real, of, none), true_one) = none (keeps.entities it real (inr of))
 kept_not_lost extensions old new keeps (request_lost it cause) ((real, of, none), true_one) = none (keeps.requests it real of)
 
--- so where all is kept, nothing is told
-pub no_losses : (extensions : Extensions) (old new : PlainSchema) → Keeps extensions old new → (told : List PlainDifference)
-    → AreLosses extensions old new told → told ≡ []
+-- so where all is kept, nothing is reported
+pub no_losses : (extensions : Extensions) (old new : PlainSchema) → Keeps extensions old new → (reported : List PlainDifference)
+    → AreLosses extensions old new reported → reported ≡ []
 no_losses extensions old new keeps [] losses = refl
 no_losses extensions old new keeps (it ∷ rest) losses =
     absurd (kept_not_lost extensions old new keeps it (losses.true_ones it (Contains-cons it rest it (inl refl))))
 
 -- the same of differences as a call gives them
-pub nothing_told : (extensions : Extensions) (old new : PlainSchema) → Keeps extensions old new → (lost : List Difference)
+pub nothing_reported : (extensions : Extensions) (old new : PlainSchema) → Keeps extensions old new → (lost : List Difference)
     → AreLosses extensions old new (map plain_difference lost) → lost ≡ []
-nothing_told extensions old new keeps [] losses = refl
-nothing_told extensions old new keeps (it ∷ rest) losses =
+nothing_reported extensions old new keeps [] losses = refl
+nothing_reported extensions old new keeps (it ∷ rest) losses =
     let none = no_losses extensions old new keeps (map plain_difference (it ∷ rest)) losses in absurd cc
 
 -- a schema has what stands under its names and uids once, since these are in order

@@ -5,11 +5,11 @@ use Rattle.std.specs.BTreeMap.{BTreeMap}
 use Rattle.std.specs.Ordering.{is_eq}
 use Rattle.std.specs.declared.alloc.Global.{Global}
 use Rattle.std.specs.declared.string.String.{String}
-use Rattle.cedar_below.proofs.Lists.{Contains-cons, Contains-cons_cases, Contains-preimage}
-use Rattle.cedar_below.proofs.ValueCopies.{uid_real}
+use Rattle.cedar_ast.proofs.Lists.{Contains-cons, Contains-cons_cases, Contains-preimage}
+use Rattle.cedar_ast.proofs.ValueCopies.{uid_real}
+use Rattle.cedar_compare.proofs.ReportedLemmas.{none_there}
 use Rattle.cedar_compare.specs.Words.{Entities, Entity, Entries, IsReal, IsValue, PlainUid, Value, entities_of, entity_at, entity_attrs, entity_tags, entity_uid, entries_from, map_value, named_values, no_entry, plain_action_entity, tree_of, uid_cmp, uid_of, uid_value, value_expr}
-use Rattle.cedar_compare.proofs.ToldLemmas.{none_there}
-use Rattle.cedar_declarations.proofs.OccurrenceLemmas.{uid_test}
+use Rattle.cedar_schema_semantics.proofs.OccurrenceLemmas.{uid_test}
 
 -- no values are no entries
 pub no_values : (values : BTreeMap (String Global) Value) → values.entries ≡ [] → named_values values ≡ no_entry

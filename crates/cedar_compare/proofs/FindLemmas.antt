@@ -5,9 +5,9 @@ use Rattle.std.specs.Bool.{Decides}
 use Rattle.std.specs.Map.{lookup}
 use Rattle.std.specs.Option.{option_map}
 use Rattle.std.specs.Ordering.{is_eq}
-use Rattle.cedar_below.proofs.Lists.{Contains-cons, Contains-cons_cases}
+use Rattle.cedar_ast.proofs.Lists.{Contains-cons, Contains-cons_cases}
 use Rattle.cedar_compare.specs.Words.{ActionKind, AreChoicesAt, DefinesAction, IsActionAt, IsAt, IsDefinedKind, IsKeyed, IsTypeAt, ListsDescendantAction, PlainName, PlainSchema, PlainUid, SchemaAction, SchemaEntityType, Text, ValidatorActionId, ValidatorEntityType, ValidatorSchema, action_entries, action_of, action_of_uid, defined_action, entity_type_named, external_action, kind_choices, name_cmp, plain_type, schema_entries, schema_of, type_name, uid_cmp, uid_of}
-use Rattle.cedar_declarations.proofs.OccurrenceLemmas.{name_test, uid_test}
+use Rattle.cedar_schema_semantics.proofs.OccurrenceLemmas.{name_test, uid_test}
 
 module _ {K V P D : Type 0} (f : K → P) (g : V → D) (name : P) (test : K → Bool)
     (decides : (key : K) → Decides (test key) (name ≡ f key)) where

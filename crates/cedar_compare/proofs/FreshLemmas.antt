@@ -6,7 +6,8 @@ use Rattle.cedar_compare.specs.Words.{HasAction, IsFreshIn, NoLongerChoice, Plai
 abbrev pub IsNoLonger : PlainName → ℕ → PlainUid → Type 0
 IsNoLonger name longest uid = uid.ty ≡ name → length uid.eid ≤ longest
 
--- a uid whose id is longer than those of all actions of its type, and than all choices of it, is fresh
+-- a uid whose id is longer than those of all actions of its type, and than all choices of it, is
+-- fresh
 pub fresh_of : (schema : PlainSchema) (name : PlainName) (uid : PlainUid) (longest chosen count : ℕ) → uid.ty ≡ name
     → length uid.eid ≡ count + 1 → longest ≤ count → chosen ≤ count
     → ((id : Text) → HasAction schema (record { ty = name; eid = id }) → length id ≤ longest)

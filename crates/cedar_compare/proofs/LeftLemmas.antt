@@ -1,7 +1,7 @@
 -- What is made sure of the members of a list, one after another.
 use Rattle.std.proofs.Common.{◌≡◌, ◌⊎◌, List, [], ◌∷◌, inl, inr, refl, subst, sym, ⊎_elim, Contains}
-use Rattle.cedar_below.proofs.Lists.{Contains-cons, Contains-cons_cases}
-use Rattle.cedar_compare.proofs.ToldLemmas.{none_there}
+use Rattle.cedar_ast.proofs.Lists.{Contains-cons, Contains-cons_cases}
+use Rattle.cedar_compare.proofs.ReportedLemmas.{none_there}
 
 -- of each member something is made sure, or it is left; and what is left is a member
 pub record SureSoFar {A : Type 0} (P : A → Type 0) (all left : List A) : Type 0 where

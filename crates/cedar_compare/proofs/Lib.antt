@@ -1,6 +1,7 @@
+pub mod ActionAncestorLemmas
 pub mod ActionLemmas
-pub mod ActionUpperLemmas
 pub mod AllLemmas
+pub mod AncestorLemmas
 pub mod AnswerLemmas
 pub mod BareLemmas
 pub mod BelowLemmas
@@ -12,6 +13,7 @@ pub mod FreshLemmas
 pub mod LeftLemmas
 pub mod LostLemmas
 pub mod NoTags
+pub mod ReportedLemmas
 pub mod RequestLemmas
 pub mod RequestSteps
 pub mod SameLemmas
@@ -19,6 +21,4 @@ pub mod SampledLemmas
 pub mod SortedLemmas
 pub mod StandLemmas
 pub mod TagLemmas
-pub mod ToldLemmas
-pub mod UpperLemmas
 pub mod UserLemmas

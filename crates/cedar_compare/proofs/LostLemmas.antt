@@ -1,11 +1,11 @@
 -- Entities that the new version of a schema lacks, and entity types of which it keeps all.
 use Rattle.std.proofs.Common.{◌≡◌, List, [], ◌∷◌, Some, None, inl, refl, ap, subst, sym, ⊎_elim, Contains}
-use Rattle.cedar_below.proofs.Lists.{Contains-cons, Contains-cons_cases}
-use Rattle.cedar_below.proofs.ValueLemmas.{IsText-nil}
-use Rattle.cedar_compare.specs.Words.{ActionEntity, AreTagsOf, AreTagsOutside, DefinesAction, EntityTypeKind, Entries, Extensions, Has, HasAction, IsAlike, IsCauseOfKinds, IsEntityOfKind, IsFreshEntity, IsIdOf, IsKeyed, IsLostEntity, IsOutsideAt, IsReal, IsSampleOf, IsStandard, IsTagOutside, IsTypeLoss, IsUpperCause, IsValue, KeepsEntityType, MayHave, MayStandAbove, PlainCause, PlainName, PlainSchema, PlainStep, PlainUid, SchemaAction, SchemaEntityType, Text, Tree, ValuesIncluded, attributes_outside, entity_lost, enumerated_kind, external_kind, gone, kind_choices, kind_fields, kind_openness, kind_tags, map_value, no_entry, one_tag, record_of, standard_kind, tags_outside, type_subject, uid_value}
+use Rattle.cedar_ast.proofs.Lists.{Contains-cons, Contains-cons_cases}
+use Rattle.cedar_ast.proofs.ValueLemmas.{IsText-nil}
 use Rattle.cedar_compare.proofs.NoTags.{no_tags}
-use Rattle.cedar_compare.proofs.ToldLemmas.{none_there}
-use Rattle.cedar_declarations.proofs.OccurrenceLemmas.{Contains-image}
+use Rattle.cedar_compare.proofs.ReportedLemmas.{none_there}
+use Rattle.cedar_compare.specs.Words.{ActionEntity, AreTagsOf, AreTagsOutside, DefinesAction, EntityTypeKind, Entries, Extensions, Has, HasAction, IsAlike, IsCauseOfKinds, IsEntityOfKind, IsFreshEntity, IsIdOf, IsKeyed, IsLostEntity, IsOutsideAt, IsReal, IsSampleOf, IsStandard, IsTagOutside, IsTypeLoss, IsAncestorCause, IsValue, KeepsEntityType, MayHave, MayStandAbove, PlainCause, PlainName, PlainSchema, PlainStep, PlainUid, SchemaAction, SchemaEntityType, Text, Tree, ValuesIncluded, attributes_outside, entity_lost, enumerated_kind, external_kind, removed, kind_choices, kind_fields, kind_openness, kind_tags, map_value, no_entry, one_tag, record_of, standard_kind, tags_outside, type_subject, uid_value}
+use Rattle.cedar_schema_semantics.proofs.OccurrenceLemmas.{Contains-image}
 
 -- entities of a kind may have an id where its choices, if it has some, say so
 pub id_of_choices : (kind : EntityTypeKind) (id : Text) → IsIdOf kind id → MayHave (kind_choices kind) id
@@ -24,7 +24,8 @@ defined_there schema uid (it, among, defined) =
     Contains-image (λ (entry : PlainUid × SchemaAction). entry.0) schema.actions (uid, it) among
 
 module _ (extensions : Extensions) (schema : PlainSchema) where
-  -- an entity of a standard kind has its attributes, its tags and uids above it that may stand there
+  -- an entity of a standard kind has its attributes, its tags and uids above it that may stand
+  -- there
   pub parts_of : (kind : EntityTypeKind) (it : ActionEntity) → IsStandard kind → IsEntityOfKind extensions schema kind it
       → Has extensions (map_value it.attributes) (record_of (kind_fields kind) (kind_openness kind))
       × AreTagsOf extensions (kind_tags kind) it.tags
@@ -54,8 +55,8 @@ module _ (extensions : Extensions) (old new : PlainSchema) where
     λ among. ⊎_elim (λ one. refused one.0 one.1 one.2) (λ action. no_action (defined_there new it.uid action.defined)) among,
   )
 
-  -- an entity of a standard type whose uid the new schema doesn't name is lost where no standard type
-  -- of the new one admits its attributes, its tags and what stands above it
+  -- an entity of a standard type whose uid the new schema doesn't name is lost where no standard
+  -- type of the new one admits its attributes, its tags and what stands above it
   lost_fresh : (it : ActionEntity) (ty : SchemaEntityType) (name : PlainName) → it.uid.ty ≡ name
       → IsFreshEntity new name it.attributes it.tags it.ancestors it
       → Contains old.entity_types (name, ty) → IsStandard ty.kind
@@ -115,7 +116,8 @@ module _ (extensions : Extensions) (old new : PlainSchema) where
       subst (λ u. P attributes tags u) fresh.ancestors_are
       (subst (λ t. P attributes t it.ancestors) fresh.tags_are (subst (λ a. P a it.tags it.ancestors) fresh.attributes_are here)) fresh
 
-  -- a standard type is kept where its attributes, its tags and what may stand above its entities are
+  -- a standard type is kept where its attributes, its tags and what may stand above its entities
+  -- are
   pub kept_standard : (name : PlainName) (ty other : SchemaEntityType) → IsKeyed old
       → Contains old.entity_types (name, ty) → Contains new.entity_types (name, other)
       → IsStandard ty.kind → IsStandard other.kind
@@ -161,11 +163,11 @@ cause_of_attributes extensions _ _ steps standard standard' outside = absurd ass
 module _ (extensions : Extensions) (old new : PlainSchema) (name : PlainName) (ty : SchemaEntityType)
     (there : Contains old.entity_types (name, ty)) where
   -- a standard type is lost where the new schema has none of the name
-  pub gone_loss : (it : ActionEntity) (attributes : Entries) → IsKeyed old → IsStandard ty.kind
+  pub removed_loss : (it : ActionEntity) (attributes : Entries) → IsKeyed old → IsStandard ty.kind
       → IsFreshEntity new name attributes no_entry [] it → IsSampleOf extensions (kind_fields ty.kind) (kind_openness ty.kind) attributes
       → ((other : SchemaEntityType) → Contains new.entity_types (name, other) → ¬ IsStandard other.kind)
-      → IsTypeLoss extensions old new name (entity_lost it gone)
-  gone_loss it attributes keyed standard fresh sample lacking = (
+      → IsTypeLoss extensions old new name (entity_lost it removed)
+  removed_loss it attributes keyed standard fresh sample lacking = (
     ap type_subject fresh.fresh.ty,
     (
       lost_with extensions old new it ty name attributes no_entry [] fresh there standard sample tt (no_tags extensions (kind_tags ty.kind))
@@ -237,7 +239,7 @@ module _ (extensions : Extensions) (old new : PlainSchema) (name : PlainName) (t
       → IsFreshEntity new name attributes no_entry (upper ∷ []) it
       → IsSampleOf extensions (kind_fields ty.kind) (kind_openness ty.kind) attributes
       → IsValue (uid_value upper) → MayStandAbove old name upper → ¬ MayStandAbove new name upper
-      → IsUpperCause extensions old new name upper cause
+      → IsAncestorCause extensions old new name upper cause
       → IsTypeLoss extensions old new name (entity_lost it cause)
   below_loss it attributes upper cause standard fresh sample real may may_not true_cause = (
     ap type_subject fresh.fresh.ty,

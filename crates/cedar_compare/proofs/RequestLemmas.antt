@@ -1,7 +1,7 @@
 -- Requests that the new version of a schema lacks, and environments of which it keeps all.
 use Rattle.std.proofs.Common.{◌≡◌, List, Option, Some, None, refl, ap, subst, sym, ◌∙◌, Contains}
-use Rattle.cedar_compare.specs.Words.{ActionKind, AreChoicesAt, Environment, Extensions, Has, IsEnvironmentOf, IsIdOf, IsKeyed, IsLostRequest, IsOfTypes, IsRealRequest, IsRequestIn, IsRequestOf, IsUidOfType, IsUidOutside, KeepsRequest, LacksChoice, MayHave, MayHaveId, PlainName, PlainRequest, PlainSchema, PlainUid, SchemaAction, SchemaEntityType, Text, Ty, ValuesIncluded, defined_action, external_action}
 use Rattle.cedar_compare.proofs.LostLemmas.{choices_of_id, id_of_choices}
+use Rattle.cedar_compare.specs.Words.{ActionKind, AreChoicesAt, Environment, Extensions, Has, IsEnvironmentOf, IsIdOf, IsKeyed, IsLostRequest, IsOfTypes, IsRealRequest, IsRequestIn, IsRequestOf, IsUidOfType, IsUidOutside, KeepsRequest, LacksChoice, MayHave, MayHaveId, PlainName, PlainRequest, PlainSchema, PlainUid, SchemaAction, SchemaEntityType, Text, Ty, ValuesIncluded, defined_action, external_action}
 
 module _ (schema : PlainSchema) (keyed : IsKeyed schema) where
   -- the schema may have the uid where the choices of its type say so

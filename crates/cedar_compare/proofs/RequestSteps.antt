@@ -1,4 +1,4 @@
--- What is told of the environments of an action, one after another.
+-- What is reported of the environments of an action, one after another.
 use Rattle.std.proofs.Common.{◌≡◌, ◌⊎◌, ℕ, ◌<◌, ◌+◌, List, [], ◌∷◌, ◌++◌, Option, Some, None, get_or, length, take, inl, inr, refl, ap, subst, sym, ◌∙◌, ⊎_elim, map, Contains}
 use Rattle.std.proofs.lemmas.Grind.{flat_map-append}
 use Rattle.std.proofs.lemmas.List.{append-nil, take_more}
@@ -7,13 +7,13 @@ use Rattle.std.specs.List.{flat_map}
 use Rattle.std.specs.List.Sorted.{IsStrictlySortedBy}
 use Rattle.std.specs.Option.{option_map}
 use Rattle.std.specs.declared.cmp.Ordering.TheVariants.{Less}
-use Rattle.cedar_below.proofs.Lists.{Contains-cons, Contains-cons_cases, Contains-preimage}
-use Rattle.cedar_compare.specs.Words.{ActionKind, AreActionAnswers, AreAnswers, Environment, Extensions, Has, HasEnvironment, IsActionAt, IsAnswer, IsAppliedBy, IsContextIn, IsContextOf, IsContextOutside, IsEnvironmentFor, IsEnvironmentLacking, IsEnvironmentOf, IsKeyed, IsLostRequest, IsOfTypes, IsOutsideAt, IsRequestOf, IsSampleRequest, IsUidOfType, IsUidOutside, KeepsOf, LacksChoice, MayHaveId, PlainDifference, PlainName, PlainRequest, PlainSchema, PlainStep, PlainUid, SameItems, SchemaAction, Subject, Tree, Ty, choice_gone, context_at, context_outside, defined_action, environment_subject, external_action, gone, kind_context, kind_principals, kind_resources, name_cmp, request_lost, subject_cmp, subjects_with}
+use Rattle.cedar_ast.proofs.Lists.{Contains-cons, Contains-cons_cases, Contains-preimage}
 use Rattle.cedar_compare.proofs.AllLemmas.{principals_below}
+use Rattle.cedar_compare.proofs.ReportedLemmas.{AnswersSoFar, answered_append, answered_none, map_append, none_there, reported_lost}
 use Rattle.cedar_compare.proofs.RequestLemmas.{kept_requests, lacking, lost_request}
 use Rattle.cedar_compare.proofs.SortedLemmas.{all_at}
-use Rattle.cedar_compare.proofs.ToldLemmas.{AnswersSoFar, answered_append, answered_none, map_append, none_there, told_lost}
-use Rattle.cedar_declarations.proofs.OccurrenceLemmas.{Contains-flat_map, Contains-given, Contains-image}
+use Rattle.cedar_compare.specs.Words.{ActionKind, AreActionAnswers, AreAnswers, Environment, Extensions, Has, HasEnvironment, IsActionAt, IsAnswer, IsAppliedBy, IsContextIn, IsContextOf, IsContextOutside, IsEnvironmentFor, IsEnvironmentLacking, IsEnvironmentOf, IsKeyed, IsLostRequest, IsOfTypes, IsOutsideAt, IsRequestOf, IsSampleRequest, IsUidOfType, IsUidOutside, KeepsOf, LacksChoice, MayHaveId, PlainDifference, PlainName, PlainRequest, PlainSchema, PlainStep, PlainUid, SameItems, SchemaAction, Subject, Tree, Ty, choice_removed, context_at, context_outside, defined_action, environment_subject, external_action, removed, kind_context, kind_principals, kind_resources, name_cmp, request_lost, subject_cmp, subjects_with}
+use Rattle.cedar_schema_semantics.proofs.OccurrenceLemmas.{Contains-flat_map, Contains-given, Contains-image}
 
 -- the context of an environment is that of its action
 kind_of_environment : (kind : ActionKind) (environment : Environment) → IsRequestOf kind environment
@@ -86,7 +86,7 @@ module _ (extensions : Extensions) (old new : PlainSchema) (principal : PlainNam
       resource_type = ap (λ (u : PlainUid). u.ty) sample.resource_is ∙ of_second.0;
     }
 
-    -- so it is told of its environment
+    -- so it is reported of its environment
     sample_subject : environment_subject it.principal.ty it.action it.resource.ty ≡ environment_subject principal uid resource
     sample_subject =
         ap (λ p. environment_subject p it.action it.resource.ty) sample_types.principal_type
@@ -112,9 +112,9 @@ module _ (extensions : Extensions) (old new : PlainSchema) (principal : PlainNam
         (environment.context, of)))
 
     -- the difference of an environment that the new schema lacks
-    pub gone_answer : IsEnvironmentLacking new principal uid resource
-        → IsAnswer extensions old new (environment_subject principal uid resource) (Some (request_lost it gone))
-    gone_answer lacks = (
+    pub removed_answer : IsEnvironmentLacking new principal uid resource
+        → IsAnswer extensions old new (environment_subject principal uid resource) (Some (request_lost it removed))
+    removed_answer lacks = (
       sample_subject,
       (
         sample_lost (λ other of has may may'. lacks (other, of)),
@@ -124,7 +124,7 @@ module _ (extensions : Extensions) (old new : PlainSchema) (principal : PlainNam
 
     -- that of one whose principal or resource may have an id which the new schema's may not
     pub choice_answer : (lost : PlainUid) → (lost ≡ first) ⊎ (lost ≡ second) → LacksChoice new lost
-        → IsAnswer extensions old new (environment_subject principal uid resource) (Some (request_lost it (choice_gone lost)))
+        → IsAnswer extensions old new (environment_subject principal uid resource) (Some (request_lost it (choice_removed lost)))
     choice_answer lost is lacks =
         let is_one : (lost ≡ it.principal) ⊎ (lost ≡ it.resource) =
         ⊎_elim (λ one. inl (one ∙ sym sample.principal_is)) (λ other. inr (other ∙ sym sample.resource_is)) is in (
@@ -139,11 +139,11 @@ module _ (extensions : Extensions) (old new : PlainSchema) (principal : PlainNam
         )
 
     -- that of one whose context the new schema's can't be
-    pub context_answer : IsKeyed new → (o : Option SchemaAction) → IsActionAt new uid o → (value : Tree) (steps told : List PlainStep)
-        → IsContextOutside extensions ty (context_at o) (Some (value, steps)) → it.context ≡ value → told ≡ steps
+    pub context_answer : IsKeyed new → (o : Option SchemaAction) → IsActionAt new uid o → (value : Tree) (steps reported : List PlainStep)
+        → IsContextOutside extensions ty (context_at o) (Some (value, steps)) → it.context ≡ value → reported ≡ steps
         → HasEnvironment new principal uid resource
-        → IsAnswer extensions old new (environment_subject principal uid resource) (Some (request_lost it (context_outside told)))
-    context_answer keyed o at value steps told (upper, is, real, has, hasn't, outside) same same_steps (other, still) =
+        → IsAnswer extensions old new (environment_subject principal uid resource) (Some (request_lost it (context_outside reported)))
+    context_answer keyed o at value steps reported (upper, is, real, has, hasn't, outside) same same_steps (other, still) =
         let upper_is : (one : Ty)
         → IsEnvironmentOf new (record { principal = principal; action = uid; resource = resource; context = one }) → upper ≡ one = λ one of.
         some_same upper one (sym is ∙ context_there new uid keyed o at principal resource one of) in (
@@ -187,23 +187,23 @@ front_below (first ∷ front) name rest sorted other among = ⊎_elim
     (Contains-cons_cases first front other among)
 
 module _ (extensions : Extensions) (old new : PlainSchema) where
-  -- what is found of a subject is added to what is told
-  pub told_found : (all rest : List Subject) (told : List PlainDifference) (first : Subject) (it : PlainDifference)
+  -- what is found of a subject is added to what is reported
+  pub reported_found : (all rest : List Subject) (reported : List PlainDifference) (first : Subject) (it : PlainDifference)
       → IsAnswer extensions old new first (Some it)
-      → AnswersSoFar extensions old new all (first ∷ rest) told → AnswersSoFar extensions old new all rest (told ++ it ∷ [])
-  told_found all rest told first it answer so_far = told_lost extensions old new all rest told first it answer.0 answer.1 so_far
+      → AnswersSoFar extensions old new all (first ∷ rest) reported → AnswersSoFar extensions old new all rest (reported ++ it ∷ [])
+  reported_found all rest reported first it answer so_far = reported_lost extensions old new all rest reported first it answer.0 answer.1 so_far
 
   -- the answers to the environments of one more principal
   pub principals_more : (uid : PlainUid) (resources front : List PlainName) (principal : PlainName) (rest : List PlainName)
-      (told more : List PlainDifference) → IsStrictlySortedBy name_cmp (front ++ principal ∷ rest)
-      → AreAnswers extensions old new (flat_map (λ p. subjects_with uid p resources) front) told
+      (reported more : List PlainDifference) → IsStrictlySortedBy name_cmp (front ++ principal ∷ rest)
+      → AreAnswers extensions old new (flat_map (λ p. subjects_with uid p resources) front) reported
       → AreAnswers extensions old new (subjects_with uid principal resources) more
-      → AreAnswers extensions old new (flat_map (λ p. subjects_with uid p resources) (front ++ principal ∷ [])) (told ++ more)
-  principals_more uid resources front principal rest told more sorted one other =
+      → AreAnswers extensions old new (flat_map (λ p. subjects_with uid p resources) (front ++ principal ∷ [])) (reported ++ more)
+  principals_more uid resources front principal rest reported more sorted one other =
       let with : PlainName → List Subject = λ p. subjects_with uid p resources in
-      let P : List Subject → Type 0 = λ subjects. AreAnswers extensions old new subjects (told ++ more) in
+      let P : List Subject → Type 0 = λ subjects. AreAnswers extensions old new subjects (reported ++ more) in
       subst P (sym (flat_map-append with front (principal ∷ []) ∙ ap (λ xs. flat_map with front ++ xs) (append-nil (with principal))))
-      (answered_append extensions old new (flat_map with front) (with principal) told more below one other)
+      (answered_append extensions old new (flat_map with front) (with principal) reported more below one other)
     where
       -- the environments so far are below those of the principal
       below : (a b : Subject) → Contains (flat_map (λ p. subjects_with uid p resources) front) a
@@ -215,7 +215,7 @@ module _ (extensions : Extensions) (old new : PlainSchema) where
           subst (λ s. subject_cmp s b ≡ Less) one.2 (subst (λ s. subject_cmp (environment_subject found.0 uid one.0) s ≡ Less) other.2
           (principals_below uid found.0 principal one.0 other.0 (front_below front principal rest sorted found.0 found.1)))
 
-  -- where no context is at a uid, nothing is told of its environments
+  -- where no context is at a uid, nothing is reported of its environments
   pub no_answers : IsKeyed old → (uid : PlainUid) (o : Option SchemaAction) → IsActionAt old uid o → context_at o ≡ None
       → AreActionAnswers extensions old new uid []
   no_answers keyed uid o at nothing = (
@@ -247,11 +247,11 @@ module _ (extensions : Extensions) (old new : PlainSchema) where
     )
 
     -- the answers to the environments of its principals and its resources are those to the action
-    pub action_answers : IsKeyed old → (principals resources : List PlainName) (told : List PlainDifference)
+    pub action_answers : IsKeyed old → (principals resources : List PlainName) (reported : List PlainDifference)
         → SameItems principals (kind_principals action.kind) → SameItems resources (kind_resources action.kind)
-        → AreAnswers extensions old new (flat_map (λ p. subjects_with uid p resources) principals) told
-        → AreActionAnswers extensions old new uid told
-    action_answers keyed principals resources told first second answers = (
+        → AreAnswers extensions old new (flat_map (λ p. subjects_with uid p resources) principals) reported
+        → AreActionAnswers extensions old new uid reported
+    action_answers keyed principals resources reported first second answers = (
       flat_map with principals,
       record {
         all = λ it (other, there', of) named. (let same : action ≡ other =
@@ -273,7 +273,8 @@ module _ (extensions : Extensions) (old new : PlainSchema) where
         with : PlainName → List Subject
         with = λ p. subjects_with uid p resources
 
--- where one more item is copied as one that stands for the same, the copies stand for one more of the items
+-- where one more item is copied as one that stands for the same, the copies stand for one more of
+-- the items
 pub copied_more : {A B : Type 0} (f : A → B) (items copies more : List A) (i : ℕ) (item copy : A) → i < length items
     → item ≡ get_or items i item → map f copies ≡ map f (take i items) → more ≡ copies ++ copy ∷ [] → f copy ≡ f item
     → map f more ≡ map f (take (i + 1) items)

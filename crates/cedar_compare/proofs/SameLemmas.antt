@@ -1,7 +1,7 @@
 -- A schema keeps all that another admits which is the same.
 use Rattle.std.proofs.Common.{◌≡◌, inl, inr, subst, sym, ◌∙◌, ⊎_elim, Contains}
 use Rattle.cedar_compare.specs.Words.{ActionEntity, ActionKind, EntityTypeKind, Environment, Extensions, HoldsPairwise, IsDefinedKind, IsEntityIn, IsEntityOfKind, IsIdOf, IsRequestIn, IsRequestOf, Keeps, ListsDescendantAction, MayHaveId, MayStandAbove, PlainName, PlainRequest, PlainSchema, PlainUid, SameAction, SameActionKind, SameEntityType, SameItems, SameSchema, SchemaAction, SchemaEntityType, defined_action, enumerated_kind, external_action, external_kind, standard_kind}
-use Rattle.cedar_declarations.proofs.TurnLemmas.{turn_back, turn_forth}
+use Rattle.cedar_schema_semantics.proofs.TurnLemmas.{turn_back, turn_forth}
 
 -- the same entity types the other way round
 type_back : (it other : PlainName × SchemaEntityType) → SameEntityType it other → SameEntityType other it
@@ -55,7 +55,8 @@ asked_like (defined_action p r c) (defined_action q s d) it same of =
 asked_like _ _ it same of = absurd assumption
 
 module _ (schema other : PlainSchema) (alike : AreAlike schema other) where
-  -- an entity type of the one schema is one of the other, of the same kind and with the same descendants
+  -- an entity type of the one schema is one of the other, of the same kind and with the same
+  -- descendants
   type_there : (name : PlainName) (it : SchemaEntityType) → Contains schema.entity_types (name, it)
       → (found : SchemaEntityType) × Contains other.entity_types (name, found) × (it.kind ≡ found.kind)
       × SameItems it.descendants found.descendants
@@ -64,7 +65,8 @@ module _ (schema other : PlainSchema) (alike : AreAlike schema other) where
       let P : PlainName → Type 0 = λ key. Contains other.entity_types (key, found.0.1) in
       (found.0.1, subst P (sym found.2.key) found.1, found.2.kind, found.2.descendants)
 
-  -- an action of the one schema is one of the other, for the same requests and with the same descendants
+  -- an action of the one schema is one of the other, for the same requests and with the same
+  -- descendants
   action_there : (uid : PlainUid) (it : SchemaAction) → Contains schema.actions (uid, it)
       → (found : SchemaAction) × Contains other.actions (uid, found) × SameActionKind it.kind found.kind
       × SameItems it.descendants found.descendants

@@ -1,10 +1,10 @@
--- Types that are inhabited by samples, told by their leaves.
+-- Types that are inhabited by samples, reported by their leaves.
 use Rattle.std.proofs.Common.{◌≡◌, List, [], ◌++◌, Some, None, inl, inr, refl, subst, sym, ⊎_elim, Contains}
 use Rattle.std.proofs.lemmas.List.Elements.{Contains-append_left, Contains-append_right}
 use Rattle.std.specs.Option.{option_to_list}
-use Rattle.cedar_below.proofs.Lists.{Contains-cons}
+use Rattle.cedar_ast.proofs.Lists.{Contains-cons}
 use Rattle.cedar_compare.specs.Words.{ActionKind, AreInhabitedWith, EntityTypeKind, Extensions, Fields, IsContextIn, IsContextOf, IsInhabitedWith, IsSchemaSampled, IsStandard, IsTypeOfKind, PlainName, PlainSchema, PlainUid, SchemaAction, SchemaEntityType, Tree, Ty, context_types, defined_action, end, entity_type_types, enumerated_kind, external_action, external_kind, field, field_types, kind_context, kind_fields, kind_openness, kind_tags, leaves, leaves_of_fields, record_of, schema_leaves, set_of, standard_kind}
-use Rattle.cedar_declarations.proofs.OccurrenceLemmas.{Contains-given}
+use Rattle.cedar_schema_semantics.proofs.OccurrenceLemmas.{Contains-given}
 
 module _ (extensions : Extensions) (samples : List Tree) where
   mutual

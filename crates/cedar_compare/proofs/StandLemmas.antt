@@ -1,7 +1,7 @@
--- What may stand above entities, told by the entity type of a name.
+-- What may stand above entities, reported by the entity type of a name.
 use Rattle.std.proofs.Common.{refl, subst, Contains}
-use Rattle.cedar_compare.specs.Words.{EntityTypeKind, Extensions, IsEntityOfKind, IsEnumerated, IsKeyed, MayHave, MayStandAbove, PlainName, PlainSchema, PlainUid, SchemaEntityType, Text, bare_entity, enumerated_kind, kind_choices}
 use Rattle.cedar_compare.proofs.LostLemmas.{choices_of_id, id_of_choices}
+use Rattle.cedar_compare.specs.Words.{EntityTypeKind, Extensions, IsEntityOfKind, IsEnumerated, IsKeyed, MayHave, MayStandAbove, PlainName, PlainSchema, PlainUid, SchemaEntityType, Text, bare_entity, enumerated_kind, kind_choices}
 
 module _ (schema : PlainSchema) (name : PlainName) (upper : PlainUid) (ty : SchemaEntityType)
     (there : Contains schema.entity_types (upper.ty, ty)) where

@@ -1,6 +1,6 @@
 -- Schemas of one entity type.
 use Rattle.std.proofs.Common.{◌≡◌, [], ◌∷◌, Contains, ap, arith, inl, refl, subst, sym, ⊎_elim}
-use Rattle.cedar_below.proofs.Lists.{Contains-cons, Contains-cons_cases}
+use Rattle.cedar_ast.proofs.Lists.{Contains-cons, Contains-cons_cases}
 use Rattle.cedar_compare.specs.Words.{ActionEntity, EntityTypeKind, Extensions, IsEntityIn, IsEntityOfKind, IsEntityOfType, IsName, IsReal, IsText, Keeps, LosesEntityType, MayStandAbove, PlainName, PlainUid, SchemaEntityType, Text, no_entry, user, user_of, users}
 
 -- nothing is among no members

@@ -1,9 +1,9 @@
 -- The ids that entities of a type may have.
 use Rattle.std.specs.Prelude.{List, Option, Some, None, Contains, map}
-use Rattle.cedar_below.specs.Words.{Text, eid_text, items_of}
-use Rattle.cedar_below.specs.declared.eid.Eid.{Eid}
-use Rattle.cedar_below.specs.declared.non_empty.NonEmpty.{NonEmpty}
-use Rattle.cedar_declarations.specs.EntityTypeKind.{EntityTypeKind, standard_kind, enumerated_kind, external_kind}
+use Rattle.cedar_ast.specs.Words.{Text, eid_text, items_of}
+use Rattle.cedar_ast.specs.declared.eid.Eid.{Eid}
+use Rattle.cedar_ast.specs.declared.non_empty.NonEmpty.{NonEmpty}
+use Rattle.cedar_schema_semantics.specs.EntityTypeKind.{EntityTypeKind, standard_kind, enumerated_kind, external_kind}
 
 -- the choices of a kind; only enumerated entity types have some
 abbrev pub kind_choices : EntityTypeKind → Option (List Text)

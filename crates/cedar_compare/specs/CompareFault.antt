@@ -1,14 +1,14 @@
 -- Why two versions of a schema aren't compared.
 use Rattle.std.specs.Prelude.{◌≡◌, ◌++◌, List, ℕ, Contains, codes, string_bytes}
-use Rattle.cedar_below.specs.declared.extension.Extensions.{Extensions}
-use Rattle.cedar_below.specs.Words.{PlainName, PlainUid, Tree}
+use Rattle.cedar_ast.specs.Words.{PlainName, PlainUid, Tree}
+use Rattle.cedar_ast.specs.declared.extension.Extensions.{Extensions}
+use Rattle.cedar_compare.specs.Versions.{IsSchemaSampled}
 use Rattle.cedar_compare.specs.declared.compare_fault.CompareFault.{CompareFault}
 use Rattle.cedar_compare.specs.declared.compare_fault.CompareFault.TheVariants as fault
-use Rattle.cedar_compare.specs.declared.compare_fault.Version.TheVariants.{New, Old}
 use Rattle.cedar_compare.specs.declared.compare_fault.Version.{Version}
-use Rattle.cedar_compare.specs.Versions.{IsSchemaSampled}
-use Rattle.cedar_declarations.specs.Words.{PlainSchema, SchemaAction, SchemaEntityType, external_action, external_kind}
+use Rattle.cedar_compare.specs.declared.compare_fault.Version.TheVariants.{New, Old}
 use Rattle.cedar_queries.specs.Leaves.{schema_leaves}
+use Rattle.cedar_schema_semantics.specs.Words.{PlainSchema, SchemaAction, SchemaEntityType, external_action, external_kind}
 use Rattle.cedar_type_rules.specs.Words.{IsInhabitedWith, Ty, ty_text}
 
 -- the word for a version

@@ -1,16 +1,16 @@
 -- Differences between two versions of a schema.
-use Rattle.std.specs.Prelude.{◌≡◌, ◌↔◌, ◌⊎◌, List, [], Option, Some, None, Contains, map}
 use Rattle.std.specs.List.Sorted.{IsStrictlySortedBy}
 use Rattle.std.specs.Ordering.{ordering_then}
+use Rattle.std.specs.Prelude.{◌≡◌, ◌↔◌, ◌⊎◌, List, [], Option, Some, None, Contains, map}
 use Rattle.std.specs.declared.cmp.Ordering.{Ordering}
 use Rattle.std.specs.declared.cmp.Ordering.TheVariants.{Less, Greater}
-use Rattle.cedar_below.specs.Words.{PlainName, PlainUid, name_cmp, uid_cmp}
-use Rattle.cedar_below.specs.declared.extension.Extensions.{Extensions}
+use Rattle.cedar_ast.specs.Words.{PlainName, PlainUid, name_cmp, uid_cmp}
+use Rattle.cedar_ast.specs.declared.extension.Extensions.{Extensions}
 use Rattle.cedar_compare.specs.Choices.{MayHave, kind_choices}
 use Rattle.cedar_compare.specs.Keeps.{IsLostAction, IsLostEntity, IsLostRequest, KeepsAction, KeepsEntityType, KeepsRequest, LosesAction, LosesEntityType, LosesRequest}
 use Rattle.cedar_compare.specs.Requests.{IsOfTypes, PlainRequest}
 use Rattle.cedar_counterexample.specs.Steps.{IsOutsideAt, PlainStep}
-use Rattle.cedar_declarations.specs.Words.{ActionEntity, DefinesAction, EntityTypeKind, Environment, IsEnvironmentOf, ListsDescendant, ListsDescendantAction, PlainSchema, SchemaEntityType, enumerated_kind, external_kind, standard_kind}
+use Rattle.cedar_schema_semantics.specs.Words.{ActionEntity, DefinesAction, EntityTypeKind, Environment, IsEnvironmentOf, ListsDescendant, ListsDescendantAction, PlainSchema, SchemaEntityType, enumerated_kind, external_kind, standard_kind}
 use Rattle.cedar_type_rules.specs.Ty.{Ty, record_of}
 
 -- what a difference is of: an entity type, an action, or an environment by its principal, its
@@ -34,8 +34,8 @@ subject_cmp (environment_subject p a r) _ = Greater
 
 -- why something is lost, as plain data
 pub data PlainCause : Type 0 where
-  gone : PlainCause
-  choice_gone : PlainUid → PlainCause
+  removed : PlainCause
+  choice_removed : PlainUid → PlainCause
   type_above : PlainName → PlainCause
   action_above : PlainUid → PlainCause
   attributes_outside : List PlainStep → PlainCause
@@ -90,11 +90,11 @@ IsCauseOfKinds extensions old new cause = ⊥
 -- a cause is true of an entity of an entity type that is lost
 abbrev pub IsTypeCause : Extensions → PlainSchema → PlainSchema → ActionEntity → PlainCause → Type 0
 -- the new schema has no such entity type, or has it of another sort
-IsTypeCause extensions old new it gone =
+IsTypeCause extensions old new it removed =
     (ty other : SchemaEntityType) → Contains old.entity_types (it.uid.ty, ty)
     → Contains new.entity_types (it.uid.ty, other) → ¬ IsAlike ty.kind other.kind
 -- an enumerated type is without the choice that the entity, or one above it, is
-IsTypeCause extensions old new it (choice_gone uid) =
+IsTypeCause extensions old new it (choice_removed uid) =
     ((uid ≡ it.uid) ⊎ Contains it.ancestors uid) × LacksChoice new uid
 -- an entity type is no longer above
 IsTypeCause extensions old new it (type_above upper) =
@@ -108,7 +108,7 @@ IsTypeCause extensions old new it cause =
 -- a cause is true of an action whose entity is lost: the new schema doesn't define it, or one of
 -- the two schemas alone lists it below the other action
 abbrev pub IsActionCause : PlainSchema → PlainSchema → PlainUid → PlainCause → Type 0
-IsActionCause old new uid gone = ¬ DefinesAction new uid
+IsActionCause old new uid removed = ¬ DefinesAction new uid
 IsActionCause old new uid (action_above upper) =
     (ListsDescendantAction old uid upper × ¬ ListsDescendantAction new uid upper)
     ⊎ (ListsDescendantAction new uid upper × ¬ ListsDescendantAction old uid upper)
@@ -123,10 +123,10 @@ IsEnvironmentFor schema it environment = IsEnvironmentOf schema environment
 abbrev pub IsRequestCause : Extensions → PlainSchema → PlainSchema → PlainRequest → PlainCause
     → Type 0
 -- the new schema has no such environment
-IsRequestCause extensions old new it gone =
+IsRequestCause extensions old new it removed =
     (environment : Environment) → ¬ IsEnvironmentFor new it environment
 -- an enumerated type is without the choice that the principal or the resource is
-IsRequestCause extensions old new it (choice_gone uid) =
+IsRequestCause extensions old new it (choice_removed uid) =
     ((uid ≡ it.principal) ⊎ (uid ≡ it.resource)) × LacksChoice new uid
 -- a part of the context's type isn't included
 IsRequestCause extensions old new it (context_outside steps) =
@@ -164,22 +164,22 @@ IsAnswer extensions old new subject None = KeepsOf extensions old new subject
 IsAnswer extensions old new subject (Some difference) =
     (subject_of difference ≡ subject) × IsLoss extensions old new difference
 
--- what is told of some subjects: each is kept or told, what is told is a true difference of one of
--- them, and all is in the order of the subjects
+-- what is reported of some subjects: each is kept or reported, what is reported is a true
+-- difference of one of them, and all is in the order of the subjects
 pub record AreAnswers (extensions : Extensions) (old new : PlainSchema) (subjects : List Subject)
-    (told : List PlainDifference) : Type 0 where
+    (reported : List PlainDifference) : Type 0 where
   pub each : (subject : Subject) → Contains subjects subject
-      → KeepsOf extensions old new subject ⊎ Contains (map subject_of told) subject
-  pub true_ones : (it : PlainDifference) → Contains told it → IsLoss extensions old new it
-  pub among : (subject : Subject) → Contains (map subject_of told) subject
+      → KeepsOf extensions old new subject ⊎ Contains (map subject_of reported) subject
+  pub true_ones : (it : PlainDifference) → Contains reported it → IsLoss extensions old new it
+  pub among : (subject : Subject) → Contains (map subject_of reported) subject
       → Contains subjects subject
-  pub in_order : IsStrictlySortedBy subject_cmp (map subject_of told)
+  pub in_order : IsStrictlySortedBy subject_cmp (map subject_of reported)
 
 -- the differences are just those by which the new schema loses something of the old one: each is
--- true, each subject that loses something is told, once, and all are in order
+-- true, each subject that loses something is reported, once, and all are in order
 pub record AreLosses (extensions : Extensions) (old new : PlainSchema)
-    (told : List PlainDifference) : Type 0 where
-  pub each : (subject : Subject) → Contains (map subject_of told) subject
+    (reported : List PlainDifference) : Type 0 where
+  pub each : (subject : Subject) → Contains (map subject_of reported) subject
       ↔ LosesOf extensions old new subject
-  pub true_ones : (it : PlainDifference) → Contains told it → IsLoss extensions old new it
-  pub in_order : IsStrictlySortedBy subject_cmp (map subject_of told)
+  pub true_ones : (it : PlainDifference) → Contains reported it → IsLoss extensions old new it
+  pub in_order : IsStrictlySortedBy subject_cmp (map subject_of reported)

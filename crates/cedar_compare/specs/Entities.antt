@@ -1,8 +1,8 @@
 -- The entities that a schema admits.
 use Rattle.std.specs.Prelude.{◌≡◌, ◌⊎◌, [], Option, Some, None, Contains}
-use Rattle.cedar_below.specs.Words.{Entries, IsValue, PlainName, PlainUid, Text, Tree, entry_at, map_value, no_entry, uid_value}
-use Rattle.cedar_below.specs.declared.extension.Extensions.{Extensions}
-use Rattle.cedar_declarations.specs.Words.{ActionEntity, EntityTypeKind, IsEntityOfAction, PlainSchema, SchemaEntityType, enumerated_kind, external_kind, standard_kind}
+use Rattle.cedar_ast.specs.Words.{Entries, IsValue, PlainName, PlainUid, Text, Tree, entry_at, map_value, no_entry, uid_value}
+use Rattle.cedar_ast.specs.declared.extension.Extensions.{Extensions}
+use Rattle.cedar_schema_semantics.specs.Words.{ActionEntity, EntityTypeKind, IsEntityOfAction, PlainSchema, SchemaEntityType, enumerated_kind, external_kind, standard_kind}
 use Rattle.cedar_type_rules.specs.Words.{Has, Ty, record_of}
 
 -- an entity is one of the language: its uid, its attributes, its tags and the uids above it are

@@ -1,8 +1,8 @@
 -- Uids that a schema doesn't name.
 use Rattle.std.specs.Prelude.{◌≡◌, ◌≤◌, ℕ, List, Some, Contains, length}
-use Rattle.cedar_below.specs.Words.{PlainName, PlainUid, Text}
+use Rattle.cedar_ast.specs.Words.{PlainName, PlainUid, Text}
 use Rattle.cedar_compare.specs.Choices.{kind_choices}
-use Rattle.cedar_declarations.specs.Words.{HasAction, PlainSchema, SchemaEntityType}
+use Rattle.cedar_schema_semantics.specs.Words.{HasAction, PlainSchema, SchemaEntityType}
 
 -- the uid is of the type, and the schema names it nowhere: it is no action of it, and no choice of
 -- an entity type of it

@@ -1,10 +1,10 @@
 -- What a new version of a schema keeps of an old one.
 use Rattle.std.specs.Prelude.{◌≡◌}
-use Rattle.cedar_below.specs.Words.{PlainName, PlainUid}
-use Rattle.cedar_below.specs.declared.extension.Extensions.{Extensions}
+use Rattle.cedar_ast.specs.Words.{PlainName, PlainUid}
+use Rattle.cedar_ast.specs.declared.extension.Extensions.{Extensions}
 use Rattle.cedar_compare.specs.Entities.{IsEntityIn, IsEntityOfType, IsReal}
 use Rattle.cedar_compare.specs.Requests.{IsOfTypes, IsRealRequest, IsRequestIn, PlainRequest}
-use Rattle.cedar_declarations.specs.Words.{ActionEntity, IsEntityOfAction, PlainSchema}
+use Rattle.cedar_schema_semantics.specs.Words.{ActionEntity, IsEntityOfAction, PlainSchema}
 
 -- every entity and every request of the old schema is one of the new
 pub record Keeps (extensions : Extensions) (old new : PlainSchema) : Type 0 where

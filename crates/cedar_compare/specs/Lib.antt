@@ -1,3 +1,4 @@
+pub mod Ancestors
 pub mod Choices
 pub mod CompareFault
 pub mod Difference
@@ -9,10 +10,9 @@ pub mod Losses
 pub mod LostEntities
 pub mod LostRequests
 pub mod PlainRequests
+pub mod Reported
 pub mod Requests
 pub mod Samples
 pub mod SchemaBelow
-pub mod Told
-pub mod Uppers
 pub mod Versions
 pub mod Words

@@ -1,9 +1,9 @@
 -- What a schema has under a name.
 use Rattle.std.specs.Prelude.{◌≡◌, List, Option, Some, None, Contains}
-use Rattle.cedar_below.specs.Words.{PlainName, PlainUid}
-use Rattle.cedar_declarations.specs.PlainSchema.{PlainSchema, SchemaAction, SchemaEntityType}
+use Rattle.cedar_ast.specs.Words.{PlainName, PlainUid}
 use Rattle.cedar_schema_elements.specs.ValidatorEntityType.{descendant_names, entity_type_of}
 use Rattle.cedar_schema_elements.specs.declared.entity_type.ValidatorEntityType.{ValidatorEntityType}
+use Rattle.cedar_schema_semantics.specs.PlainSchema.{PlainSchema, SchemaAction, SchemaEntityType}
 
 -- an entity type of a schema as plain data
 abbrev pub plain_type : ValidatorEntityType → SchemaEntityType

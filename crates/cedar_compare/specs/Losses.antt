@@ -1,10 +1,10 @@
--- The subjects of what is told of two versions of a schema.
+-- The subjects of what is reported of two versions of a schema.
 use Rattle.std.specs.Prelude.{◌≡◌, List, Contains, map}
-use Rattle.cedar_below.specs.Words.{PlainName, PlainUid, entity_uid}
-use Rattle.cedar_below.specs.declared.entity.Entity.{Entity}
-use Rattle.cedar_below.specs.declared.extension.Extensions.{Extensions}
+use Rattle.cedar_ast.specs.Words.{PlainName, PlainUid, entity_uid}
+use Rattle.cedar_ast.specs.declared.entity.Entity.{Entity}
+use Rattle.cedar_ast.specs.declared.extension.Extensions.{Extensions}
 use Rattle.cedar_compare.specs.Difference.{AreAnswers, PlainDifference, Subject, action_subject, environment_subject, type_subject}
-use Rattle.cedar_declarations.specs.Words.{Environment, IsEnvironmentOf, PlainSchema}
+use Rattle.cedar_schema_semantics.specs.Words.{Environment, IsEnvironmentOf, PlainSchema}
 
 -- the entity types of a schema
 abbrev pub type_subjects : PlainSchema → List Subject
@@ -21,7 +21,7 @@ pub record AreEnvironmentSubjects (schema : PlainSchema) (subjects : List Subjec
   pub alone : (it : Subject) → Contains subjects it → (principal : PlainName) × (uid : PlainUid)
       × (resource : PlainName) × (it ≡ environment_subject principal uid resource)
 
--- what is told of the environments of a schema
+-- what is reported of the environments of a schema
 abbrev pub AreAllRequests : Extensions → PlainSchema → PlainSchema → List PlainDifference → Type 0
-AreAllRequests extensions old new told = (subjects : List Subject)
-    × AreEnvironmentSubjects old subjects × AreAnswers extensions old new subjects told
+AreAllRequests extensions old new reported = (subjects : List Subject)
+    × AreEnvironmentSubjects old subjects × AreAnswers extensions old new subjects reported

@@ -1,12 +1,12 @@
 -- What is found on the way to an entity that is lost.
 use Rattle.std.specs.Prelude.{◌≡◌, List, [], Option, Some, None, Contains}
-use Rattle.cedar_below.specs.Words.{Entries, IsValue, PlainName, PlainUid, Text, Tree, entry, map_value, no_entry}
-use Rattle.cedar_below.specs.declared.extension.Extensions.{Extensions}
+use Rattle.cedar_ast.specs.Words.{Entries, IsValue, PlainName, PlainUid, Text, Tree, entry, map_value, no_entry}
+use Rattle.cedar_ast.specs.declared.extension.Extensions.{Extensions}
 use Rattle.cedar_compare.specs.Difference.{AreTagsOutside, IsLoss, IsTypeCause, PlainCause, PlainDifference, subject_of, type_subject}
 use Rattle.cedar_compare.specs.Entities.{AreTagsOf, IsEntityIn, MayStandAbove}
 use Rattle.cedar_counterexample.specs.Steps.{PlainStep, steps_of}
 use Rattle.cedar_counterexample.specs.declared.found.Outside.{Outside}
-use Rattle.cedar_declarations.specs.Words.{ActionEntity, PlainSchema, SchemaEntityType, enumerated_kind}
+use Rattle.cedar_schema_semantics.specs.Words.{ActionEntity, PlainSchema, SchemaEntityType, enumerated_kind}
 use Rattle.cedar_type_rules.specs.Words.{Fields, Has, Ty, record_of}
 use Rattle.cedar_type_rules.specs.declared.open_tag.OpenTag.{OpenTag}
 use Rattle.cedar_types.specs.Samples.{value_tree}
@@ -35,9 +35,9 @@ IsTagOutside extensions old new (Some found) =
     × (¬ AreTagsOf extensions new (one_tag found.0)) × AreTagsOutside extensions found.1 old new
 
 -- a cause is true of each entity of a type that has the uid above it
-abbrev pub IsUpperCause : Extensions → PlainSchema → PlainSchema → PlainName → PlainUid
+abbrev pub IsAncestorCause : Extensions → PlainSchema → PlainSchema → PlainName → PlainUid
     → PlainCause → Type 0
-IsUpperCause extensions old new name upper cause = (it : ActionEntity) → it.uid.ty ≡ name
+IsAncestorCause extensions old new name upper cause = (it : ActionEntity) → it.uid.ty ≡ name
     → Contains it.ancestors upper → IsTypeCause extensions old new it cause
 
 -- the entity of a uid, without attributes, tags and ancestors

@@ -1,15 +1,15 @@
 -- What is found on the way to a request that is lost.
-use Rattle.std.specs.Prelude.{List, Option, Some, None, Contains, map}
 use Rattle.std.specs.Option.{option_copied, option_map}
-use Rattle.cedar_below.specs.Words.{PlainName, PlainUid, uid_of}
-use Rattle.cedar_below.specs.declared.extension.Extensions.{Extensions}
+use Rattle.std.specs.Prelude.{List, Option, Some, None, Contains, map}
+use Rattle.cedar_ast.specs.Words.{PlainName, PlainUid, uid_of}
+use Rattle.cedar_ast.specs.declared.extension.Extensions.{Extensions}
 use Rattle.cedar_compare.specs.Difference.{Subject, environment_subject}
-use Rattle.cedar_compare.specs.LostEntities.{plain_outside}
 use Rattle.cedar_compare.specs.Lookup.{IsActionAt}
+use Rattle.cedar_compare.specs.LostEntities.{plain_outside}
 use Rattle.cedar_compare.specs.PlainRequests.{IsContextOutside}
 use Rattle.cedar_compare.specs.declared.requests.Requests.{Requests}
-use Rattle.cedar_declarations.specs.Words.{Environment, PlainSchema, SchemaAction}
 use Rattle.cedar_schema_elements.specs.Words.{action_of, kind_context, kind_principals, kind_resources}
+use Rattle.cedar_schema_semantics.specs.Words.{Environment, PlainSchema, SchemaAction}
 use Rattle.cedar_type_rules.specs.Ty.{Ty}
 use Rattle.cedar_types.specs.Meaning.{ty_of}
 

@@ -1,12 +1,12 @@
 -- What is found on the way to a request that is lost, as plain data.
 use Rattle.std.specs.Prelude.{◌≡◌, List, Option, Some, None, Contains}
-use Rattle.cedar_below.specs.Words.{IsValue, PlainName, PlainUid, Text, Tree}
-use Rattle.cedar_below.specs.declared.extension.Extensions.{Extensions}
+use Rattle.cedar_ast.specs.Words.{IsValue, PlainName, PlainUid, Text, Tree}
+use Rattle.cedar_ast.specs.declared.extension.Extensions.{Extensions}
 use Rattle.cedar_compare.specs.Choices.{kind_choices}
 use Rattle.cedar_compare.specs.Difference.{AreAnswers, LacksChoice, PlainDifference, Subject, environment_subject}
 use Rattle.cedar_compare.specs.Requests.{IsRealRequest, MayHaveId, PlainRequest}
 use Rattle.cedar_counterexample.specs.Steps.{IsOutsideAt, PlainStep}
-use Rattle.cedar_declarations.specs.Words.{Environment, IsContextOf, IsEnvironmentOf, PlainSchema, SchemaAction, SchemaEntityType}
+use Rattle.cedar_schema_semantics.specs.Words.{Environment, IsContextOf, IsEnvironmentOf, PlainSchema, SchemaAction, SchemaEntityType}
 use Rattle.cedar_type_rules.specs.Words.{Has, Ty, ValuesIncluded}
 
 -- these are the choices of the schema's entity type of the name, if it is an enumerated one
@@ -67,8 +67,8 @@ pub record AreSubjectsOf (schema : PlainSchema) (uid : PlainUid) (subjects : Lis
   pub alone : (it : Subject) → Contains subjects it → (principal resource : PlainName)
       × (it ≡ environment_subject principal uid resource)
 
--- what is told of the environments of an action
+-- what is reported of the environments of an action
 abbrev pub AreActionAnswers : Extensions → PlainSchema → PlainSchema → PlainUid
     → List PlainDifference → Type 0
-AreActionAnswers extensions old new uid told = (subjects : List Subject)
-    × AreSubjectsOf old uid subjects × AreAnswers extensions old new subjects told
+AreActionAnswers extensions old new uid reported = (subjects : List Subject)
+    × AreSubjectsOf old uid subjects × AreAnswers extensions old new subjects reported

@@ -1,9 +1,9 @@
 -- The requests that a schema admits.
 use Rattle.std.specs.Prelude.{◌≡◌, Contains}
-use Rattle.cedar_below.specs.Words.{IsValue, PlainName, PlainUid, Tree, uid_value}
-use Rattle.cedar_below.specs.declared.extension.Extensions.{Extensions}
+use Rattle.cedar_ast.specs.Words.{IsValue, PlainName, PlainUid, Tree, uid_value}
+use Rattle.cedar_ast.specs.declared.extension.Extensions.{Extensions}
 use Rattle.cedar_compare.specs.Entities.{IsIdOf}
-use Rattle.cedar_declarations.specs.Words.{Environment, IsEnvironmentOf, PlainSchema, SchemaEntityType}
+use Rattle.cedar_schema_semantics.specs.Words.{Environment, IsEnvironmentOf, PlainSchema, SchemaEntityType}
 use Rattle.cedar_type_rules.specs.Has.{Has}
 
 -- a request as plain data

@@ -1,7 +1,7 @@
 -- Schemas of one entity type, for worked examples.
 use Rattle.std.specs.Prelude.{[], ◌∷◌, Bool, None, codes}
-use Rattle.cedar_below.specs.Words.{PlainName, Text}
-use Rattle.cedar_declarations.specs.Words.{EntityTypeKind, PlainSchema, SchemaEntityType, enumerated_kind, standard_kind}
+use Rattle.cedar_ast.specs.Words.{PlainName, Text}
+use Rattle.cedar_schema_semantics.specs.Words.{EntityTypeKind, PlainSchema, SchemaEntityType, enumerated_kind, standard_kind}
 use Rattle.cedar_type_rules.specs.Ty.{end, field, long}
 use Rattle.cedar_type_rules.specs.declared.open_tag.OpenTag.TheVariants.{ClosedAttributes}
 

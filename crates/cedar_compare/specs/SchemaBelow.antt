@@ -1,8 +1,8 @@
 -- Schemas, one below another, by what permissive subtyping allows.
 use Rattle.std.specs.Prelude.{◌≡◌, ◌↔◌, Option, Some, None, Contains}
-use Rattle.cedar_below.specs.Words.{Included, PlainName, PlainUid}
-use Rattle.cedar_below.specs.declared.validation_mode.ValidationMode.TheVariants.{Permissive}
-use Rattle.cedar_declarations.specs.Words.{ActionKind, EntityTypeKind, Environment, HasEntityType, IsEnvironmentOf, ListsDescendantAction, PlainSchema, SchemaAction, SchemaEntityType, defined_action, enumerated_kind, external_action, external_kind, standard_kind}
+use Rattle.cedar_ast.specs.Words.{Included, PlainName, PlainUid}
+use Rattle.cedar_ast.specs.declared.validation_mode.ValidationMode.TheVariants.{Permissive}
+use Rattle.cedar_schema_semantics.specs.Words.{ActionKind, EntityTypeKind, Environment, HasEntityType, IsEnvironmentOf, ListsDescendantAction, PlainSchema, SchemaAction, SchemaEntityType, defined_action, enumerated_kind, external_action, external_kind, standard_kind}
 use Rattle.cedar_type_rules.specs.Words.{Below, Ty, record_of}
 
 -- tags go over to another type: there are none, or their type is below that one

@@ -2,13 +2,13 @@
 
 ghost use Rattle.std.specs.Prelude.{◌≡◌, ◌↔◌, IfOk, IsTrue, map};
 ghost use Rattle.std.specs.Option.{option_map};
-ghost use Rattle.cedar_compare.specs.Words.{AreActionUppers, AreVersions, DefinesAction, IsActionAnswer, IsAnswer, IsEntityOfAction, IsKeyed, IsReal, SameItems, action_subject, entity_ancestors, entity_uid, new_of, old_of, plain_action_entity, plain_cause, plain_difference, schema_of, uid_of};
+ghost use Rattle.cedar_compare.specs.Words.{AreActionAncestors, AreVersions, DefinesAction, IsActionAnswer, IsAnswer, IsEntityOfAction, IsKeyed, IsReal, SameItems, action_subject, entity_ancestors, entity_uid, new_of, old_of, plain_action_entity, plain_cause, plain_difference, schema_of, uid_of};
 
-use crate::action_uppers::ActionUppers;
+use crate::action_ancestors::ActionAncestors;
 use crate::bare::is_bare_of_type;
 use crate::difference::{Cause, Difference};
 use crate::versions::{Versions, find_action};
-use cedar_below::{Entity, EntityUID, M};
+use cedar_ast::{Entity, EntityUID, M};
 use cedar_schema::ValidatorSchema;
 use std::collections::{BTreeMap, BTreeSet};
 
@@ -51,16 +51,21 @@ fn is_defined(schema: &ValidatorSchema, uid: &EntityUID) -> bool
 }
 
 /// Why the entity of an action may be lost, if the new version doesn't define it alike.
-fn action_cause(versions: &Versions<'_>, uppers: &ActionUppers, uid: &EntityUID) -> M<Option<Cause>>
+fn action_cause(
+    versions: &Versions<'_>,
+    ancestors: &ActionAncestors,
+    uid: &EntityUID,
+) -> M<Option<Cause>>
     requires versions { AreVersions versions.now }
-    requires uppers { AreActionUppers (old_of versions.now) (new_of versions.now) uppers.now }
+    requires ancestors { AreActionAncestors (old_of versions.now) (new_of
+        versions.now) ancestors.now }
     ensures { IfOk result (λ found. IsActionAnswer (old_of versions.now) (new_of versions.now)
         (uid_of uid.now) (option_map plain_cause found)) }
 {
     if !is_defined(versions.new, uid) {
         return Ok(Some(Cause::Gone));
     }
-    match uppers.get(uid) {
+    match ancestors.get(uid) {
         Some(upper) => Ok(Some(Cause::AncestorAction(upper.clone()?))),
         None => Ok(None),
     }
@@ -69,11 +74,12 @@ fn action_cause(versions: &Versions<'_>, uppers: &ActionUppers, uid: &EntityUID)
 /// What is lost of the entity of an action, if it is.
 pub(crate) fn lost_action(
     versions: &Versions<'_>,
-    uppers: &ActionUppers,
+    ancestors: &ActionAncestors,
     entity: &Entity,
 ) -> M<Option<Difference>>
     requires versions { AreVersions versions.now }
-    requires uppers { AreActionUppers (old_of versions.now) (new_of versions.now) uppers.now }
+    requires ancestors { AreActionAncestors (old_of versions.now) (new_of
+        versions.now) ancestors.now }
     requires entity { IsEntityOfAction (old_of versions.now) (plain_action_entity entity.now) }
     ensures { IfOk result (λ found. IsAnswer versions.now.extensions.now (old_of versions.now)
         (new_of versions.now) (action_subject (entity_uid entity.now))
@@ -82,7 +88,7 @@ pub(crate) fn lost_action(
     if is_bare_of_type(versions.new, entity) {
         return Ok(None);
     }
-    match action_cause(versions, uppers, entity.uid())? {
+    match action_cause(versions, ancestors, entity.uid())? {
         Some(cause) => Ok(Some(Difference::Action {
             witness: copied(versions, entity)?,
             cause,

@@ -5,7 +5,7 @@ ghost use Rattle.cedar_compare.specs.Words.{Extensions, Has, IsEntityOfType, IsK
 
 use crate::choices::{choices_of, has_choice};
 use crate::versions::find_type;
-use cedar_below::{Entity, EntityType, EntityUID};
+use cedar_ast::{Entity, EntityType, EntityUID};
 use cedar_schema::{ValidatorEntityTypeKind, ValidatorSchema};
 use cedar_types::Attributes;
 

@@ -4,7 +4,7 @@ ghost use Rattle.std.specs.Prelude.{◌≡◌, ◌↔◌, ◌+◌, ◌≤◌, Co
 ghost use Rattle.std.specs.Option.{option_copied, option_map};
 ghost use Rattle.cedar_compare.specs.Words.{IsIdOutside, MayHave, SameItems, Text, choice_texts, eid_text, kind_choices, plain_kind};
 
-use cedar_below::{Eid, M, NonEmpty};
+use cedar_ast::{Eid, M, NonEmpty};
 use cedar_schema::ValidatorEntityTypeKind;
 use std::alloc::Global;
 use std::collections::BTreeSet;

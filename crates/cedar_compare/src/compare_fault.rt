@@ -3,7 +3,7 @@
 ghost use Rattle.std.specs.Prelude.{◌≡◌, Some};
 ghost use Rattle.cedar_compare.specs.CompareFault.{fault_text};
 
-use cedar_below::Memory;
+use cedar_ast::Memory;
 use std::error::Error;
 use std::fmt;
 

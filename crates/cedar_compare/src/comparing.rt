@@ -7,7 +7,7 @@ use crate::compare_fault::{CompareFault, Version};
 use crate::difference::Difference;
 use crate::losses::losses;
 use crate::versions::Versions;
-use cedar_below::{Entities, Extensions, M, Value};
+use cedar_ast::{Entities, Extensions, M, Value};
 use cedar_schema::ValidatorSchema;
 use std::alloc::Global;
 

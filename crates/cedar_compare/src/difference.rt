@@ -1,6 +1,6 @@
 //! Differences between two versions of a schema.
 
-use cedar_below::{Entity, EntityType, EntityUID, Value};
+use cedar_ast::{Entity, EntityType, EntityUID, Value};
 use cedar_counterexample::Step;
 
 /// A request: its principal, its action and its resource, and its context.

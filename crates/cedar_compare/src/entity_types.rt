@@ -2,15 +2,15 @@
 
 ghost use Rattle.std.specs.Prelude.{◌≡◌, ◌↔◌, ◌∷◌, [], Contains, IfOk, IsTrue, map};
 ghost use Rattle.std.specs.Option.{option_map};
-ghost use Rattle.cedar_compare.specs.Words.{ActionEntity, AreKept, AreUppersLost, AreVersions, IsAnswer, IsBelowAnswer, IsBesideAnswer, IsChoiceAnswer, IsChoiceOf, IsEntityIn, IsFreshEntity, IsSampleOf, IsStandard, IsTagOutside, IsTypeCause, IsUpperCause, MayStandAbove, SchemaEntityType, bare_entity, choice_texts, eid_text, entity_type_of, enumerated_kind, kind_fields, kind_openness, kind_tags, named_values, new_of, no_entry, old_of, one_tag, plain_action_entity, plain_cause, plain_difference, plain_outside, plain_type, type_name, type_subject, uid_of, value_tree};
+ghost use Rattle.cedar_compare.specs.Words.{ActionEntity, AreKept, AreAncestorsLost, AreVersions, IsAnswer, IsBelowAnswer, IsBesideAnswer, IsChoiceAnswer, IsChoiceOf, IsEntityIn, IsFreshEntity, IsSampleOf, IsStandard, IsTagOutside, IsTypeCause, IsAncestorCause, MayStandAbove, SchemaEntityType, bare_entity, choice_texts, eid_text, entity_type_of, enumerated_kind, kind_fields, kind_openness, kind_tags, named_values, new_of, no_entry, old_of, one_tag, plain_action_entity, plain_cause, plain_difference, plain_outside, plain_type, type_name, type_subject, uid_of, value_tree};
 
+use crate::ancestors::Ancestors;
 use crate::bare::{is_bare_of_type, is_without_ancestors};
 use crate::choices::{choice_set, choices_of, is_among};
 use crate::difference::{Cause, Difference};
 use crate::fresh::fresh_uid;
-use crate::uppers::Uppers;
 use crate::versions::{Versions, find_type, is_enumerated_at, lists_type};
-use cedar_below::{Eid, Entity, EntityType, EntityUID, M, NonEmpty, Value};
+use cedar_ast::{Eid, Entity, EntityType, EntityUID, M, NonEmpty, Value};
 use cedar_counterexample::{Outside, attributes_outside, outside, sample_attributes, sample_value};
 use cedar_schema::{ValidatorEntityType, ValidatorEntityTypeKind};
 use std::collections::{BTreeMap, BTreeSet};
@@ -88,7 +88,7 @@ fn entity_below(
 }
 
 /// The difference of a standard entity type that the new version lacks, or has of another sort.
-fn gone(versions: &Versions<'_>, name: &EntityType, old: &ValidatorEntityType) -> M<Difference>
+fn removed(versions: &Versions<'_>, name: &EntityType, old: &ValidatorEntityType) -> M<Difference>
     requires versions { AreVersions versions.now }
     requires old { Contains (old_of versions.now).entity_types
         (type_name name.now, plain_type old.now) }
@@ -144,7 +144,8 @@ fn upper_cause(versions: &Versions<'_>, name: &EntityType, upper: &EntityUID) ->
     requires versions { AreVersions versions.now }
     requires old { MayStandAbove (old_of versions.now) (type_name name.now) (uid_of upper.now) }
     requires new { ¬ MayStandAbove (new_of versions.now) (type_name name.now) (uid_of upper.now) }
-    ensures { IfOk result (λ cause. IsUpperCause versions.now.extensions.now (old_of versions.now)
+    ensures { IfOk result (λ cause. IsAncestorCause versions.now.extensions.now (old_of
+        versions.now)
         (new_of versions.now) (type_name name.now) (uid_of upper.now) (plain_cause cause)) }
 {
     if lists_type(versions.new, name, upper.entity_type()) {
@@ -156,12 +157,13 @@ fn upper_cause(versions: &Versions<'_>, name: &EntityType, upper: &EntityUID) ->
 /// What is lost of an entity type that is standard in both versions because of what stands above.
 fn lost_below(
     versions: &Versions<'_>,
-    uppers: &Uppers,
+    ancestors: &Ancestors,
     name: &EntityType,
     old: &ValidatorEntityType,
 ) -> M<Option<Difference>>
     requires versions { AreVersions versions.now }
-    requires uppers { AreUppersLost (old_of versions.now) (new_of versions.now) uppers.now }
+    requires ancestors { AreAncestorsLost (old_of versions.now) (new_of versions.now)
+        ancestors.now }
     requires old { Contains (old_of versions.now).entity_types
         (type_name name.now, plain_type old.now) }
     requires standard { IsStandard (entity_type_of old.now).kind }
@@ -169,7 +171,7 @@ fn lost_below(
         (old_of versions.now) (new_of versions.now) (type_name name.now)
         (option_map plain_difference found)) }
 {
-    let Some(upper) = uppers.get(name) else {
+    let Some(upper) = ancestors.get(name) else {
         return Ok(None);
     };
     let attributes = some_attributes(versions, name, old)?;
@@ -181,13 +183,14 @@ fn lost_below(
 /// What is lost of an entity type that is standard in both versions beside its attributes.
 fn lost_beside(
     versions: &Versions<'_>,
-    uppers: &Uppers,
+    ancestors: &Ancestors,
     name: &EntityType,
     old: &ValidatorEntityType,
     new: &ValidatorEntityType,
 ) -> M<Option<Difference>>
     requires versions { AreVersions versions.now }
-    requires uppers { AreUppersLost (old_of versions.now) (new_of versions.now) uppers.now }
+    requires ancestors { AreAncestorsLost (old_of versions.now) (new_of versions.now)
+        ancestors.now }
     requires old { Contains (old_of versions.now).entity_types
         (type_name name.now, plain_type old.now) }
     requires new { Contains (new_of versions.now).entity_types
@@ -205,7 +208,7 @@ fn lost_beside(
         let cause = Cause::Tags(found.steps);
         return Ok(Some(Difference::EntityType { witness, cause }));
     }
-    lost_below(versions, uppers, name, old)
+    lost_below(versions, ancestors, name, old)
 }
 
 /// Whether an entity type is standard.
@@ -222,12 +225,13 @@ fn is_standard(ty: &ValidatorEntityType) -> bool
 /// What is lost of a standard entity type.
 fn lost_standard(
     versions: &Versions<'_>,
-    uppers: &Uppers,
+    ancestors: &Ancestors,
     name: &EntityType,
     old: &ValidatorEntityType,
 ) -> M<Option<Difference>>
     requires versions { AreVersions versions.now }
-    requires uppers { AreUppersLost (old_of versions.now) (new_of versions.now) uppers.now }
+    requires ancestors { AreAncestorsLost (old_of versions.now) (new_of versions.now)
+        ancestors.now }
     requires old { Contains (old_of versions.now).entity_types
         (type_name name.now, plain_type old.now) }
     requires standard { IsStandard (entity_type_of old.now).kind }
@@ -236,10 +240,10 @@ fn lost_standard(
         (option_map plain_difference found)) }
 {
     let Some(new) = find_type(versions.new, name) else {
-        return Ok(Some(gone(versions, name, old)?));
+        return Ok(Some(removed(versions, name, old)?));
     };
     if !is_standard(new) {
-        return Ok(Some(gone(versions, name, old)?));
+        return Ok(Some(removed(versions, name, old)?));
     }
     let found = attributes_outside(
         versions.alloc,
@@ -255,7 +259,7 @@ fn lost_standard(
         let cause = Cause::Attributes(outside.steps);
         return Ok(Some(Difference::EntityType { witness, cause }));
     }
-    lost_beside(versions, uppers, name, old, new)
+    lost_beside(versions, ancestors, name, old, new)
 }
 
 /// The entity of a uid alone.
@@ -372,11 +376,12 @@ fn lost_enumerated(
 /// What is lost of an entity type, if something is.
 pub(crate) fn lost_of_type(
     versions: &Versions<'_>,
-    uppers: &Uppers,
+    ancestors: &Ancestors,
     name: &EntityType,
 ) -> M<Option<Difference>>
     requires versions { AreVersions versions.now }
-    requires uppers { AreUppersLost (old_of versions.now) (new_of versions.now) uppers.now }
+    requires ancestors { AreAncestorsLost (old_of versions.now) (new_of versions.now)
+        ancestors.now }
     ensures { IfOk result (λ found. IsAnswer versions.now.extensions.now (old_of versions.now)
         (new_of versions.now) (type_subject (type_name name.now))
         (option_map plain_difference found)) }
@@ -385,7 +390,7 @@ pub(crate) fn lost_of_type(
         return Ok(None);
     };
     match &old.kind {
-        ValidatorEntityTypeKind::Standard(_) => lost_standard(versions, uppers, name, old),
+        ValidatorEntityTypeKind::Standard(_) => lost_standard(versions, ancestors, name, old),
         ValidatorEntityTypeKind::Enum(choices) => lost_enumerated(versions, name, choices),
         ValidatorEntityTypeKind::External => Ok(None),
     }

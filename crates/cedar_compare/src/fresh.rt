@@ -5,7 +5,7 @@ ghost use Rattle.cedar_compare.specs.Words.{HasAction, IsFreshIn, IsKeyed, NoLon
 
 use crate::choices::{choices_of, id_of_length, longest_choice};
 use crate::versions::find_type;
-use cedar_below::{EntityType, EntityUID, M};
+use cedar_ast::{EntityType, EntityUID, M};
 use cedar_schema::ValidatorSchema;
 use std::alloc::Global;
 

@@ -3,7 +3,7 @@
 ghost use Rattle.std.specs.Prelude.{◌≡◌, OnOk, Some, cond};
 ghost use Rattle.std.specs.BTreeMap.{get, is_at};
 
-use cedar_below::{EntityUID, M};
+use cedar_ast::{EntityUID, M};
 use std::collections::BTreeMap;
 
 /// Keeps a uid under a key.

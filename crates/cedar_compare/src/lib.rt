@@ -10,8 +10,9 @@ pub use compare_fault::{CompareFault, Version};
 pub use comparing::{Comparison, compare};
 pub use difference::{Cause, Difference, Request};
 
-mod action_uppers;
+mod action_ancestors;
 mod actions;
+mod ancestors;
 mod bare;
 mod choices;
 mod compare_fault;
@@ -24,5 +25,4 @@ mod keeping;
 mod losses;
 mod requests;
 pub mod theorems;
-mod uppers;
 mod versions;

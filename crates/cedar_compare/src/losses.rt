@@ -3,14 +3,14 @@
 ghost use Rattle.std.specs.Prelude.{◌≡◌, [], IfOk, map};
 ghost use Rattle.cedar_compare.specs.Words.{AreActionEntities, AreAllRequests, AreAnswers, AreLosses, AreVersions, Keeps, action_entries, action_subjects, entities_of, new_of, old_of, plain_action_entity, plain_difference, schema_with, type_subjects};
 
-use crate::action_uppers::action_uppers;
+use crate::action_ancestors::action_ancestors;
 use crate::actions::lost_action;
+use crate::ancestors::lost_ancestors;
 use crate::difference::Difference;
 use crate::entity_types::lost_of_type;
 use crate::requests::lost_of_action;
-use crate::uppers::lost_uppers;
 use crate::versions::Versions;
-use cedar_below::{Entities, M};
+use cedar_ast::{Entities, M};
 
 /// What is lost of the entity types.
 fn lost_types(versions: &Versions<'_>) -> M<Vec<Difference>>
@@ -19,10 +19,10 @@ fn lost_types(versions: &Versions<'_>) -> M<Vec<Difference>>
         (new_of versions.now) (type_subjects (old_of versions.now))
         (map plain_difference lost.items)) }
 {
-    let uppers = lost_uppers(versions)?;
+    let ancestors = lost_ancestors(versions)?;
     let mut lost = Vec::new(versions.alloc);
     for name in versions.old.entity_type_names() {
-        if let Some(difference) = lost_of_type(versions, &uppers, name)? {
+        if let Some(difference) = lost_of_type(versions, &ancestors, name)? {
             lost.push(difference)?;
         }
     }
@@ -39,10 +39,10 @@ fn lost_actions(versions: &Versions<'_>, entities: &Entities) -> M<Vec<Differenc
         (new_of versions.now) (action_subjects (entities_of entities.now))
         (map plain_difference lost.items)) }
 {
-    let uppers = action_uppers(versions)?;
+    let ancestors = action_ancestors(versions)?;
     let mut lost = Vec::new(versions.alloc);
     for entity in entities.iter() {
-        if let Some(difference) = lost_action(versions, &uppers, entity)? {
+        if let Some(difference) = lost_action(versions, &ancestors, entity)? {
             lost.push(difference)?;
         }
     }

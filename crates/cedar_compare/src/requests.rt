@@ -9,7 +9,7 @@ ghost use Rattle.cedar_compare.specs.Words.{AreActionAnswers, AreAnswers, AreCho
 use crate::choices::{choices_of, id_outside, some_id};
 use crate::difference::{Cause, Difference, Request};
 use crate::versions::{Versions, find_action, find_type};
-use cedar_below::{Eid, EntityType, EntityUID, M, NonEmpty};
+use cedar_ast::{Eid, EntityType, EntityUID, M, NonEmpty};
 use cedar_counterexample::{Outside, Step, outside, sample_value};
 use cedar_schema::{RequestTypes, ValidatorActionId, ValidatorSchema};
 use cedar_types::Type;
@@ -107,7 +107,7 @@ fn sample_request(
 }
 
 /// The difference of an environment that the new version lacks.
-fn gone(
+fn removed(
     versions: &Versions<'_>,
     requests: &Requests<'_>,
     principal: &EntityType,
@@ -230,7 +230,7 @@ fn lost_request(
         (option_map plain_difference found)) }
 {
     if !is_kept(requests, principal, resource) {
-        return Ok(Some(gone(versions, requests, principal, resource)?));
+        return Ok(Some(removed(versions, requests, principal, resource)?));
     }
     match &requests.outside {
         Some(found) => Ok(Some(context_lost(versions, requests, found, principal, resource)?)),

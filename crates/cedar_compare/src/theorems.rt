@@ -30,9 +30,11 @@ pub fn equal_schemas_lose_nothing()
     ensures kept { (extensions : Extensions) (old new : PlainSchema) → SameSchema old new
         → Keeps extensions old new }
     ensures lost { (extensions : Extensions) (old new : PlainSchema) → SameSchema old new
-        → (told : List PlainDifference) → AreLosses extensions old new told → told ≡ [] }
+        → (reported : List PlainDifference) → AreLosses extensions old new reported → reported
+        ≡ [] }
     ensures gained { (extensions : Extensions) (old new : PlainSchema) → SameSchema old new
-        → (told : List PlainDifference) → AreLosses extensions new old told → told ≡ [] }
+        → (reported : List PlainDifference) → AreLosses extensions new old reported → reported
+        ≡ [] }
 {}
 
 /// What permissive subtyping allows loses nothing: where a schema is below another, that one keeps

@@ -4,7 +4,7 @@ ghost use Rattle.std.specs.Prelude.{◌↔◌, IsTrue};
 ghost use Rattle.std.specs.Option.{option_copied, option_map};
 ghost use Rattle.cedar_compare.specs.Words.{IsActionAt, IsEnumerated, IsKeyed, IsOfKind, IsTypeAt, ListsDescendant, action_of, plain_type, schema_of, type_name, uid_of};
 
-use cedar_below::{Entities, EntityType, EntityUID, Extensions, Value};
+use cedar_ast::{Entities, EntityType, EntityUID, Extensions, Value};
 use cedar_schema::{ValidatorActionId, ValidatorEntityType, ValidatorSchema};
 use std::alloc::Global;
 

@@ -6,10 +6,10 @@ use Rattle.std.specs.BTreeMap.{BTreeMap, get_by_text}
 use Rattle.std.specs.Option.{is_some, option_map}
 use Rattle.std.specs.Str.{bytes_eq}
 use Rattle.std.specs.declared.string.String.{String}
-use Rattle.cedar_below.proofs.Inclusion.{Included-none}
-use Rattle.cedar_below.proofs.Lists.{Contains-cons_cases}
-use Rattle.cedar_below.proofs.TreeLemmas.{entry_at-entries}
-use Rattle.cedar_below.proofs.ValueLemmas.{IsName-type_name}
+use Rattle.cedar_ast.proofs.Inclusion.{Included-none}
+use Rattle.cedar_ast.proofs.Lists.{Contains-cons_cases}
+use Rattle.cedar_ast.proofs.TreeLemmas.{entry_at-entries}
+use Rattle.cedar_ast.proofs.ValueLemmas.{IsName-type_name}
 use Rattle.cedar_counterexample.specs.Words.{AreEntries, ClosedAttributes, EntityKind, EntityType, Entries, EntryFits, Extensions, Fields, Gives, Has, HasField, HasUid, IsFilled, IsPut, IsSortedByName, IsValueOf, NamesListed, OpenAttributes, OpenTag, PlainName, RestrictedExpr, Text, Tree, Ty, entries_of, entry, entry_at, entry_names, field, field_names, is_open, kind_ty, map_value, no_entry, record_of, tree_of, type_name, uid_value}
 use Rattle.cedar_type_rules.proofs.AgreeLaws.{HasField-once}
 use Rattle.cedar_type_rules.proofs.RecordAnswers.{decide_texts}

@@ -1,9 +1,9 @@
 -- Texts that are longer than all of some.
 use Rattle.std.proofs.Common.{◌≡◌, ◌≤◌, ◌⊎◌, ◌+◌, inl, inr, refl, ap, subst, ℕ, zero, suc, List, ◌∷◌, length, Contains, arith, add-one}
 use Rattle.std.proofs.Math.ListN.{replicate}
-use Rattle.cedar_below.proofs.Lists.{Contains-cons_cases}
-use Rattle.cedar_below.proofs.ValueLemmas.{stretch}
-use Rattle.cedar_below.specs.Text.{Text}
+use Rattle.cedar_ast.proofs.Lists.{Contains-cons_cases}
+use Rattle.cedar_ast.proofs.ValueLemmas.{stretch}
+use Rattle.cedar_ast.specs.Text.{Text}
 
 -- many `_` are a text of that many
 replicate-stretch : (k : ℕ) → replicate k 95 ≡ stretch k

@@ -1,7 +1,7 @@
 -- Lists whose members are looked for in others, one after another.
 use Rattle.std.proofs.Common.{List, ◌∷◌, Contains}
-use Rattle.cedar_below.proofs.Inclusion.{Included-cons, Included-head, Included-tail}
-use Rattle.cedar_below.specs.Lists.{Included}
+use Rattle.cedar_ast.proofs.Inclusion.{Included-cons, Included-head, Included-tail}
+use Rattle.cedar_ast.specs.Lists.{Included}
 
 -- what is left of a list decides whether all of it is included in another, and is part of it
 abbrev pub IncludedSoFar : {A : Type 0} → List A → List A → List A → Type 0

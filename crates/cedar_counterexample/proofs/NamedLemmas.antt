@@ -6,8 +6,8 @@ use Rattle.std.specs.List.Sorted.{IsStrictlySortedBy}
 use Rattle.std.specs.Map.{keys_of}
 use Rattle.std.specs.String.{string_cmp_total}
 use Rattle.std.specs.declared.string.String.{String}
-use Rattle.cedar_below.proofs.Ordered.{above_front, insert_entry-end}
-use Rattle.cedar_below.proofs.ValueCopies.{Pairs, plain_pairs}
+use Rattle.cedar_ast.proofs.Ordered.{above_front, insert_entry-end}
+use Rattle.cedar_ast.proofs.ValueCopies.{Pairs, plain_pairs}
 use Rattle.cedar_counterexample.specs.Words.{RestrictedExpr, Text, Tree, Value, entries_from, entries_of, tree_of, value_entries, value_expr}
 
 -- the values of a map, each under its name

@@ -7,8 +7,8 @@ use Rattle.std.specs.Str.{bytes_eq}
 use Rattle.std.specs.declared.cmp.Ordering.{Ordering}
 use Rattle.std.specs.declared.cmp.Ordering.TheVariants.{Less, Equal, Greater}
 use Rattle.std.specs.declared.string.String.{String}
-use Rattle.cedar_below.proofs.Texts.{text_cmp-Equal}
-use Rattle.cedar_below.proofs.ValueCopies.{AreReal, Pairs, plain_pairs}
+use Rattle.cedar_ast.proofs.Texts.{text_cmp-Equal}
+use Rattle.cedar_ast.proofs.ValueCopies.{AreReal, Pairs, plain_pairs}
 use Rattle.cedar_counterexample.specs.Words.{IsValue, RestrictedExpr, Text, entries_from, entry_at, tree_of}
 
 -- a choice under the same test

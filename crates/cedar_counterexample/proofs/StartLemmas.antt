@@ -1,15 +1,15 @@
 -- Starts of values of a record that another hasn't.
 use Rattle.std.proofs.Common.{◌≡◌, inl, inr, Bool, true, false, refl, sym, subst, ◌∙◌, List, [], Option, Some, None, Contains, arith, IsTrue}
-use Rattle.cedar_below.proofs.Inclusion.{Included-cons, Included-none}
-use Rattle.cedar_below.proofs.Lists.{Contains-cons_cases}
+use Rattle.cedar_ast.proofs.Inclusion.{Included-cons, Included-none}
+use Rattle.cedar_ast.proofs.Lists.{Contains-cons_cases}
+use Rattle.cedar_counterexample.proofs.FillingLemmas.{filled_has, nothing_or}
+use Rattle.cedar_counterexample.proofs.TypeCounterexamples.{separated_outside}
 use Rattle.cedar_counterexample.specs.Words.{AreInhabitedWith, ClosedAttributes, Entries, EntryFits, Extensions, Fields, FieldsIncluded, Gives, Has, HasField, Included, IsCounterexample, IsFilled, IsInhabitedWith, IsOutsideAnswer, IsOutsideAt, IsSortedByName, IsStart, IsText, IsValue, IsValueOf, NamesListed, OpenAttributes, OpenTag, PlainFound, PlainStart, Text, Tree, Ty, empty_start, end, entry, entry_at, entry_names, field, field_names, is_open, map_value, no_entry, record_of, start_through, truth_value}
 use Rattle.cedar_type_rules.proofs.AgreeLaws.{HasField-once}
 use Rattle.cedar_type_rules.proofs.MemberLaws.{HasFieldsBy-of}
 use Rattle.cedar_type_rules.proofs.RecordAnswers.{decide_texts}
 use Rattle.cedar_type_rules.proofs.SampleValues.{entry_here, entry_named, entry_there, only_listed, some_fits}
 use Rattle.cedar_type_rules.proofs.SubtypeLaws.{FieldsWithin, HasField-name}
-use Rattle.cedar_counterexample.proofs.FillingLemmas.{filled_has, nothing_or}
-use Rattle.cedar_counterexample.proofs.TypeCounterexamples.{separated_outside}
 
 -- the type of an attribute is inhabited where those of all are
 pub AreInhabitedWith-of : (extensions : Extensions) (samples : List Tree) (fields : Fields) (name : Text) (required : Bool) (ty : Ty)
@@ -99,7 +99,8 @@ fresh_fits extensions lower name value fresh n v r t found has =
     let is = alone_is name n value v found in
     absurd (fresh (subst (Contains (field_names lower)) is.0 (HasField-name lower n r t has)))
 
--- where an open record lacks a name of the other, a value that the type of the name hasn't is a start
+-- where an open record lacks a name of the other, a value that the type of the name hasn't is a
+-- start
 pub other_start : (extensions : Extensions) (lower upper : Fields) (upper_openness : OpenTag) (name : Text) (required : Bool) (ty : Ty)
     (value : Tree) → IsText name → ¬ Contains (field_names lower) name → HasField upper name required ty → IsValue value → ¬ Has extensions value ty
     → IsStart extensions lower OpenAttributes upper upper_openness (start_through name (record { value = value; steps = [] }))

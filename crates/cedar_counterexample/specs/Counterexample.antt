@@ -1,10 +1,10 @@
 use Rattle.std.specs.Prelude.{List, [], ◌∷◌, Option, Some, None}
-use Rattle.cedar_below.specs.Words.{Entries, IsValue, Text, Tree, entries_of, entry, map_value, no_entry, no_tree, set_value, tree, tree_of}
-use Rattle.cedar_below.specs.declared.extension.Extensions.{Extensions}
-use Rattle.cedar_type_rules.specs.Words.{Has, IncludedByParts, Ty}
+use Rattle.cedar_ast.specs.Words.{Entries, IsValue, Text, Tree, entries_of, entry, map_value, no_entry, no_tree, set_value, tree, tree_of}
+use Rattle.cedar_ast.specs.declared.extension.Extensions.{Extensions}
 use Rattle.cedar_counterexample.specs.Steps.{IsOutsideAt, PlainStep, attribute_step, element_step, noted_steps}
 use Rattle.cedar_counterexample.specs.declared.found.Found.{Found}
 use Rattle.cedar_counterexample.specs.declared.found.Start.{Start}
+use Rattle.cedar_type_rules.specs.Words.{Has, IncludedByParts, Ty}
 
 -- a real value of a type
 abbrev pub IsValueOf : Extensions → Ty → Tree → Type 0

@@ -1,11 +1,11 @@
 use Rattle.std.specs.Prelude.{◌≡◌, ◌⊎◌, Bool, true, if◌then◌else◌, Option, Some, None}
 use Rattle.std.specs.Str.{bytes_eq}
-use Rattle.cedar_below.specs.Words.{AreEntries, Entries, IsValue, NamesListed, Text, Tree, entry_at, entry_names, map_value}
-use Rattle.cedar_below.specs.declared.extension.Extensions.{Extensions}
-use Rattle.cedar_type_rules.specs.Words.{Fields, FieldsIncluded, Has, HasField, IncludedByParts, Ty, ValuesIncluded, end, field, field_names, is_open, record_of}
-use Rattle.cedar_type_rules.specs.declared.open_tag.OpenTag.{OpenTag}
+use Rattle.cedar_ast.specs.Words.{AreEntries, Entries, IsValue, NamesListed, Text, Tree, entry_at, entry_names, map_value}
+use Rattle.cedar_ast.specs.declared.extension.Extensions.{Extensions}
 use Rattle.cedar_counterexample.specs.Counterexample.{PlainStart}
 use Rattle.cedar_counterexample.specs.Steps.{IsOutsideAt}
+use Rattle.cedar_type_rules.specs.Words.{Fields, FieldsIncluded, Has, HasField, IncludedByParts, Ty, ValuesIncluded, end, field, field_names, is_open, record_of}
+use Rattle.cedar_type_rules.specs.declared.open_tag.OpenTag.{OpenTag}
 
 -- a value is put under a name: there it stands, all others stay, and real values stay real ones
 pub record IsPut (name : Text) (value : Tree) (old new : Entries) : Type 0 where

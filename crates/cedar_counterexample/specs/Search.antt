@@ -1,7 +1,7 @@
 -- Types of which a search for a value has samples.
+use Rattle.cedar_counterexample.specs.declared.search.Search.{Search}
 use Rattle.cedar_type_rules.specs.Words.{AreInhabitedWith, Fields, IsInhabitedWith, Ty}
 use Rattle.cedar_types.specs.Samples.{value_trees}
-use Rattle.cedar_counterexample.specs.declared.search.Search.{Search}
 
 -- a type is inhabited by the samples of a search
 abbrev pub IsSampledIn : Search → Ty → Type 0

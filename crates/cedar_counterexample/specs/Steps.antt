@@ -2,13 +2,13 @@
 use Rattle.std.specs.Prelude.{◌≡◌, ◌⊎◌, Bool, true, List, [], ◌∷◌, Contains, map, reverse, string_bytes}
 use Rattle.std.specs.declared.alloc.Global.{Global}
 use Rattle.std.specs.declared.vec.Vec.{Vec}
-use Rattle.cedar_below.specs.Text.{Text}
-use Rattle.cedar_below.specs.declared.extension.Extensions.{Extensions}
+use Rattle.cedar_ast.specs.Text.{Text}
+use Rattle.cedar_ast.specs.declared.extension.Extensions.{Extensions}
+use Rattle.cedar_counterexample.specs.declared.steps.Step.{Step}
+use Rattle.cedar_counterexample.specs.declared.steps.Step.TheVariants as step
 use Rattle.cedar_type_rules.specs.Words.{Fields, HasField, Ty, ValuesIncluded, field_names, record_of, set_of}
 use Rattle.cedar_type_rules.specs.declared.open_tag.OpenTag.{OpenTag}
 use Rattle.cedar_type_rules.specs.declared.open_tag.OpenTag.TheVariants.{ClosedAttributes, OpenAttributes}
-use Rattle.cedar_counterexample.specs.declared.steps.Step.{Step}
-use Rattle.cedar_counterexample.specs.declared.steps.Step.TheVariants as step
 
 -- a step down a type as plain data: to the attribute of a name, or to the elements
 pub data PlainStep : Type 0 where

@@ -1,14 +1,36 @@
 -- The words of clauses, from one place.
-pub use Rattle.cedar_below.specs.Words.{AreEntries, Entries, EntryFits, Gives, Included, IsText, IsValue, NamesListed, PlainName, Text, Tree, entries_from, entries_of, entry, entry_at, entry_names, map_value, no_entry, no_tree, set_value, tree, tree_of, truth_value, type_name, uid_value, value_expr}
-pub use Rattle.cedar_below.specs.declared.entity_type.EntityType.{EntityType}
-pub use Rattle.cedar_below.specs.declared.extension.Extensions.{Extensions}
-pub use Rattle.cedar_below.specs.declared.validation_mode.ValidationMode.TheVariants.{Permissive}
-pub use Rattle.cedar_below.specs.declared.value.RestrictedExpr.{RestrictedExpr}
-pub use Rattle.cedar_below.specs.declared.value.Value.{Value}
-pub use Rattle.cedar_type_rules.specs.Words.{AreInhabitedWith, Below, Fields, FieldsIncluded, Has, HasField, HasTruth, HasUid, IncludedByParts, IsInhabitedWith, IsSortedByName, IsStatedWith, IsWellFormed, Ty, ValuesIncluded, any_set, end, field, field_names, fields_from, is_open, record_of, set_of, truth}
+pub use Rattle.cedar_ast.specs.EntityType.{type_name}
+pub use Rattle.cedar_ast.specs.Fits.{EntryFits, Gives, NamesListed}
+pub use Rattle.cedar_ast.specs.IsValue.{AreEntries, IsText, IsValue}
+pub use Rattle.cedar_ast.specs.Lists.{Included}
+pub use Rattle.cedar_ast.specs.PlainName.{PlainName}
+pub use Rattle.cedar_ast.specs.RestrictedExpr.{entries_of, tree_of}
+pub use Rattle.cedar_ast.specs.Text.{Text}
+pub use Rattle.cedar_ast.specs.Tree.{Entries, Tree, entries_from, entry, entry_at, entry_names, map_value, no_entry, no_tree, set_value, tree, truth_value, uid_value}
+pub use Rattle.cedar_ast.specs.Value.{value_expr}
+pub use Rattle.cedar_ast.specs.declared.entity_type.EntityType.{EntityType}
+pub use Rattle.cedar_ast.specs.declared.extension.Extensions.{Extensions}
+pub use Rattle.cedar_ast.specs.declared.validation_mode.ValidationMode.TheVariants.{Permissive}
+pub use Rattle.cedar_ast.specs.declared.value.RestrictedExpr.{RestrictedExpr}
+pub use Rattle.cedar_ast.specs.declared.value.Value.{Value}
+pub use Rattle.cedar_type_rules.specs.Below.{Below, HasField}
+pub use Rattle.cedar_type_rules.specs.Fields.{IsSortedByName, field_names}
+pub use Rattle.cedar_type_rules.specs.Has.{Has, HasTruth, HasUid}
+pub use Rattle.cedar_type_rules.specs.IncludedByParts.{FieldsIncluded, IncludedByParts}
+pub use Rattle.cedar_type_rules.specs.InclusionLaws.{ValuesIncluded}
+pub use Rattle.cedar_type_rules.specs.OpenTag.{is_open}
+pub use Rattle.cedar_type_rules.specs.Stated.{AreInhabitedWith, IsInhabitedWith, IsStatedWith}
+pub use Rattle.cedar_type_rules.specs.Ty.{Fields, Ty, any_set, end, field, fields_from, record_of, set_of, truth}
+pub use Rattle.cedar_type_rules.specs.WellFormed.{IsWellFormed}
 pub use Rattle.cedar_type_rules.specs.declared.open_tag.OpenTag.{OpenTag}
 pub use Rattle.cedar_type_rules.specs.declared.open_tag.OpenTag.TheVariants.{ClosedAttributes, OpenAttributes}
-pub use Rattle.cedar_types.specs.Words.{AreTexts-fields, AreWellFormed-fields, IsSortedByName-fields, IsWellFormed-type, attribute_of, attribute_step, attributes_step, fields_of, kind_ty, lub_names, plain_attributes, ty_of, type_step, value_tree, value_trees}
+pub use Rattle.cedar_types.specs.Attributes.{plain_attributes}
+pub use Rattle.cedar_types.specs.EntityKind.{kind_ty}
+pub use Rattle.cedar_types.specs.EntityLUB.{lub_names}
+pub use Rattle.cedar_types.specs.Layers.{IsSortedByName-fields}
+pub use Rattle.cedar_types.specs.Meaning.{attribute_of, attribute_step, attributes_step, fields_of, ty_of, type_step}
+pub use Rattle.cedar_types.specs.Samples.{value_tree, value_trees}
+pub use Rattle.cedar_types.specs.WellFormedTypes.{AreTexts-fields, AreWellFormed-fields, IsWellFormed-type}
 pub use Rattle.cedar_types.specs.declared.attributes.AttributeType.{AttributeType}
 pub use Rattle.cedar_types.specs.declared.attributes.Attributes.{Attributes}
 pub use Rattle.cedar_types.specs.declared.entity_kind.EntityKind.{EntityKind}

@@ -1,7 +1,7 @@
 //! What is found for two types: a value of the one alone, and the steps to where they part.
 
 use crate::steps::Step;
-use cedar_below::{RestrictedExpr, Value};
+use cedar_ast::{RestrictedExpr, Value};
 use std::collections::BTreeMap;
 
 /// A value that one type has and another hasn't, and where the two types part.

@@ -3,7 +3,7 @@
 ghost use Rattle.std.specs.Prelude.{◌≡◌, ◌+◌, ◌≤◌, IfOk, Contains, length, replicate, string_bytes};
 ghost use Rattle.cedar_counterexample.specs.Words.{PlainName, Text, field_names, fields_of, lub_names, type_name};
 
-use cedar_below::{EntityType, Id, InternalName, M, Name};
+use cedar_ast::{EntityType, Id, InternalName, M, Name};
 use cedar_types::{Attributes, EntityLUB};
 use std::alloc::Global;
 

@@ -7,7 +7,7 @@ ghost use Rattle.cedar_counterexample.specs.Words.{Extensions, Has, IsCounterexa
 use crate::samples::sample_of;
 use crate::search::Search;
 use crate::unions::{separating_entity, separating_truth};
-use cedar_below::{M, RestrictedExpr};
+use cedar_ast::{M, RestrictedExpr};
 use cedar_types::Type;
 use std::alloc::Global;
 

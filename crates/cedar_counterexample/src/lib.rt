@@ -6,16 +6,16 @@
 //! same. `sample_value` and `sample_attributes` give some value of a type.
 #![tactic(auto)]
 
+pub use divergence::{attributes_outside, outside, separating_value, value_outside};
 pub use found::{AttributesOutside, Outside};
-pub use parting::{attributes_outside, outside, separating_value, value_outside};
 pub use sampling::{sample_attributes, sample_value};
 pub use steps::Step;
 
+mod divergence;
 mod found;
 mod fresh;
 mod leaves;
 mod named;
-mod parting;
 mod putting;
 mod samples;
 mod sampling;

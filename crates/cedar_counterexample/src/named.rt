@@ -3,7 +3,7 @@
 ghost use Rattle.std.specs.Prelude.{◌≡◌, IfOk};
 ghost use Rattle.cedar_counterexample.specs.Words.{entries_of, value_entries};
 
-use cedar_below::{M, RestrictedExpr, Value};
+use cedar_ast::{M, RestrictedExpr, Value};
 use std::alloc::Global;
 use std::collections::BTreeMap;
 

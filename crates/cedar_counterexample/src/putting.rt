@@ -4,7 +4,7 @@ ghost use Rattle.std.specs.Prelude.{◌≡◌, OnOk, string_bytes, string_cmp};
 ghost use Rattle.std.specs.BTreeMap.{insert_entry};
 ghost use Rattle.cedar_counterexample.specs.Words.{IsPut, entries_of, tree_of};
 
-use cedar_below::{M, RestrictedExpr};
+use cedar_ast::{M, RestrictedExpr};
 use std::collections::BTreeMap;
 
 /// Puts a value under a name.

@@ -6,7 +6,7 @@ ghost use Rattle.cedar_counterexample.specs.Words.{AreSampledIn, Extensions, IsF
 use crate::fresh::type_of_length;
 use crate::putting::put;
 use crate::search::Search;
-use cedar_below::{Eid, EntityType, EntityUID, M, RestrictedExpr};
+use cedar_ast::{Eid, EntityType, EntityUID, M, RestrictedExpr};
 use cedar_types::{Attributes, BoolType, EntityKind, Type};
 use std::alloc::Global;
 use std::collections::BTreeMap;

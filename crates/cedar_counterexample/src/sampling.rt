@@ -6,7 +6,7 @@ ghost use Rattle.cedar_counterexample.specs.Words.{AreInhabitedWith, Has, IsInha
 use crate::named::named_values;
 use crate::samples::{fill, sample_of};
 use crate::search::Search;
-use cedar_below::{Extensions, M, Value};
+use cedar_ast::{Extensions, M, Value};
 use cedar_types::{Attributes, Type};
 use std::alloc::Global;
 use std::collections::BTreeMap;

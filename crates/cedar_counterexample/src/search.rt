@@ -1,6 +1,6 @@
 //! What a search for a value is given: memory, extensions and samples.
 
-use cedar_below::{Extensions, Value};
+use cedar_ast::{Extensions, Value};
 use std::alloc::Global;
 
 /// What a search for a value is given: where memory comes from, the extensions that may be called,

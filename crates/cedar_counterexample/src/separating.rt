@@ -11,7 +11,7 @@ use crate::putting::put;
 use crate::samples::{fill, sample_of};
 use crate::search::Search;
 use crate::steps::{Step, noted};
-use cedar_below::{M, RestrictedExpr};
+use cedar_ast::{M, RestrictedExpr};
 use cedar_types::{AttributeType, Attributes, OpenTag, Type};
 use std::alloc::Global;
 use std::collections::BTreeMap;

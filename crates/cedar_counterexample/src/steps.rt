@@ -3,7 +3,7 @@
 ghost use Rattle.std.specs.Prelude.{◌≡◌, ◌∷◌, IfOk};
 ghost use Rattle.cedar_counterexample.specs.Steps.{noted_steps, step_of, steps_of};
 
-use cedar_below::M;
+use cedar_ast::M;
 
 /// A step down a type.
 #[derive(Debug, Drop, PartialEq, Eq)]

@@ -6,7 +6,7 @@ ghost use Rattle.cedar_counterexample.specs.Words.{Extensions, HasTruth, Include
 
 use crate::fresh::fresh_type;
 use crate::samples::entity_of;
-use cedar_below::{EntityType, M, RestrictedExpr};
+use cedar_ast::{EntityType, M, RestrictedExpr};
 use cedar_types::{BoolType, EntityKind, EntityLUB};
 use std::alloc::Global;
 

@@ -1,9 +1,9 @@
 -- Primitive types, as they are written and as they are elaborated.
 use Rattle.std.proofs.Common.{◌≡◌, true, refl}
 use Rattle.std.proofs.lemmas.Bool.{false≢true}
-use Rattle.cedar_type_rules.specs.declared.bool_type.BoolType.TheVariants.{AnyBool}
 use Rattle.cedar_elaboration.specs.Words.{CoversExtensions, ElaboratesAs, Expr, HasOpenRecord, IsPrimitive, Ty, TypeScope, any_truth, as_long, as_text, as_truth, is_long, is_long_type, is_text, is_text_type, is_truth, is_truth_type, long, text}
 use Rattle.cedar_type_rules.specs.Ty.{truth}
+use Rattle.cedar_type_rules.specs.declared.bool_type.BoolType.TheVariants.{AnyBool}
 
 -- a primitive type is the one that it is told to be
 pub record IsAsTold (ty : Ty) : Type 0 where

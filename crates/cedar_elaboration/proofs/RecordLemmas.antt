@@ -8,11 +8,11 @@ use Rattle.std.specs.Map.{keys_of}
 use Rattle.std.specs.String.{string_cmp}
 use Rattle.std.specs.declared.alloc.Global.{Global}
 use Rattle.std.specs.declared.string.String.{String}
-use Rattle.cedar_below.proofs.Ordered.{IsStrictlySortedBy-map}
-use Rattle.cedar_elaboration.specs.Words.{AttributeType, ClosedAttributes, Covers, CoversExtensions, Defined, ElaboratesAs, Expr, Fault, Fields, HasOpenRecord, HoldsLast, IsExprFault, IsRefusal, IsSortedByName, Members, MembersElaborateTo, MembersHaveOpenRecord, MembersMentionExtension, MembersRefer, PlainName, RecordType, Reference, ReferenceType, Text, Ty, TypeOfAttribute, TypeScope, as_member, as_no_member, as_record, attribute_of, end, extension_name, extensions_in_scope, field, field_names, fields_from, flag_and_expr, member, members_from, no_member, open_record, out-RecordType, out-TypeOfAttribute, out_of_memory, plain_attributes, record_expr, record_of, record_type_expr, reserved_name, text_cmp, type_expr, type_not_defined, unknown_extension_type}
-use Rattle.cedar_names.proofs.ExprLemmas.{record_type_expr-entries, flag_and_expr-parts}
-use Rattle.cedar_type_rules.proofs.Extensional.{fields_from-HoldsLast}
+use Rattle.cedar_ast.proofs.Ordered.{IsStrictlySortedBy-map}
 use Rattle.cedar_elaboration.proofs.ScopeLemmas.{Covers-part}
+use Rattle.cedar_elaboration.specs.Words.{AttributeType, ClosedAttributes, Covers, CoversExtensions, Defined, ElaboratesAs, Expr, Fault, Fields, HasOpenRecord, HoldsLast, IsExprFault, IsRefusal, IsSortedByName, Members, MembersElaborateTo, MembersHaveOpenRecord, MembersMentionExtension, MembersRefer, PlainName, RecordType, Reference, ReferenceType, Text, Ty, TypeOfAttribute, TypeScope, as_member, as_no_member, as_record, attribute_of, end, extension_name, extensions_in_scope, field, field_names, fields_from, flag_and_expr, member, members_from, no_member, open_record, out-RecordType, out-TypeOfAttribute, out_of_memory, plain_attributes, record_expr, record_of, record_type_expr, reserved_name, text_cmp, type_expr, type_not_defined, unknown_extension_type}
+use Rattle.cedar_schema_ast.proofs.ExprLemmas.{record_type_expr-entries, flag_and_expr-parts}
+use Rattle.cedar_type_rules.proofs.Extensional.{fields_from-HoldsLast}
 
 -- the attributes of one record after those of another
 abbrev pub append_members : Members → Members → Members
@@ -112,7 +112,8 @@ fault_of_member defined extensions front name required expr rest additional (res
 fault_of_member defined extensions front name required expr rest additional out_of_memory at_fault = tt
 fault_of_member defined extensions front name required expr rest additional _ at_fault = at_fault
 
--- attributes over names of some form, where it is given what a name refers to at a place of each kind
+-- attributes over names of some form, where it is given what a name refers to at a place of each
+-- kind
 module _ (N : Type 0) (refer : ReferenceType → N → Reference) where
   -- the entries of a record type
   abbrev pub Entries : Type 0
@@ -256,7 +257,8 @@ module _ (N : Type 0) (refer : ReferenceType → N → Reference) where
     ElaboratedSoFar-done : so_far.done ≡ entries_of it
     ElaboratedSoFar-done = sym (so_far.split ∙ (ap (λ others. so_far.done ++ others) nothing ∙ append-nil so_far.done))
 
-    -- a record type is elaborated as the closed record of attributes that hold the last of those that are elaborated
+    -- a record type is elaborated as the closed record of attributes that hold the last of those
+    -- that are elaborated
     pub record_elaborated : (fields : Fields) → IsOrdered string_cmp (out-RecordType N it).attributes
         → HoldsLast (plain_attributes items) fields → IsSortedByName fields
         → ElaboratesAs scope (record_type_expr N refer it) (record_of fields ClosedAttributes)

@@ -1,14 +1,14 @@
 -- Indices of common types that references may name, collected one after another.
 use Rattle.std.proofs.Common.{◌≡◌, ◌⊎◌, ℕ, List, [], ◌∷◌, ◌++◌, map, ap, sym, subst, ◌∙◌, refl, inl, inr, append_assoc, Contains, Result, Ok, Err, OnOk}
+use Rattle.std.proofs.Common.{string_bytes}
 use Rattle.std.proofs.lemmas.List.{append-nil}
 use Rattle.std.proofs.lemmas.List.Elements.{Contains-append_left, Contains-push, Contains-push_cases}
-use Rattle.cedar_elaboration.specs.Words.{AddsIndices, Expr, IsDefined, IsUnresolved, MayNameCommon, Members, MembersRefer, Names, PlainName, RecordType, Reference, ReferenceType, Refers, ResolvesTo, TypeOfAttribute, member, named, no_member, out-RecordType, out-TypeOfAttribute, record_expr, record_type_expr, set_expr}
-use Rattle.cedar_declarations.proofs.ResolutionLemmas.{IsFirst-same, first_defined}
-use Rattle.cedar_names.proofs.ExprLemmas.{record_type_expr-entries}
-use Rattle.cedar_elaboration.proofs.RecordLemmas.{Entries, append_members, attribute_expr, entries_of, refer-cases, refer-right, resolved_members, resolved_members-append, resolved_members-one}
-use Rattle.std.proofs.Common.{string_bytes}
 use Rattle.std.specs.declared.alloc.Global.{Global}
 use Rattle.std.specs.declared.string.String.{String}
+use Rattle.cedar_elaboration.proofs.RecordLemmas.{Entries, append_members, attribute_expr, entries_of, refer-cases, refer-right, resolved_members, resolved_members-append, resolved_members-one}
+use Rattle.cedar_elaboration.specs.Words.{AddsIndices, Expr, IsDefined, IsUnresolved, MayNameCommon, Members, MembersRefer, Names, PlainName, RecordType, Reference, ReferenceType, Refers, ResolvesTo, TypeOfAttribute, member, named, no_member, out-RecordType, out-TypeOfAttribute, record_expr, record_type_expr, set_expr}
+use Rattle.cedar_schema_ast.proofs.ExprLemmas.{record_type_expr-entries}
+use Rattle.cedar_schema_semantics.proofs.ResolutionLemmas.{IsFirst-same, first_defined}
 
 module _ (names : Names) (indices : List (PlainName × ℕ)) where
   -- where there is no reference, nothing is added

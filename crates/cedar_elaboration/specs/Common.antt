@@ -1,11 +1,11 @@
 -- What is promised of common types that are elaborated, and why they are refused.
 use Rattle.std.specs.Prelude.{List, Contains}
-use Rattle.cedar_below.specs.Words.{Chain, PlainName, Text, Twice}
-use Rattle.cedar_declarations.specs.Words.{Defined, Fault, HasOpenRecord, MentionsExtension, Refers, RefersToCommon, ResolvesTo, common_type_cycle, duplicate_common_type, names_of, out_of_memory}
-use Rattle.cedar_names.specs.Words.{Expr, Reference}
-use Rattle.cedar_elaboration.specs.Scope.{extension_name}
+use Rattle.cedar_ast.specs.Words.{Chain, PlainName, Text, Twice}
 use Rattle.cedar_elaboration.specs.Indices.{item_names}
 use Rattle.cedar_elaboration.specs.Refusals.{IsExprFault}
+use Rattle.cedar_elaboration.specs.Scope.{extension_name}
+use Rattle.cedar_schema_ast.specs.Words.{Expr, Reference}
+use Rattle.cedar_schema_semantics.specs.Words.{Defined, Fault, HasOpenRecord, MentionsExtension, Refers, RefersToCommon, ResolvesTo, common_type_cycle, duplicate_common_type, names_of, out_of_memory}
 
 -- the expression has no open record, each of its extension types is among some, and each of its
 -- references resolves

@@ -1,13 +1,13 @@
 -- Types that are declared, of a bag, and what its common types are elaborated as.
 use Rattle.std.specs.Prelude.{◌≡◌, List, ◌++◌, map, Contains}
-use Rattle.cedar_below.specs.Words.{IsReserved, PlainName, TypeNamesFit, extension_types}
-use Rattle.cedar_below.specs.declared.extension.Extensions.{Extensions}
-use Rattle.cedar_declarations.specs.Bag.{Bag, declared_common, defined_names, aliases, built_ins, definitions}
-use Rattle.cedar_declarations.specs.Names.{Names}
-use Rattle.cedar_fragments.specs.Words.{HoldsJust}
-use Rattle.cedar_names.specs.Expr.{Expr}
-use Rattle.cedar_type_rules.specs.Ty.{Ty}
+use Rattle.cedar_ast.specs.Words.{IsReserved, PlainName, TypeNamesFit, extension_types}
+use Rattle.cedar_ast.specs.declared.extension.Extensions.{Extensions}
 use Rattle.cedar_elaboration.specs.Scope.{HoldsElaborated}
+use Rattle.cedar_fragments.specs.Words.{HoldsJust}
+use Rattle.cedar_schema_ast.specs.Expr.{Expr}
+use Rattle.cedar_schema_semantics.specs.Bag.{Bag, declared_common, defined_names, aliases, built_ins, definitions}
+use Rattle.cedar_schema_semantics.specs.Names.{Names}
+use Rattle.cedar_type_rules.specs.Ty.{Ty}
 
 -- the common types are those that the bag declares, and then the built-in ones and its aliases; the
 -- names are those of what it defines, and no entity type among them is reserved; and names of

@@ -1,10 +1,10 @@
 -- Common types by their indices among those that are declared.
-use Rattle.std.specs.Prelude.{◌≡◌, ◌⊎◌, ℕ, List, Some, map, Contains, slice_get}
 use Rattle.std.specs.BTreeMap.{BTreeMap}
-use Rattle.cedar_below.specs.Words.{Included, PlainName, SameItems, name_of}
-use Rattle.cedar_below.specs.declared.internal_name.InternalName.{InternalName}
-use Rattle.cedar_declarations.specs.Words.{Defined, MayNameCommon, Names, ResolvesTo}
-use Rattle.cedar_names.specs.Words.{Expr, Reference}
+use Rattle.std.specs.Prelude.{◌≡◌, ◌⊎◌, ℕ, List, Some, map, Contains, slice_get}
+use Rattle.cedar_ast.specs.Words.{Included, PlainName, SameItems, name_of}
+use Rattle.cedar_ast.specs.declared.internal_name.InternalName.{InternalName}
+use Rattle.cedar_schema_ast.specs.Words.{Expr, Reference}
+use Rattle.cedar_schema_semantics.specs.Words.{Defined, MayNameCommon, Names, ResolvesTo}
 
 -- the names of some items
 abbrev pub item_names : List (PlainName × Expr) → List PlainName

@@ -1,9 +1,9 @@
 -- Common types in an order in which each comes after those that it refers to.
 use Rattle.std.specs.Prelude.{◌≡◌, ◌↔◌, ◌<◌, ◌++◌, ◌∷◌, ℕ, List, Some, Contains, length, slice_get}
-use Rattle.cedar_below.specs.Words.{Chain, PlainName, Twice}
-use Rattle.cedar_declarations.specs.Words.{Fault, MayNameCommon, Names, Refers, RefersToCommon, ResolvesTo, common_type_cycle, duplicate_common_type, out_of_memory}
-use Rattle.cedar_names.specs.Words.{Expr, Reference}
+use Rattle.cedar_ast.specs.Words.{Chain, PlainName, Twice}
 use Rattle.cedar_elaboration.specs.Indices.{NamesItems, defined_over, item_names}
+use Rattle.cedar_schema_ast.specs.Words.{Expr, Reference}
+use Rattle.cedar_schema_semantics.specs.Words.{Fault, MayNameCommon, Names, Refers, RefersToCommon, ResolvesTo, common_type_cycle, duplicate_common_type, out_of_memory}
 
 -- the indices are just those of the items, and each comes after those of the common types that its
 -- item refers to

@@ -1,6 +1,6 @@
 -- Primitive types, as they are written and as they are elaborated.
 use Rattle.std.specs.Prelude.{Bool, false, true}
-use Rattle.cedar_names.specs.Words.{Expr, long_expr, text_expr, truth_expr}
+use Rattle.cedar_schema_ast.specs.Words.{Expr, long_expr, text_expr, truth_expr}
 use Rattle.cedar_type_rules.specs.Ty.{Ty, long, text, truth}
 use Rattle.cedar_type_rules.specs.declared.bool_type.BoolType.TheVariants.{AnyBool}
 

@@ -1,10 +1,10 @@
 -- Why a type isn't elaborated.
 use Rattle.std.specs.Prelude.{◌≢◌, List, [], Contains}
-use Rattle.cedar_below.specs.PlainName.{PlainName, IsReserved, IsUnqualified}
-use Rattle.cedar_declarations.specs.Words.{Defined, Fault, HasOpenRecord, IsCommon, IsEntity, IsUnresolved, MentionsExtension, Refers, ResolvesTo, names_of, open_record, out_of_memory, reserved_name, type_not_defined, unknown_extension_type}
-use Rattle.cedar_names.specs.Words.{Expr, Reference}
+use Rattle.cedar_ast.specs.PlainName.{PlainName, IsReserved, IsUnqualified}
 use Rattle.cedar_elaboration.specs.Scope.{Covers, extensions_in_scope}
 use Rattle.cedar_elaboration.specs.declared.type_scope.TypeScope.{TypeScope}
+use Rattle.cedar_schema_ast.specs.Words.{Expr, Reference}
+use Rattle.cedar_schema_semantics.specs.Words.{Defined, Fault, HasOpenRecord, IsCommon, IsEntity, IsUnresolved, MentionsExtension, Refers, ResolvesTo, names_of, open_record, out_of_memory, reserved_name, type_not_defined, unknown_extension_type}
 
 -- the reference is to an entity type of that name, and to no common type, and the name is reserved,
 -- so that no type of the validator may hold it

@@ -1,15 +1,15 @@
 -- What is in scope as types are elaborated.
-use Rattle.std.specs.Prelude.{List, [], Contains, map}
 use Rattle.std.specs.BTreeMap.{BTreeMap}
-use Rattle.cedar_below.specs.Words.{PlainName, Text, extension_types, name_of}
-use Rattle.cedar_below.specs.declared.internal_name.InternalName.{InternalName}
-use Rattle.cedar_declarations.specs.Words.{Defined, ElaboratesTo, IsCommon, MentionsExtension, Refers, ResolvesTo, names_of}
+use Rattle.std.specs.Prelude.{List, [], Contains, map}
+use Rattle.cedar_ast.specs.Words.{PlainName, Text, extension_types, name_of}
+use Rattle.cedar_ast.specs.declared.internal_name.InternalName.{InternalName}
+use Rattle.cedar_elaboration.specs.declared.type_scope.TypeScope.{TypeScope}
 use Rattle.cedar_fragments.specs.Words.{HoldsJust, held_names}
-use Rattle.cedar_names.specs.Words.{Expr, Reference}
+use Rattle.cedar_schema_ast.specs.Words.{Expr, Reference}
+use Rattle.cedar_schema_semantics.specs.Words.{Defined, ElaboratesTo, IsCommon, MentionsExtension, Refers, ResolvesTo, names_of}
 use Rattle.cedar_type_rules.specs.Ty.{Ty}
 use Rattle.cedar_types.specs.Meaning.{ty_of}
 use Rattle.cedar_types.specs.declared.types.Type.{«Type»}
-use Rattle.cedar_elaboration.specs.declared.type_scope.TypeScope.{TypeScope}
 
 -- the types of a map, each with the name that it stands under
 abbrev pub elaborated_types : BTreeMap InternalName «Type» → List (PlainName × Ty)

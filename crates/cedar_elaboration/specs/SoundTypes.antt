@@ -1,10 +1,10 @@
 -- What is sure of the common types of a bag once they are elaborated.
 use Rattle.std.specs.Prelude.{Contains}
-use Rattle.cedar_below.specs.Words.{PlainName, Text, extension_types}
-use Rattle.cedar_below.specs.declared.extension.Extensions.{Extensions}
-use Rattle.cedar_declarations.specs.Words.{Bag, HasOpenRecord, IsFault, MentionsExtension, Refers, ResolvesTo, common_type_cycle, declared_common, defined_names, duplicate_common_type}
-use Rattle.cedar_names.specs.Words.{Expr, Reference}
+use Rattle.cedar_ast.specs.Words.{PlainName, Text, extension_types}
+use Rattle.cedar_ast.specs.declared.extension.Extensions.{Extensions}
 use Rattle.cedar_elaboration.specs.Scope.{extension_name}
+use Rattle.cedar_schema_ast.specs.Words.{Expr, Reference}
+use Rattle.cedar_schema_semantics.specs.Words.{Bag, HasOpenRecord, IsFault, MentionsExtension, Refers, ResolvesTo, common_type_cycle, declared_common, defined_names, duplicate_common_type}
 
 -- no common type is declared twice or is on a cycle, none has an open record, and each extension
 -- type in one is known and each reference resolves

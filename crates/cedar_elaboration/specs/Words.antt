@@ -1,22 +1,43 @@
 -- The words of clauses, from one place.
-pub use Rattle.cedar_below.specs.Words.{Chain, HoldsPairwise, Included, IsReserved, PlainName, SameItems, Text, Twice, TypeNamesFit, extension_types, id_text, more, name_of, one, text_cmp, unreserved_id_text}
-pub use Rattle.cedar_below.specs.declared.extension.Extensions.{Extensions}
-pub use Rattle.cedar_below.specs.declared.internal_name.InternalName.{InternalName}
-pub use Rattle.cedar_type_rules.specs.Words.{Fields, HoldsLast, IsSortedByName, Ty, end, extension_of, field, field_names, fields_from, long, record_of, set_of, text, union_of}
-pub use Rattle.cedar_type_rules.specs.declared.open_tag.OpenTag.TheVariants.{ClosedAttributes}
-pub use Rattle.cedar_names.specs.Words.{Expr, Members, Reference, extension_expr, flag_and_expr, member, members_from, named, namespace_name, no_member, record_expr, record_type_expr, set_expr, type_expr, variant_expr}
-pub use Rattle.cedar_names.specs.declared.json_schema.reference_type.ReferenceType.{ReferenceType}
-pub use Rattle.cedar_names.specs.declared.json_schema.type_of.RecordType.{RecordType, out-RecordType}
-pub use Rattle.cedar_names.specs.declared.json_schema.type_of.Type.{«Type»}
-pub use Rattle.cedar_names.specs.declared.json_schema.type_of.TypeOfAttribute.{TypeOfAttribute, out-TypeOfAttribute}
-pub use Rattle.cedar_types.specs.Words.{attribute_of, fields_of, plain_attributes, ty_of}
-pub use Rattle.cedar_types.specs.declared.attributes.AttributeType.{AttributeType}
-pub use Rattle.cedar_declarations.specs.Words.{Bag, Defined, ElaboratesTo, Fault, HasOpenRecord, IsCommon, IsCounted, IsDefined, IsEntity, IsFault, IsUnresolved, MayNameCommon, MembersElaborateTo, MembersHaveOpenRecord, MembersMentionExtension, MembersRefer, Names, Refers, RefersToCommon, ResolvesTo, alias_name, aliases, as_common, as_entity, as_extension, as_long, as_member, as_no_member, as_record, as_set, as_text, as_truth, built_in_name, built_in_types, built_ins, common_type_cycle, declared_common, definitions, duplicate_common_type, fault_of, is_declared_here, names_of, open_record, out_of_memory, reserved_name, type_not_defined, unknown_extension_type}
-pub use Rattle.cedar_fragments.specs.Words.{HoldsJust, held_names}
+pub use Rattle.cedar_ast.specs.Chain.{Chain, more, one}
+pub use Rattle.cedar_ast.specs.Extensions.{extension_types}
+pub use Rattle.cedar_ast.specs.Id.{id_text}
+pub use Rattle.cedar_ast.specs.InternalName.{name_of}
+pub use Rattle.cedar_ast.specs.Lists.{HoldsPairwise, Included, SameItems, Twice}
+pub use Rattle.cedar_ast.specs.PlainName.{IsReserved, PlainName}
+pub use Rattle.cedar_ast.specs.Text.{Text, text_cmp}
+pub use Rattle.cedar_ast.specs.TypeNames.{TypeNamesFit}
+pub use Rattle.cedar_ast.specs.UnreservedId.{unreserved_id_text}
+pub use Rattle.cedar_ast.specs.declared.extension.Extensions.{Extensions}
+pub use Rattle.cedar_ast.specs.declared.internal_name.InternalName.{InternalName}
+pub use Rattle.cedar_fragments.specs.HeldNames.{HoldsJust, held_names}
 pub use Rattle.cedar_fragments.specs.WrittenDeclarations.{written_common, written_expr}
 pub use Rattle.cedar_fragments.specs.declared.namespace.written.Written.{Written}
-pub use Rattle.cedar_graph.specs.Words.{IsOrder, LeadsTo}
-unfoldable pub use Rattle.cedar_graph.specs.Words.{items_at}
+unfoldable pub use Rattle.cedar_graph.specs.Numbered.{items_at}
+pub use Rattle.cedar_graph.specs.Order.{IsOrder, LeadsTo}
+pub use Rattle.cedar_schema_ast.specs.Expr.{Expr, Members, extension_expr, member, members_from, named, no_member, record_expr, set_expr}
+pub use Rattle.cedar_schema_ast.specs.NamespaceName.{namespace_name}
+pub use Rattle.cedar_schema_ast.specs.Reference.{Reference}
+pub use Rattle.cedar_schema_ast.specs.TypeExpr.{flag_and_expr, record_type_expr, type_expr, variant_expr}
+pub use Rattle.cedar_schema_ast.specs.declared.json_schema.reference_type.ReferenceType.{ReferenceType}
+pub use Rattle.cedar_schema_ast.specs.declared.json_schema.type_of.RecordType.{RecordType, out-RecordType}
+pub use Rattle.cedar_schema_ast.specs.declared.json_schema.type_of.Type.{«Type»}
+pub use Rattle.cedar_schema_ast.specs.declared.json_schema.type_of.TypeOfAttribute.{TypeOfAttribute, out-TypeOfAttribute}
+pub use Rattle.cedar_schema_semantics.specs.Bag.{Bag, alias_name, aliases, built_in_name, built_in_types, built_ins, declared_common, definitions, is_declared_here}
+pub use Rattle.cedar_schema_semantics.specs.Counted.{IsCounted}
+pub use Rattle.cedar_schema_semantics.specs.Defined.{Defined, IsCommon, names_of}
+pub use Rattle.cedar_schema_semantics.specs.ElaboratesTo.{ElaboratesTo, MembersElaborateTo, as_common, as_entity, as_extension, as_long, as_member, as_no_member, as_record, as_set, as_text, as_truth}
+pub use Rattle.cedar_schema_semantics.specs.Fault.{Fault, common_type_cycle, duplicate_common_type, open_record, out_of_memory, reserved_name, type_not_defined, unknown_extension_type}
+pub use Rattle.cedar_schema_semantics.specs.IllFormed.{IsFault, RefersToCommon}
+pub use Rattle.cedar_schema_semantics.specs.Mentions.{HasOpenRecord, MembersHaveOpenRecord, MembersMentionExtension, MembersRefer, Refers}
+pub use Rattle.cedar_schema_semantics.specs.Names.{IsDefined, IsEntity, IsUnresolved, MayNameCommon, Names, ResolvesTo}
+pub use Rattle.cedar_schema_semantics.specs.SchemaError.{fault_of}
+pub use Rattle.cedar_type_rules.specs.Fields.{HoldsLast, IsSortedByName, field_names}
+pub use Rattle.cedar_type_rules.specs.Ty.{Fields, Ty, end, extension_of, field, fields_from, long, record_of, set_of, text, union_of}
+pub use Rattle.cedar_type_rules.specs.declared.open_tag.OpenTag.TheVariants.{ClosedAttributes}
+pub use Rattle.cedar_types.specs.Attributes.{plain_attributes}
+pub use Rattle.cedar_types.specs.Meaning.{attribute_of, fields_of, ty_of}
+pub use Rattle.cedar_types.specs.declared.attributes.AttributeType.{AttributeType}
 pub use Rattle.cedar_elaboration.specs.Common.{AreSound, IsCommonFault, IsSoundExpr}
 pub use Rattle.cedar_elaboration.specs.DeclaredTypes.{AreElaborated, AreTypesOf}
 pub use Rattle.cedar_elaboration.specs.Indices.{AddsIndices, AreIndices, NamesItems, defined_over, indexed_names, item_names}

@@ -6,9 +6,9 @@ ghost use Rattle.cedar_elaboration.specs.Words.{AreElaborated, AreTypesOf, Bag, 
 use crate::common::common_types;
 use crate::indices::CommonType;
 use crate::shared_types::SharedTypes;
-use cedar_below::{Extensions, InternalName};
-use cedar_declarations::SchemaError;
+use cedar_ast::{Extensions, InternalName};
 use cedar_fragments::defs::{AllDefs, WrittenName};
+use cedar_schema_semantics::SchemaError;
 use cedar_types::Type;
 use std::alloc::Global;
 use std::collections::BTreeMap;

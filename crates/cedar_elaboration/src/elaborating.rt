@@ -4,11 +4,11 @@ ghost use Rattle.std.specs.Prelude.{◌≡◌, [], ◌∷◌, IfErr, IfOk, OnOk}
 ghost use Rattle.cedar_elaboration.specs.Words.{CoversExtensions, ElaboratesAs, HasOpenRecord, IsRefusal, ResolvesEach, fault_of, fields_of, named, namespace_name, record_of, record_type_expr, ty_of, type_expr, type_not_defined, variant_expr};
 
 use crate::type_scope::{TypeScope, entity_reference};
-use cedar_below::{InternalName, M, NonEmpty};
-use cedar_declarations::{SchemaError, UnsupportedFeature};
+use cedar_ast::{InternalName, M, NonEmpty};
 use cedar_fragments::defs::WrittenName;
-use cedar_names::json_schema;
-use cedar_names::json_schema::{RecordType, ReferenceType, TypeNotDefinedError, TypeVariant};
+use cedar_schema_ast::json_schema;
+use cedar_schema_ast::json_schema::{RecordType, ReferenceType, TypeNotDefinedError, TypeVariant};
+use cedar_schema_semantics::{SchemaError, UnsupportedFeature};
 use cedar_types::{AttributeType, Attributes, OpenTag, Type};
 use std::alloc::Global;
 use std::rc::Rc;

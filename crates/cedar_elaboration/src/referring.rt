@@ -5,10 +5,10 @@ ghost use Rattle.cedar_elaboration.specs.Words.{AddsIndices, Refers, held_names,
 
 use crate::indices::Indices;
 use crate::type_scope::may_name_common;
-use cedar_below::{InternalName, M};
+use cedar_ast::{InternalName, M};
 use cedar_fragments::defs::{AllDefs, WrittenName};
-use cedar_names::json_schema;
-use cedar_names::json_schema::{RecordType, ReferenceType, TypeVariant};
+use cedar_schema_ast::json_schema;
+use cedar_schema_ast::json_schema::{RecordType, ReferenceType, TypeVariant};
 use std::alloc::Global;
 
 /// What the names in a type are looked up in.

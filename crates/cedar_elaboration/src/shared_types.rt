@@ -2,14 +2,14 @@
 
 ghost use Rattle.std.specs.Prelude.{◌≡◌, [], IfOk, IfSome, true};
 ghost use Rattle.std.specs.Option.{option_copied};
-ghost use Rattle.cedar_names.specs.Words.{Reference, variant_expr};
-ghost use Rattle.cedar_names.specs.declared.json_schema.reference_type.ReferenceType.{ReferenceType};
+ghost use Rattle.cedar_schema_ast.specs.Words.{Reference, variant_expr};
+ghost use Rattle.cedar_schema_ast.specs.declared.json_schema.reference_type.ReferenceType.{ReferenceType};
 ghost use Rattle.cedar_type_rules.specs.Fields.{field_names};
 ghost use Rattle.cedar_types.specs.Meaning.{fields_of, ty_of};
 ghost use Rattle.cedar_elaboration.specs.Primitive.{IsPrimitive, is_long_type, is_text_type, is_truth_type};
 
-use cedar_below::M;
-use cedar_names::json_schema::TypeVariant;
+use cedar_ast::M;
+use cedar_schema_ast::json_schema::TypeVariant;
 use cedar_types::{Attributes, Type};
 use std::alloc::Global;
 use std::rc::Rc;

@@ -4,10 +4,10 @@ ghost use Rattle.std.specs.Prelude.{◌≡◌, ◌↔◌, ◌⊎◌, [], ◌∷�
 ghost use Rattle.cedar_elaboration.specs.Words.{IsReserved, MayNameCommon, elaborated_types, extension_name, extension_of, extensions_in_scope, fault_of, name_of, out_of_memory, reserved_name, ty_of, union_of, unknown_extension_type, unreserved_id_text};
 
 use crate::shared_types::SharedTypes;
-use cedar_below::{EntityType, Extensions, InternalName, M, Name, UnreservedId};
-use cedar_declarations::SchemaError;
+use cedar_ast::{EntityType, Extensions, InternalName, M, Name, UnreservedId};
 use cedar_fragments::defs::AllDefs;
-use cedar_names::json_schema::ReferenceType;
+use cedar_schema_ast::json_schema::ReferenceType;
+use cedar_schema_semantics::SchemaError;
 use cedar_types::Type;
 use std::alloc::Global;
 use std::collections::BTreeMap;

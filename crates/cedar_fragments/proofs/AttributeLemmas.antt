@@ -1,23 +1,23 @@
 -- The ids of actions that are written with attributes.
-use Rattle.std.specs.declared.vec.Vec.{Vec}
 use Rattle.std.proofs.Common.{vec_len, ◌==◌, eq-eqb, ◌≡◌, ◌≢◌, length, ◌⊎◌, ◌↔◌, Bool, true, false, List, [], ◌∷◌, ◌++◌, map, ap, sym, subst, ◌∙◌, refl, inl, inr, append_assoc, Contains, Option, None, Some, string_bytes, arith}
 use Rattle.std.proofs.lemmas.Bool.{false≢true}
 use Rattle.std.proofs.lemmas.List.{append-nil, map-append}
 use Rattle.std.proofs.lemmas.List.Elements.{Contains-append_left, Contains-append_right, Contains-append_cases}
+use Rattle.std.proofs.lemmas.Simd.{map-map}
 use Rattle.std.specs.List.{AllByRecursion}
 use Rattle.std.specs.List.Sorted.{IsStrictlySortedBy}
+use Rattle.std.specs.Map.{keys_of}
 use Rattle.std.specs.Option.{is_some}
+use Rattle.std.specs.String.{string_cmp}
 use Rattle.std.specs.declared.alloc.Global.{Global}
 use Rattle.std.specs.declared.cmp.Ordering.TheVariants.{Less}
 use Rattle.std.specs.declared.string.String.{String}
-use Rattle.std.proofs.lemmas.Simd.{map-map}
-use Rattle.std.specs.Map.{keys_of}
-use Rattle.std.specs.String.{string_cmp}
-use Rattle.cedar_below.proofs.Ordered.{IsStrictlySortedBy-map}
+use Rattle.std.specs.declared.vec.Vec.{Vec}
+use Rattle.cedar_ast.proofs.Lists.{Contains-cons, Contains-cons_cases, Contains-preimage}
+use Rattle.cedar_ast.proofs.Ordered.{IsStrictlySortedBy-map}
 use Rattle.cedar_fragments.specs.Words.{ActionBody, ActionType, Bag, Body, CommonType, CommonTypeId, Declaration, EntityBody, Expr, Fault, HasAttributes, IsDefinitionFault, NamesAllWithAttributes, NamesNoAttributes, PlainName, RawName, Text, UnreservedId, action, action_attributes, action_body, action_declarations, common_declarations, common_type, entity_declarations, entity_type, id_where, out_of_memory, raw_reference, text_cmp, with_attributes}
-use Rattle.cedar_below.proofs.Lists.{Contains-cons, Contains-cons_cases, Contains-preimage}
-use Rattle.cedar_declarations.proofs.OccurrenceLemmas.{Contains-image}
-use Rattle.cedar_names.specs.declared.json_schema.entity_type.EntityType.{EntityType}
+use Rattle.cedar_schema_ast.specs.declared.json_schema.entity_type.EntityType.{EntityType}
+use Rattle.cedar_schema_semantics.proofs.OccurrenceLemmas.{Contains-image}
 
 -- the actions of a definition
 abbrev pub Actions : Type 0
@@ -213,7 +213,8 @@ pub none_named : (bag : Bag) (namespace : Option PlainName) (fault : Fault) → 
 none_named bag namespace (action_attributes ids) none = absurd none
 none_named bag namespace _ none = tt
 
--- where other declarations declare no actions, what names just the actions with attributes of some names just those of all
+-- where other declarations declare no actions, what names just the actions with attributes of some
+-- names just those of all
 pub named_in_all : (others part : Bag) (namespace : Option PlainName) → ((it : Declaration) (body : ActionBody) → Contains others it → ¬ (it.body ≡ action body))
     → (fault : Fault) → NamesAllWithAttributes part namespace fault → NamesAllWithAttributes (others ++ part) namespace fault
 named_in_all others part namespace no_actions (action_attributes ids) named =

@@ -2,8 +2,8 @@
 use Rattle.std.proofs.Common.{◌≡◌, ◌++◌, List, [], ◌∷◌, Option, None, Some, map, refl, ap}
 use Rattle.std.specs.List.{flat_map}
 use Rattle.std.specs.Option.{option_map}
+use Rattle.cedar_ast.proofs.ShownLemmas.{same_shown}
 use Rattle.cedar_fragments.specs.Words.{AlikeConditional, AlikeEntity, AlikeFull, ConditionalName, EntityType, HoldsPairwise, InternalName, LocatedName, LocatesAlike, Locs, Reference, ReferenceType, RefersAlike, located_name, name_of, own_reference, positional_reference, reference_to_one, resolved_action_type, resolved_reference}
-use Rattle.cedar_below.proofs.ShownLemmas.{same_shown}
 
 -- what alike names refer to is the same, of the kinds that they say themselves
 pub own_alike : RefersAlike ConditionalName AlikeConditional own_reference

@@ -3,8 +3,8 @@ use Rattle.std.proofs.Common.{◌≡◌, List, [], ◌∷◌, ◌++◌, map, ap,
 use Rattle.std.proofs.lemmas.Grind.{flat_map-append}
 use Rattle.std.proofs.lemmas.List.{map-append, append-nil}
 use Rattle.std.specs.List.{flat_map}
-use Rattle.cedar_fragments.specs.Words.{AreTheDeclaredNames, Bag, Body, Declaration, IsActionType, PlainName, PlainUid, Reference, ReferenceType, ValidatorNamespaceDef, ValidatorSchemaFragment, action, action_fragment_body, action_fragment_declaration, action_fragment_declarations, action_in, common_in, common_type, common_type_declaration, common_type_declarations, declared_action, declared_as, declared_name, declared_names, declared_uid, definition_declarations, definition_names, definition_namespace, entity_in, entity_type, entity_type_declaration, entity_type_declarations, fragment_body, fragment_declarations, name_of, type_expr, type_name, uid_of, written_bag, written_definition}
 use Rattle.cedar_fragments.proofs.DeclaredAsLemmas.{path_within-namespace_of}
+use Rattle.cedar_fragments.specs.Words.{AreTheDeclaredNames, Bag, Body, Declaration, IsActionType, PlainName, PlainUid, Reference, ReferenceType, ValidatorNamespaceDef, ValidatorSchemaFragment, action, action_fragment_body, action_fragment_declaration, action_fragment_declarations, action_in, common_in, common_type, common_type_declaration, common_type_declarations, declared_action, declared_as, declared_name, declared_names, declared_uid, definition_declarations, definition_names, definition_namespace, entity_in, entity_type, entity_type_declaration, entity_type_declarations, fragment_body, fragment_declarations, name_of, type_expr, type_name, uid_of, written_bag, written_definition}
 
 -- what is declared under a name has that name
 pub name_declared : (name : PlainName) (body : Body) → declared_name (declared_as name body) ≡ name

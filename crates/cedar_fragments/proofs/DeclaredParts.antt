@@ -1,8 +1,8 @@
 -- What the parts of a definition declare: common types, entity types and actions.
 use Rattle.std.proofs.Common.{◌≡◌, List, [], ◌∷◌, ◌++◌, map, ap, ◌∙◌, refl}
 use Rattle.std.proofs.lemmas.List.{append-nil}
-use Rattle.cedar_fragments.specs.Words.{ActionDef, ActionsDef, CommonTypeDef, CommonTypeDefs, Declaration, EntityTypeDef, EntityTypesDef, Reference, ReferenceType, action, action_fragment_body, action_fragment_declaration, action_fragment_declarations, action_in, common_in, common_type, common_type_declaration, common_type_declarations, declared_actions, declared_common, declared_entities, declared_name, declared_uid, entity_in, entity_type, entity_type_declaration, entity_type_declarations, fragment_body, name_of, type_expr, type_name, uid_of}
 use Rattle.cedar_fragments.proofs.DeclaredNames.{name_declared, uid_declared, each_read, none_read, three_read}
+use Rattle.cedar_fragments.specs.Words.{ActionDef, ActionsDef, CommonTypeDef, CommonTypeDefs, Declaration, EntityTypeDef, EntityTypesDef, Reference, ReferenceType, action, action_fragment_body, action_fragment_declaration, action_fragment_declarations, action_in, common_in, common_type, common_type_declaration, common_type_declarations, declared_actions, declared_common, declared_entities, declared_name, declared_uid, entity_in, entity_type, entity_type_declaration, entity_type_declarations, fragment_body, name_of, type_expr, type_name, uid_of}
 
 module _ (N : Type 0) (refer : ReferenceType → N → Reference) where
   -- common types declare each its full name and its definition

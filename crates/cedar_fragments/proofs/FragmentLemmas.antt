@@ -4,9 +4,9 @@ use Rattle.std.proofs.lemmas.List.Elements.{Contains-append_left, Contains-appen
 use Rattle.std.proofs.lemmas.Result.{err_from_is_err_and}
 use Rattle.std.specs.List.{AllByRecursion, flat_map}
 use Rattle.std.specs.Result.{IsErrAnd}
-use Rattle.cedar_below.proofs.Lists.{Contains-cons_cases}
-use Rattle.cedar_fragments.specs.Words.{Bag, Declaration, Fault, Included, IsDefinitionFault, out_of_memory}
+use Rattle.cedar_ast.proofs.Lists.{Contains-cons_cases}
 use Rattle.cedar_fragments.proofs.SoundLemmas.{AllByRecursion-append, fault_included}
+use Rattle.cedar_fragments.specs.Words.{Bag, Declaration, Fault, Included, IsDefinitionFault, out_of_memory}
 
 -- the refusal of some declarations is that of all of them
 pub refusal_included : (part whole : Bag) → Included part whole → (fault : Fault)

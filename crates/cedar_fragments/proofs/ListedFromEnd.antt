@@ -5,8 +5,8 @@ use Rattle.std.proofs.lemmas.List.{append-nil, reverse-append}
 use Rattle.std.proofs.lemmas.List.Elements.{Contains-append_right}
 use Rattle.std.specs.List.{AllByRecursion}
 
--- the last items have given others, which show the same in turn from the last made to the first, and of which a fact holds;
--- others are left
+-- the last items have given others, which show the same in turn from the last made to the first,
+-- and of which a fact holds; others are left
 pub record ListedFromEnd {A B C : Type 0} (P : C → Type 0) (f : A → C) (g : B → C) (all : List A) (made : List B) (left : List A) : Type 0 where
   pub done : List A
   pub split : all ≡ left ++ done

@@ -5,10 +5,10 @@ use Rattle.std.specs.List.{flat_map}
 use Rattle.std.specs.declared.alloc.Global.{Global}
 use Rattle.std.specs.declared.boxed.Box.{Box}
 use Rattle.std.specs.declared.string.String.{String}
-use Rattle.cedar_fragments.specs.Words.{Boolean, CommonTypeRef, EntityOrCommon, Extension, HoldsPairwise, InternalName, Loc, Locs, Long, Plain, Record, RecordType, Set, «Type», TypeOfAttribute, TypeVariant, UnreservedId, attribute_locs, attribute_locs_step, fold-roll-RecordType, fold_out-RecordType, fold_out-TypeOfAttribute, no_locs, out-RecordType, out-TypeOfAttribute, record_locs, record_locs_step, roll-RecordType, the_lemmas, type_locs, type_locs_step, variant_locs, variant_locs_step}
 use Rattle.cedar_fragments.proofs.Pairwise.{SameKey}
-use Rattle.cedar_names.specs.declared.json_schema.type_of.Type.TheOpen as layer
-use Rattle.cedar_names.specs.declared.json_schema.type_of.TypeVariant.{String as text, Entity}
+use Rattle.cedar_fragments.specs.Words.{Boolean, CommonTypeRef, EntityOrCommon, Extension, HoldsPairwise, InternalName, Loc, Locs, Long, Plain, Record, RecordType, Set, «Type», TypeOfAttribute, TypeVariant, UnreservedId, attribute_locs, attribute_locs_step, fold-roll-RecordType, fold_out-RecordType, fold_out-TypeOfAttribute, no_locs, out-RecordType, out-TypeOfAttribute, record_locs, record_locs_step, roll-RecordType, the_lemmas, type_locs, type_locs_step, variant_locs, variant_locs_step}
+use Rattle.cedar_schema_ast.specs.declared.json_schema.type_of.Type.TheOpen as layer
+use Rattle.cedar_schema_ast.specs.declared.json_schema.type_of.TypeVariant.{String as text, Entity}
 
 -- in some names no locations are looked at
 pub none_in_names : {N : Type 0} (names : List N) → flat_map no_locs names ≡ []

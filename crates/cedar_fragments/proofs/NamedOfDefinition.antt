@@ -1,7 +1,7 @@
 -- Refusals that name the actions with attributes of a definition.
 use Rattle.std.proofs.Common.{◌≡◌, ◌⊎◌, List, [], ◌∷◌, Option, Contains, arith, inl, inr}
 use Rattle.std.specs.Option.{option_map}
-use Rattle.cedar_below.proofs.Lists.{Contains-cons_cases}
+use Rattle.cedar_ast.proofs.Lists.{Contains-cons_cases}
 use Rattle.cedar_fragments.specs.Words.{Bag, Extensions, Fault, Fragment, HasNoDefinitionFault, Included, IsFault, Name, NamesAllOfADefinition, NamesAllWithAttributes, NamespaceDefinition, RawName, action_attributes, entry_declarations, out_of_memory, plain_name}
 
 -- what names all of a definition of one of the fragments names all of a definition

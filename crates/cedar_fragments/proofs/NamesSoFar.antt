@@ -1,7 +1,7 @@
 -- Names that are collected from definitions and from fragments, one after another.
 use Rattle.std.proofs.Common.{◌≡◌, ℕ, ◌+◌, ◌<◌, ◌≤◌, List, [], length, get_or, take}
-use Rattle.cedar_fragments.specs.Words.{HoldsAlso, HoldsJust, Names, ValidatorNamespaceDef, ValidatorSchemaFragment, declared_names, definition_names, fragment_names, names_of_definitions}
 use Rattle.cedar_fragments.proofs.SetLemmas.{HasAlso-next_ones, HasAlso-all_ones, SameItems-from_none, SameItems-through}
+use Rattle.cedar_fragments.specs.Words.{HoldsAlso, HoldsJust, Names, ValidatorNamespaceDef, ValidatorSchemaFragment, declared_names, definition_names, fragment_names, names_of_definitions}
 
 module _ (N A : Type 0) where
   -- those of one more definition

@@ -9,10 +9,10 @@ use Rattle.std.specs.List.Sorted.{IsStrictlySortedBy}
 use Rattle.std.specs.Map.{keys_of}
 use Rattle.std.specs.declared.cmp.Ordering.{Ordering}
 use Rattle.std.specs.declared.cmp.Ordering.TheVariants.{Greater}
-use Rattle.cedar_below.proofs.Lists.{Contains-cons}
-use Rattle.cedar_below.proofs.Ordered.{above_front, insert_entry-end}
-use Rattle.cedar_below.specs.Lists.{HoldsPairwise}
-use Rattle.cedar_declarations.proofs.OccurrenceLemmas.{Contains-image}
+use Rattle.cedar_ast.proofs.Lists.{Contains-cons}
+use Rattle.cedar_ast.proofs.Ordered.{above_front, insert_entry-end}
+use Rattle.cedar_ast.specs.Lists.{HoldsPairwise}
+use Rattle.cedar_schema_semantics.proofs.OccurrenceLemmas.{Contains-image}
 
 module _ {A B : Type 0} (R : A → B → Type 0) where
   -- two lists after two others
@@ -21,7 +21,8 @@ module _ {A B : Type 0} (R : A → B → Type 0) where
   pairwise_append (x ∷ xs) xs' (y ∷ ys) ys' front back = (front.0, pairwise_append xs xs' ys ys' front.1 back)
   pairwise_append _ xs' _ ys' front back = absurd front
 
--- some items have given others, which are related to them through two functions, and others are left
+-- some items have given others, which are related to them through two functions, and others are
+-- left
 pub record TurnSoFar {X Y A B : Type 0} (R : A → B → Type 0) (f : X → A) (g : Y → B) (all : List X) (made : List Y) (left : List X) : Type 0 where
   pub done : List X
   pub split : all ≡ done ++ left

@@ -2,10 +2,10 @@
 use Rattle.std.proofs.Common.{◌≡◌, List, ◌++◌, Option, None, Some, map, ap, sym, ◌∙◌, arith, Contains, inl, inr}
 use Rattle.std.proofs.lemmas.List.Elements.{Contains-append_cases}
 use Rattle.std.specs.List.{flat_map}
-use Rattle.cedar_below.proofs.Lists.{Contains-preimage}
-use Rattle.cedar_declarations.proofs.OccurrenceLemmas.{Contains-flat_map}
+use Rattle.cedar_ast.proofs.Lists.{Contains-preimage}
 use Rattle.cedar_fragments.specs.Words.{ActionRequests, Declaration, Entity, EntityTypeFragment, IsEntityTypePosition, IsPrincipalOrResource, PlainName, PositionsFit, Reference, ReferenceType, ValidatorNamespaceDef, ValidatorSchemaFragment, action_fragment_declaration, action_fragment_declarations, common_type_declaration, common_type_declarations, definition_declarations, definition_namespace, entity_parents, entity_type_declaration, entity_type_declarations, fragment_body, fragment_declarations, fragment_requests, written_bag, written_definition, written_fragment}
 use Rattle.cedar_fragments.specs.declared.namespace.entity_types.EntityTypeFragment.TheVariants as variant
+use Rattle.cedar_schema_semantics.proofs.OccurrenceLemmas.{Contains-flat_map}
 
 -- where a name at the place of an entity type refers to one
 module _ (N : Type 0) (refer : ReferenceType → N → Reference) (fits : (name : N) → (refer Entity name).kind ≡ Entity) where

@@ -2,12 +2,12 @@
 use Rattle.std.proofs.Common.{◌≡◌, Bool, List, [], ◌∷◌, ◌++◌, map, ap, sym, subst, refl, inl, inr, Contains, string_bytes, arith}
 use Rattle.std.specs.declared.alloc.Global.{Global}
 use Rattle.std.specs.declared.string.String.{String}
-use Rattle.cedar_below.proofs.Lists.{Contains-cons_cases}
-use Rattle.cedar_fragments.specs.Words.{Expr, HoldsPairwise, InternalName, IsRefused, IsRefusedAmong, MembersRefer, Names, QualifyError, RecordType, Reference, ReferenceType, Refers, Resolves, ResolvesMembers, ResolvesTo, «Type», TypeOfAttribute, TypeVariant, flag_and_expr, member, members_from, name_of, named, out-RecordType, out-TypeOfAttribute, record_expr, record_type_expr, resolved_expr, resolved_record, resolved_reference, resolves_member, resolves_named, resolves_no_member, resolves_record, roll-RecordType, type_expr}
+use Rattle.cedar_ast.proofs.Lists.{Contains-cons_cases}
 use Rattle.cedar_fragments.proofs.Pairwise.{SameKey}
-use Rattle.cedar_names.proofs.ExprLemmas.{record_type_expr-entries, record_type_expr-made, flag_and_expr-parts}
-use Rattle.cedar_names.specs.declared.json_schema.qualify_error.QualifyError.TheVariants as error
-use Rattle.cedar_names.specs.declared.json_schema.type_of.Type.TheOpen as layer
+use Rattle.cedar_fragments.specs.Words.{Expr, HoldsPairwise, InternalName, IsRefused, IsRefusedAmong, MembersRefer, Names, QualifyError, RecordType, Reference, ReferenceType, Refers, Resolves, ResolvesMembers, ResolvesTo, «Type», TypeOfAttribute, TypeVariant, flag_and_expr, member, members_from, name_of, named, out-RecordType, out-TypeOfAttribute, record_expr, record_type_expr, resolved_expr, resolved_record, resolved_reference, resolves_member, resolves_named, resolves_no_member, resolves_record, roll-RecordType, type_expr}
+use Rattle.cedar_schema_ast.proofs.ExprLemmas.{record_type_expr-entries, record_type_expr-made, flag_and_expr-parts}
+use Rattle.cedar_schema_ast.specs.declared.json_schema.qualify_error.QualifyError.TheVariants as error
+use Rattle.cedar_schema_ast.specs.declared.json_schema.type_of.Type.TheOpen as layer
 
 module _ (names : Names) where
   -- references that are refused among some are refused among others that have all of those

@@ -2,9 +2,9 @@
 use Rattle.std.proofs.Common.{◌≡◌, ℕ, ◌+◌, ◌<◌, List, [], ◌∷◌, ◌++◌, map, ap, sym, subst, ◌∙◌, refl, inl, inr, length, get_or, take, drop, drop-cons, suc, Contains, arith}
 use Rattle.std.proofs.lemmas.List.{map-append, map_more, take-append-drop}
 use Rattle.std.specs.List.{AllByRecursion}
-use Rattle.cedar_below.proofs.Lists.{Contains-cons_cases}
-use Rattle.cedar_declarations.specs.Occurrences.{IsFirst}
+use Rattle.cedar_ast.proofs.Lists.{Contains-cons_cases}
 use Rattle.cedar_fragments.proofs.SoundLemmas.{AllByRecursion-append}
+use Rattle.cedar_schema_semantics.specs.Occurrences.{IsFirst}
 
 module _ {A B : Type 0} (P : B → Type 0) (f : A → B) where
   -- after items of which it doesn't hold, the fact holds first of the next of which it does

@@ -9,7 +9,7 @@ use Rattle.std.specs.List.{list_any, flat_map}
 use Rattle.std.specs.Ordering.{eq_by_cmp, is_eq, match_ordering}
 use Rattle.std.specs.declared.cmp.Ordering.{Ordering}
 use Rattle.std.specs.declared.cmp.Ordering.TheVariants.{Less, Equal, Greater}
-use Rattle.cedar_below.proofs.Lists.{Contains-cons, Contains-cons_cases, Contains-preimage, list_any-Contains}
+use Rattle.cedar_ast.proofs.Lists.{Contains-cons, Contains-cons_cases, Contains-preimage, list_any-Contains}
 use Rattle.cedar_fragments.specs.Words.{HasAlso, SameItems, StandsWhere}
 
 -- an answer that says so is a tie

@@ -1,13 +1,13 @@
 -- What can't be resolved in a part can't be in the whole.
 use Rattle.std.proofs.Common.{◌≡◌, List, [], ◌∷◌, map, ap, ◌∙◌, refl, inl, inr, Contains}
-use Rattle.cedar_below.proofs.Lists.{Contains-preimage}
-use Rattle.cedar_fragments.specs.Words.{ActionReference, AllDefs, Bag, Body, Declaration, Entity, EntityUID, Fault, HasToResolve, HasToResolveIn, HoldsPairwise, InternalName, IsDefined, IsRefusedAmong, IsReserved, IsUnresolvable, Names, NoneIsReserved, PlainName, PlainUid, QualifyError, Reference, ReferenceType, ResolvesBody, ResolvesDeclaration, ResolvesReference, ResolvesTo, action_not_defined, declared_action, declared_as, held_names, name_of, out_of_memory, qualify_fault, reference_to_one, reserved_name, resolved_reference, type_not_defined, uid_of}
-use Rattle.cedar_declarations.proofs.OccurrenceLemmas.{Contains-image}
-use Rattle.cedar_declarations.proofs.ResolutionLemmas.{IsFirst-same}
-use Rattle.cedar_declarations.proofs.TurnLemmas.{turn_forth, turn_back}
-use Rattle.cedar_fragments.proofs.SoundLemmas.{AllByRecursion-at}
-use Rattle.cedar_names.specs.declared.json_schema.qualify_error.QualifyError.TheVariants as error
 use Rattle.std.specs.List.{AllByRecursion}
+use Rattle.cedar_ast.proofs.Lists.{Contains-preimage}
+use Rattle.cedar_fragments.proofs.SoundLemmas.{AllByRecursion-at}
+use Rattle.cedar_fragments.specs.Words.{ActionReference, AllDefs, Bag, Body, Declaration, Entity, EntityUID, Fault, HasToResolve, HasToResolveIn, HoldsPairwise, InternalName, IsDefined, IsRefusedAmong, IsReserved, IsUnresolvable, Names, NoneIsReserved, PlainName, PlainUid, QualifyError, Reference, ReferenceType, ResolvesBody, ResolvesDeclaration, ResolvesReference, ResolvesTo, action_not_defined, declared_action, declared_as, held_names, name_of, out_of_memory, qualify_fault, reference_to_one, reserved_name, resolved_reference, type_not_defined, uid_of}
+use Rattle.cedar_schema_ast.specs.declared.json_schema.qualify_error.QualifyError.TheVariants as error
+use Rattle.cedar_schema_semantics.proofs.OccurrenceLemmas.{Contains-image}
+use Rattle.cedar_schema_semantics.proofs.ResolutionLemmas.{IsFirst-same}
+use Rattle.cedar_schema_semantics.proofs.TurnLemmas.{turn_forth, turn_back}
 
 -- what has to resolve in a declaration has to in a bag that has it
 pub to_resolve : (bag : Bag) (it : Declaration) → Contains bag it → (reference : Reference) → HasToResolveIn it.body reference

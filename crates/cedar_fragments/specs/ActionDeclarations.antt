@@ -1,14 +1,14 @@
 use Rattle.std.specs.Prelude.{false, List, map, Option, None, Some, string_bytes}
-use Rattle.cedar_below.specs.EntityUID.{uid_of}
+use Rattle.cedar_ast.specs.EntityUID.{uid_of}
 use Rattle.cedar_fragments.specs.DeclaredAs.{declared_action}
 use Rattle.cedar_fragments.specs.declared.namespace.action_def.ActionDef.{ActionDef}
 use Rattle.cedar_fragments.specs.declared.namespace.actions.ActionFragment.{ActionFragment}
 use Rattle.cedar_fragments.specs.declared.namespace.actions.ActionParent.{ActionParent}
 use Rattle.cedar_fragments.specs.declared.namespace.actions.ActionRequests.{ActionRequests}
 use Rattle.cedar_fragments.specs.declared.namespace.actions.ActionsDef.{ActionsDef}
-use Rattle.cedar_names.specs.Words.{ActionBody, ActionReference, Declaration, Reference, Requests, action, elsewhere, requests, type_expr}
-use Rattle.cedar_names.specs.declared.json_schema.reference_type.ReferenceType.{ReferenceType}
-use Rattle.cedar_names.specs.declared.json_schema.reference_type.ReferenceType.TheVariants.{Entity}
+use Rattle.cedar_schema_ast.specs.Words.{ActionBody, ActionReference, Declaration, Reference, Requests, action, elsewhere, requests, type_expr}
+use Rattle.cedar_schema_ast.specs.declared.json_schema.reference_type.ReferenceType.{ReferenceType}
+use Rattle.cedar_schema_ast.specs.declared.json_schema.reference_type.ReferenceType.TheVariants.{Entity}
 
 -- over names of some form, where it is given what a name refers to at a place of each kind
 module _ (N : Type 0) (refer : ReferenceType → N → Reference) where

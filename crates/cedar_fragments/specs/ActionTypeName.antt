@@ -1,4 +1,4 @@
-use Rattle.cedar_below.specs.Words.{PlainName, name_of}
+use Rattle.cedar_ast.specs.Words.{PlainName, name_of}
 use Rattle.cedar_fragments.specs.declared.namespace.action_type.UnqualifiedActionType.{UnqualifiedActionType}
 
 -- the name of the type that actions of no namespace share

@@ -1,6 +1,6 @@
 use Rattle.std.specs.Prelude.{List, [], ◌∷◌, Option, None, Some}
-use Rattle.cedar_below.specs.Words.{PlainName, PlainUid, Text}
-use Rattle.cedar_names.specs.Declaration.{Declaration, Body}
+use Rattle.cedar_ast.specs.Words.{PlainName, PlainUid, Text}
+use Rattle.cedar_schema_ast.specs.Declaration.{Declaration, Body}
 
 -- the name with a part before it
 abbrev pub within_part : Text → PlainName → PlainName

@@ -1,9 +1,9 @@
 use Rattle.std.specs.Prelude.{◌≡◌, ◌↔◌, ◌⊎◌, false, Option, Contains}
-use Rattle.cedar_below.specs.Words.{IsActionType, PlainName, Text, reserved_word}
-use Rattle.cedar_below.specs.declared.extension.Extensions.{Extensions}
-use Rattle.cedar_declarations.specs.Words.{Bag, Fault, HasAttributes, IsFault, action_attributes, action_entity_type, declared_name, declared_uid, out_of_memory, reserved_name}
-use Rattle.cedar_names.specs.Declaration.{Declaration, Body, common_type, entity_type, action}
-use Rattle.cedar_names.specs.Reference.{name_within, path_within}
+use Rattle.cedar_ast.specs.Words.{IsActionType, PlainName, Text, reserved_word}
+use Rattle.cedar_ast.specs.declared.extension.Extensions.{Extensions}
+use Rattle.cedar_schema_ast.specs.Declaration.{Declaration, Body, common_type, entity_type, action}
+use Rattle.cedar_schema_ast.specs.Reference.{name_within, path_within}
+use Rattle.cedar_schema_semantics.specs.Words.{Bag, Fault, HasAttributes, IsFault, action_attributes, action_entity_type, declared_name, declared_uid, out_of_memory, reserved_name}
 
 -- a refusal that a definition gives cause for whatever else is declared: actions with attributes,
 -- an entity type with the base name of actions' types, or what is declared in a reserved namespace

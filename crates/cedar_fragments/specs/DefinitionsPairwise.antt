@@ -1,23 +1,23 @@
-use Rattle.std.specs.Prelude.{List, map, Option}
 use Rattle.std.specs.Option.{option_map}
-use Rattle.cedar_below.specs.Name.{plain_name}
-use Rattle.cedar_below.specs.PlainName.{PlainName}
-use Rattle.cedar_below.specs.declared.entity_type.EntityType.{EntityType}
-use Rattle.cedar_below.specs.declared.internal_name.InternalName.{InternalName}
-use Rattle.cedar_below.specs.declared.loc.Loc.{Loc}
-use Rattle.cedar_below.specs.declared.name.Name.{Name}
-use Rattle.cedar_declarations.specs.Words.{Bag, resolved_reference}
+use Rattle.std.specs.Prelude.{List, map, Option}
+use Rattle.cedar_ast.specs.Name.{plain_name}
+use Rattle.cedar_ast.specs.PlainName.{PlainName}
+use Rattle.cedar_ast.specs.declared.entity_type.EntityType.{EntityType}
+use Rattle.cedar_ast.specs.declared.internal_name.InternalName.{InternalName}
+use Rattle.cedar_ast.specs.declared.loc.Loc.{Loc}
+use Rattle.cedar_ast.specs.declared.name.Name.{Name}
 use Rattle.cedar_fragments.specs.FragmentDeclarations.{definition_declarations, resolved_action_type, written_definition}
 use Rattle.cedar_fragments.specs.FragmentLocs.{definition_locs, no_locs}
 use Rattle.cedar_fragments.specs.Located.{LocatedName, definition_loc, definition_name, fragment_definitions, located_plain_name}
 use Rattle.cedar_fragments.specs.declared.namespace.definition.ValidatorNamespaceDef.{ValidatorNamespaceDef}
 use Rattle.cedar_fragments.specs.declared.namespace.fragment.ValidatorSchemaFragment.{ValidatorSchemaFragment}
-use Rattle.cedar_names.specs.Words.{Locs, Reference, positional_reference, raw_declarations}
-use Rattle.cedar_names.specs.declared.json_schema.conditional_name.ConditionalName.{ConditionalName}
-use Rattle.cedar_names.specs.declared.json_schema.fragment.Fragment.{Fragment}
-use Rattle.cedar_names.specs.declared.json_schema.fragment.NamespaceDefinition.{NamespaceDefinition}
-use Rattle.cedar_names.specs.declared.json_schema.raw_name.RawName.{RawName}
-use Rattle.cedar_names.specs.declared.json_schema.reference_type.ReferenceType.{ReferenceType}
+use Rattle.cedar_schema_ast.specs.Words.{Locs, Reference, positional_reference, raw_declarations}
+use Rattle.cedar_schema_ast.specs.declared.json_schema.conditional_name.ConditionalName.{ConditionalName}
+use Rattle.cedar_schema_ast.specs.declared.json_schema.fragment.Fragment.{Fragment}
+use Rattle.cedar_schema_ast.specs.declared.json_schema.fragment.NamespaceDefinition.{NamespaceDefinition}
+use Rattle.cedar_schema_ast.specs.declared.json_schema.raw_name.RawName.{RawName}
+use Rattle.cedar_schema_ast.specs.declared.json_schema.reference_type.ReferenceType.{ReferenceType}
+use Rattle.cedar_schema_semantics.specs.Words.{Bag, resolved_reference}
 
 -- the declarations of each definition of a fragment, one bag for each in order, be it empty
 abbrev pub declarations_pairwise : (N : Type 0) (refer : ReferenceType → N → Reference) (A : Type 0)

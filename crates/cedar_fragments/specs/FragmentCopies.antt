@@ -1,5 +1,5 @@
-use Rattle.std.specs.Prelude.{◌≡◌, Option}
 use Rattle.std.specs.Option.{option_map}
+use Rattle.std.specs.Prelude.{◌≡◌, Option}
 use Rattle.cedar_fragments.specs.ActionDeclarations.{action_fragment_body, action_fragment_declaration, action_fragment_declarations, fragment_parent, fragment_requests}
 use Rattle.cedar_fragments.specs.DefinitionsPairwise.{declarations_pairwise}
 use Rattle.cedar_fragments.specs.FragmentDeclarations.{definition_declarations, fragment_declarations}
@@ -19,9 +19,9 @@ use Rattle.cedar_fragments.specs.declared.namespace.entity_type_def.EntityTypeDe
 use Rattle.cedar_fragments.specs.declared.namespace.entity_types.EntityTypeFragment.{EntityTypeFragment}
 use Rattle.cedar_fragments.specs.declared.namespace.entity_types.EntityTypesDef.{EntityTypesDef}
 use Rattle.cedar_fragments.specs.declared.namespace.fragment.ValidatorSchemaFragment.{ValidatorSchemaFragment}
-use Rattle.cedar_names.specs.Words.{LocatesAlike, Locs, Reference, RefersAlike, ShowsSame, type_expr}
-use Rattle.cedar_names.specs.declared.json_schema.reference_type.ReferenceType.{ReferenceType}
-use Rattle.cedar_names.specs.declared.json_schema.type_of.Type.{«Type»}
+use Rattle.cedar_schema_ast.specs.Words.{LocatesAlike, Locs, Reference, RefersAlike, ShowsSame, type_expr}
+use Rattle.cedar_schema_ast.specs.declared.json_schema.reference_type.ReferenceType.{ReferenceType}
+use Rattle.cedar_schema_ast.specs.declared.json_schema.type_of.Type.{«Type»}
 
 -- names of some form, where it is given when one is like another
 module _ {N : Type 0} (alike : N → N → Type 0) where

@@ -1,17 +1,17 @@
-use Rattle.std.specs.Prelude.{List, ◌++◌, Option}
 use Rattle.std.specs.List.{flat_map}
 use Rattle.std.specs.Option.{option_map}
-use Rattle.cedar_below.specs.Words.{PlainName, name_of, type_name}
-use Rattle.cedar_below.specs.declared.entity_type.EntityType.{EntityType}
-use Rattle.cedar_below.specs.declared.internal_name.InternalName.{InternalName}
-use Rattle.cedar_declarations.specs.Words.{Bag, reference_to_one, resolved_reference}
+use Rattle.std.specs.Prelude.{List, ◌++◌, Option}
+use Rattle.cedar_ast.specs.Words.{PlainName, name_of, type_name}
+use Rattle.cedar_ast.specs.declared.entity_type.EntityType.{EntityType}
+use Rattle.cedar_ast.specs.declared.internal_name.InternalName.{InternalName}
 use Rattle.cedar_fragments.specs.ActionDeclarations.{action_fragment_declarations}
 use Rattle.cedar_fragments.specs.TypeDeclarations.{common_type_declarations, entity_type_declarations}
 use Rattle.cedar_fragments.specs.declared.namespace.definition.ValidatorNamespaceDef.{ValidatorNamespaceDef}
 use Rattle.cedar_fragments.specs.declared.namespace.fragment.ValidatorSchemaFragment.{ValidatorSchemaFragment}
-use Rattle.cedar_names.specs.Words.{Reference, positional_reference}
-use Rattle.cedar_names.specs.declared.json_schema.conditional_name.ConditionalName.{ConditionalName}
-use Rattle.cedar_names.specs.declared.json_schema.reference_type.ReferenceType.{ReferenceType}
+use Rattle.cedar_schema_ast.specs.Words.{Reference, positional_reference}
+use Rattle.cedar_schema_ast.specs.declared.json_schema.conditional_name.ConditionalName.{ConditionalName}
+use Rattle.cedar_schema_ast.specs.declared.json_schema.reference_type.ReferenceType.{ReferenceType}
+use Rattle.cedar_schema_semantics.specs.Words.{Bag, reference_to_one, resolved_reference}
 
 -- over names of some form, and names of the types of actions of another
 module _ (N : Type 0) (refer : ReferenceType → N → Reference) (A : Type 0)

@@ -1,6 +1,6 @@
-use Rattle.std.specs.Prelude.{[], ◌∷◌, ◌++◌, Option, None, Some}
 use Rattle.std.specs.List.{flat_map}
-use Rattle.cedar_below.specs.Words.{name_loc, type_loc, uid_loc, uid_type_loc}
+use Rattle.std.specs.Prelude.{[], ◌∷◌, ◌++◌, Option, None, Some}
+use Rattle.cedar_ast.specs.Words.{name_loc, type_loc, uid_loc, uid_type_loc}
 use Rattle.cedar_fragments.specs.declared.namespace.action_def.ActionDef.{ActionDef}
 use Rattle.cedar_fragments.specs.declared.namespace.actions.ActionFragment.{ActionFragment}
 use Rattle.cedar_fragments.specs.declared.namespace.actions.ActionParent.{ActionParent}
@@ -14,8 +14,8 @@ use Rattle.cedar_fragments.specs.declared.namespace.entity_types.EntityTypeFragm
 use Rattle.cedar_fragments.specs.declared.namespace.entity_types.EntityTypeFragment.TheVariants as variant
 use Rattle.cedar_fragments.specs.declared.namespace.entity_types.EntityTypesDef.{EntityTypesDef}
 use Rattle.cedar_fragments.specs.declared.namespace.fragment.ValidatorSchemaFragment.{ValidatorSchemaFragment}
-use Rattle.cedar_names.specs.TypeLocs.{Locs, type_locs}
-use Rattle.cedar_names.specs.declared.json_schema.type_of.Type.{«Type»}
+use Rattle.cedar_schema_ast.specs.TypeLocs.{Locs, type_locs}
+use Rattle.cedar_schema_ast.specs.declared.json_schema.type_of.Type.{«Type»}
 
 -- none of the locations in a name
 abbrev pub no_locs : {N : Type 0} → N → Locs

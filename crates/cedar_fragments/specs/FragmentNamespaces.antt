@@ -1,5 +1,5 @@
 use Rattle.std.specs.Prelude.{List, map, Option}
-use Rattle.cedar_below.specs.PlainName.{PlainName}
+use Rattle.cedar_ast.specs.PlainName.{PlainName}
 use Rattle.cedar_fragments.specs.FragmentDeclarations.{definition_namespace}
 use Rattle.cedar_fragments.specs.declared.namespace.fragment.ValidatorSchemaFragment.{ValidatorSchemaFragment}
 

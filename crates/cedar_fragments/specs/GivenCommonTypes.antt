@@ -1,10 +1,10 @@
 use Rattle.std.specs.Prelude.{List, map, Option}
-use Rattle.cedar_below.specs.Words.{PlainName, unreserved_id_text}
-use Rattle.cedar_below.specs.declared.unreserved_id.UnreservedId.{UnreservedId}
+use Rattle.cedar_ast.specs.Words.{PlainName, unreserved_id_text}
+use Rattle.cedar_ast.specs.declared.unreserved_id.UnreservedId.{UnreservedId}
 use Rattle.cedar_fragments.specs.DeclaredAs.{declared_as}
-use Rattle.cedar_names.specs.Words.{Declaration, common_type, name_within, positional_expr}
-use Rattle.cedar_names.specs.declared.json_schema.conditional_name.ConditionalName.{ConditionalName}
-use Rattle.cedar_names.specs.declared.json_schema.type_of.Type.{«Type»}
+use Rattle.cedar_schema_ast.specs.Words.{Declaration, common_type, name_within, positional_expr}
+use Rattle.cedar_schema_ast.specs.declared.json_schema.conditional_name.ConditionalName.{ConditionalName}
+use Rattle.cedar_schema_ast.specs.declared.json_schema.type_of.Type.{«Type»}
 
 -- what a common type of the id declares in a namespace, None being the empty one
 abbrev pub given_common_type : Option PlainName → UnreservedId × «Type» ConditionalName

@@ -1,14 +1,14 @@
-use Rattle.std.specs.Prelude.{◌≡◌, ◌⊎◌, ◌↔◌, List, Option, MatchOption, map, Contains}
 use Rattle.std.specs.List.{flat_map}
-use Rattle.cedar_below.specs.Words.{PlainName, PlainUid, SameItems, name_of, type_name, uid_of}
-use Rattle.cedar_declarations.specs.Words.{Bag, Names, action_uids, declared_common, declared_entities}
+use Rattle.std.specs.Prelude.{◌≡◌, ◌⊎◌, ◌↔◌, List, Option, MatchOption, map, Contains}
+use Rattle.cedar_ast.specs.Words.{PlainName, PlainUid, SameItems, name_of, type_name, uid_of}
 use Rattle.cedar_fragments.specs.declared.defs.all_defs.AllDefs.{AllDefs}
 use Rattle.cedar_fragments.specs.declared.defs.name_lists.NameLists.{NameLists}
 use Rattle.cedar_fragments.specs.declared.namespace.actions.ActionsDef.{ActionsDef}
 use Rattle.cedar_fragments.specs.declared.namespace.common_types.CommonTypeDefs.{CommonTypeDefs}
-use Rattle.cedar_fragments.specs.declared.namespace.entity_types.EntityTypesDef.{EntityTypesDef}
 use Rattle.cedar_fragments.specs.declared.namespace.definition.ValidatorNamespaceDef.{ValidatorNamespaceDef}
+use Rattle.cedar_fragments.specs.declared.namespace.entity_types.EntityTypesDef.{EntityTypesDef}
 use Rattle.cedar_fragments.specs.declared.namespace.fragment.ValidatorSchemaFragment.{ValidatorSchemaFragment}
+use Rattle.cedar_schema_semantics.specs.Words.{Bag, Names, action_uids, declared_common, declared_entities}
 
 -- the names that are held: of common types, of entity types, and the uids of actions
 abbrev pub held_names : AllDefs → Names

@@ -1,7 +1,7 @@
 use Rattle.std.specs.Prelude.{◌≡◌, ◌≢◌, ◌⊎◌, [], Some, Option, Contains}
-use Rattle.cedar_below.specs.Words.{IsReserved, PlainName, Text}
-use Rattle.cedar_declarations.specs.Words.{Bag, CountsIn, CountsInRequests, Fault, HasToResolve, IsEntityTypePosition, IsPrincipalOrResource, IsUnresolved, Names, NamesNoAction, Refers, ResolvesTo, action_not_defined, out_of_memory, reserved_name, type_not_defined}
-use Rattle.cedar_names.specs.Words.{ActionReference, Body, Declaration, Expr, Reference, Requests, action}
+use Rattle.cedar_ast.specs.Words.{IsReserved, PlainName, Text}
+use Rattle.cedar_schema_ast.specs.Words.{ActionReference, Body, Declaration, Expr, Reference, Requests, action}
+use Rattle.cedar_schema_semantics.specs.Words.{Bag, CountsIn, CountsInRequests, Fault, HasToResolve, IsEntityTypePosition, IsPrincipalOrResource, IsUnresolved, Names, NamesNoAction, Refers, ResolvesTo, action_not_defined, out_of_memory, reserved_name, type_not_defined}
 
 -- the reference has to name something: it stands in an expression that counts in what is declared,
 -- or at the position of an entity type

@@ -1,9 +1,9 @@
 use Rattle.std.specs.Prelude.{◌≡◌, [], ◌∷◌, map, Contains}
-use Rattle.cedar_below.specs.NonEmpty.{items_of}
-use Rattle.cedar_declarations.specs.Names.{Names, IsUnresolved}
-use Rattle.cedar_names.specs.Words.{Reference, conditional_reference}
-use Rattle.cedar_names.specs.declared.json_schema.qualify_error.QualifyError.{QualifyError}
-use Rattle.cedar_names.specs.declared.json_schema.qualify_error.QualifyError.TheVariants as error
+use Rattle.cedar_ast.specs.NonEmpty.{items_of}
+use Rattle.cedar_schema_ast.specs.Words.{Reference, conditional_reference}
+use Rattle.cedar_schema_ast.specs.declared.json_schema.qualify_error.QualifyError.{QualifyError}
+use Rattle.cedar_schema_ast.specs.declared.json_schema.qualify_error.QualifyError.TheVariants as error
+use Rattle.cedar_schema_semantics.specs.Names.{Names, IsUnresolved}
 
 -- the reference is refused, over the names that are defined: it names nothing, and the refusal
 -- holds it alone; or memory ran out

@@ -1,6 +1,6 @@
 use Rattle.std.specs.Prelude.{◌≡◌, List, ◌++◌, Contains}
-use Rattle.cedar_below.specs.Words.{IsUnqualified, PlainName, PlainUid, Text}
-use Rattle.cedar_declarations.specs.Words.{Fault, Names, ShadowsAction, ShadowsType, action_shadowing, type_shadowing}
+use Rattle.cedar_ast.specs.Words.{IsUnqualified, PlainName, PlainUid, Text}
+use Rattle.cedar_schema_semantics.specs.Words.{Fault, Names, ShadowsAction, ShadowsType, action_shadowing, type_shadowing}
 
 -- the names of types, common and entity
 abbrev pub type_names : Names → List PlainName

@@ -1,6 +1,6 @@
-use Rattle.std.specs.Prelude.{List, map}
 use Rattle.std.specs.Option.{option_map}
-use Rattle.cedar_below.specs.Words.{eid_text, items_of, name_of, type_name}
+use Rattle.std.specs.Prelude.{List, map}
+use Rattle.cedar_ast.specs.Words.{eid_text, items_of, name_of, type_name}
 use Rattle.cedar_fragments.specs.DeclaredAs.{declared_as}
 use Rattle.cedar_fragments.specs.declared.namespace.common_types.CommonTypeDef.{CommonTypeDef}
 use Rattle.cedar_fragments.specs.declared.namespace.common_types.CommonTypeDefs.{CommonTypeDefs}
@@ -8,9 +8,9 @@ use Rattle.cedar_fragments.specs.declared.namespace.entity_type_def.EntityTypeDe
 use Rattle.cedar_fragments.specs.declared.namespace.entity_types.EntityTypeFragment.{EntityTypeFragment}
 use Rattle.cedar_fragments.specs.declared.namespace.entity_types.EntityTypeFragment.TheVariants as variant
 use Rattle.cedar_fragments.specs.declared.namespace.entity_types.EntityTypesDef.{EntityTypesDef}
-use Rattle.cedar_names.specs.Words.{Declaration, EntityBody, Reference, common_type, entity_type, enumerated, external, standard, type_expr}
-use Rattle.cedar_names.specs.declared.json_schema.reference_type.ReferenceType.{ReferenceType}
-use Rattle.cedar_names.specs.declared.json_schema.reference_type.ReferenceType.TheVariants.{Entity}
+use Rattle.cedar_schema_ast.specs.Words.{Declaration, EntityBody, Reference, common_type, entity_type, enumerated, external, standard, type_expr}
+use Rattle.cedar_schema_ast.specs.declared.json_schema.reference_type.ReferenceType.{ReferenceType}
+use Rattle.cedar_schema_ast.specs.declared.json_schema.reference_type.ReferenceType.TheVariants.{Entity}
 
 -- types over names of some form, where it is given what a name refers to at a place of each kind
 module _ (N : Type 0) (refer : ReferenceType → N → Reference) where

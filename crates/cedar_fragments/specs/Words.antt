@@ -1,28 +1,62 @@
 -- The words of clauses, from one place.
-pub use Rattle.cedar_below.specs.Words.{HoldsOfAll, HoldsPairwise, Included, IsActionType, IsReserved, IsUnqualified, PlainName, PlainUid, SameItems, Text, action_word, id_text, name_loc, name_of, plain_name, reserved_word, text_cmp, type_loc, type_name, uid_loc, uid_of, uid_type_loc, unreserved_id_text}
-pub use Rattle.cedar_below.specs.declared.entity_type.EntityType.{EntityType}
-pub use Rattle.cedar_below.specs.declared.entity_uid.EntityUID.{EntityUID}
-pub use Rattle.cedar_below.specs.declared.extension.Extensions.{Extensions}
-pub use Rattle.cedar_below.specs.declared.internal_name.InternalName.{InternalName}
-pub use Rattle.cedar_below.specs.declared.loc.Loc.{Loc}
-pub use Rattle.cedar_below.specs.declared.name.Name.{Name}
-pub use Rattle.cedar_below.specs.declared.unreserved_id.UnreservedId.{UnreservedId}
-pub use Rattle.cedar_names.specs.Words.{ActionBody, ActionReference, AlikeConditional, AlikeEntity, AlikeFull, Body, Declaration, EntityBody, Expr, LocatesAlike, Locs, Reference, RefersAlike, action, action_body, action_declarations, applies_to, attribute_locs, attribute_locs_step, common_declarations, common_type, common_type_text, conditional_reference, entity_declarations, entity_type, external, flag_and_expr, member, members_from, name_within, named, names_of, namespace_name, own_reference, parent_action, parent_actions, path_within, positional_expr, positional_reference, possibilities_of, raw_declarations, raw_entity_body, raw_expr, raw_fragment, raw_reference, record_expr, record_locs, record_locs_step, record_type_expr, set_expr, standard, type_expr, type_locs, type_locs_step, variant_expr, variant_locs, variant_locs_step}
-pub use Rattle.cedar_names.specs.declared.json_schema.action_type.ActionType.{ActionType}
-pub use Rattle.cedar_names.specs.declared.json_schema.common_type_id.CommonTypeId.{CommonTypeId}
-pub use Rattle.cedar_names.specs.declared.json_schema.conditional_name.ConditionalName.{ConditionalName}
-pub use Rattle.cedar_names.specs.declared.json_schema.fragment.CommonType.{CommonType}
-pub use Rattle.cedar_names.specs.declared.json_schema.fragment.Fragment.{Fragment}
-pub use Rattle.cedar_names.specs.declared.json_schema.fragment.NamespaceDefinition.{NamespaceDefinition}
-pub use Rattle.cedar_names.specs.declared.json_schema.qualify_error.QualifyError.{QualifyError}
-pub use Rattle.cedar_names.specs.declared.json_schema.raw_name.RawName.{RawName}
-pub use Rattle.cedar_names.specs.declared.json_schema.reference_type.ReferenceType.{ReferenceType}
-pub use Rattle.cedar_names.specs.declared.json_schema.reference_type.ReferenceType.TheVariants.{Common, CommonOrEntity, Entity}
-pub use Rattle.cedar_names.specs.declared.json_schema.type_of.RecordType.{RecordType, fold-roll-RecordType, fold_out-RecordType, out-RecordType, roll-RecordType}
-pub use Rattle.cedar_names.specs.declared.json_schema.type_of.Type.{CommonTypeRef, Plain, «Type», the_lemmas}
-pub use Rattle.cedar_names.specs.declared.json_schema.type_of.TypeOfAttribute.{TypeOfAttribute, fold_out-TypeOfAttribute, out-TypeOfAttribute}
-pub use Rattle.cedar_names.specs.declared.json_schema.type_of.TypeVariant.{Boolean, EntityOrCommon, Extension, Long, Record, Set, TypeVariant}
-pub use Rattle.cedar_declarations.specs.Words.{Bag, Fault, HasAttributes, HasToResolve, IsDefined, IsEntityTypePosition, IsFault, IsFirst, IsPrincipalOrResource, IsUnresolved, MembersRefer, Names, NamesAction, NamesNoAction, PositionsFit, Refers, Resolves, ResolvesBag, ResolvesBody, ResolvesDeclaration, ResolvesEntityBody, ResolvesMembers, ResolvesParent, ResolvesReference, ResolvesRequests, ResolvesTags, ResolvesTo, ShadowsAction, ShadowsType, action_attributes, action_entity_type, action_in, action_not_defined, action_uids, carried_action, common_in, declared_actions, declared_common, declared_entities, declared_name, declared_uid, entity_in, entity_parents, fault_of, out_of_memory, qualify_fault, reference_to_one, reserved_name, resolved_expr, resolved_record, resolved_reference, resolved_variant, resolves_extension, resolves_long, resolves_member, resolves_named, resolves_no_member, resolves_record, resolves_set, resolves_text, resolves_truth, type_not_defined}
+pub use Rattle.cedar_ast.specs.EntityType.{type_loc, type_name}
+pub use Rattle.cedar_ast.specs.EntityUID.{uid_loc, uid_of, uid_type_loc}
+pub use Rattle.cedar_ast.specs.Id.{id_text}
+pub use Rattle.cedar_ast.specs.Identifier.{reserved_word}
+pub use Rattle.cedar_ast.specs.InternalName.{name_loc, name_of}
+pub use Rattle.cedar_ast.specs.Iterators.{HoldsOfAll}
+pub use Rattle.cedar_ast.specs.Lists.{HoldsPairwise, Included, SameItems}
+pub use Rattle.cedar_ast.specs.Name.{plain_name}
+pub use Rattle.cedar_ast.specs.PlainName.{IsActionType, IsReserved, IsUnqualified, PlainName, action_word}
+pub use Rattle.cedar_ast.specs.PlainUid.{PlainUid}
+pub use Rattle.cedar_ast.specs.Text.{Text, text_cmp}
+pub use Rattle.cedar_ast.specs.UnreservedId.{unreserved_id_text}
+pub use Rattle.cedar_ast.specs.declared.entity_type.EntityType.{EntityType}
+pub use Rattle.cedar_ast.specs.declared.entity_uid.EntityUID.{EntityUID}
+pub use Rattle.cedar_ast.specs.declared.extension.Extensions.{Extensions}
+pub use Rattle.cedar_ast.specs.declared.internal_name.InternalName.{InternalName}
+pub use Rattle.cedar_ast.specs.declared.loc.Loc.{Loc}
+pub use Rattle.cedar_ast.specs.declared.name.Name.{Name}
+pub use Rattle.cedar_ast.specs.declared.unreserved_id.UnreservedId.{UnreservedId}
+pub use Rattle.cedar_schema_ast.specs.ActionBody.{ActionBody, action_body, applies_to, parent_action, parent_actions}
+pub use Rattle.cedar_schema_ast.specs.CommonTypeId.{common_type_text}
+pub use Rattle.cedar_schema_ast.specs.ConditionalExpr.{own_reference, positional_expr, positional_reference}
+pub use Rattle.cedar_schema_ast.specs.ConditionalName.{conditional_reference, possibilities_of}
+pub use Rattle.cedar_schema_ast.specs.Copies.{AlikeConditional, AlikeEntity, AlikeFull, LocatesAlike, RefersAlike}
+pub use Rattle.cedar_schema_ast.specs.Declaration.{Body, Declaration, action, action_declarations, common_declarations, common_type, entity_declarations, entity_type, raw_declarations, raw_fragment}
+pub use Rattle.cedar_schema_ast.specs.EntityBody.{EntityBody, external, raw_entity_body, standard}
+pub use Rattle.cedar_schema_ast.specs.Expr.{Expr, member, members_from, named, record_expr, set_expr}
+pub use Rattle.cedar_schema_ast.specs.NamespaceName.{namespace_name}
+pub use Rattle.cedar_schema_ast.specs.PossibleNames.{names_of}
+pub use Rattle.cedar_schema_ast.specs.RawExpr.{raw_expr, raw_reference}
+pub use Rattle.cedar_schema_ast.specs.Reference.{ActionReference, Reference, name_within, path_within}
+pub use Rattle.cedar_schema_ast.specs.TypeExpr.{flag_and_expr, record_type_expr, type_expr, variant_expr}
+pub use Rattle.cedar_schema_ast.specs.TypeLocs.{Locs, attribute_locs, attribute_locs_step, record_locs, record_locs_step, type_locs, type_locs_step, variant_locs, variant_locs_step}
+pub use Rattle.cedar_schema_ast.specs.declared.json_schema.action_type.ActionType.{ActionType}
+pub use Rattle.cedar_schema_ast.specs.declared.json_schema.common_type_id.CommonTypeId.{CommonTypeId}
+pub use Rattle.cedar_schema_ast.specs.declared.json_schema.conditional_name.ConditionalName.{ConditionalName}
+pub use Rattle.cedar_schema_ast.specs.declared.json_schema.fragment.CommonType.{CommonType}
+pub use Rattle.cedar_schema_ast.specs.declared.json_schema.fragment.Fragment.{Fragment}
+pub use Rattle.cedar_schema_ast.specs.declared.json_schema.fragment.NamespaceDefinition.{NamespaceDefinition}
+pub use Rattle.cedar_schema_ast.specs.declared.json_schema.qualify_error.QualifyError.{QualifyError}
+pub use Rattle.cedar_schema_ast.specs.declared.json_schema.raw_name.RawName.{RawName}
+pub use Rattle.cedar_schema_ast.specs.declared.json_schema.reference_type.ReferenceType.{ReferenceType}
+pub use Rattle.cedar_schema_ast.specs.declared.json_schema.reference_type.ReferenceType.TheVariants.{Common, CommonOrEntity, Entity}
+pub use Rattle.cedar_schema_ast.specs.declared.json_schema.type_of.RecordType.{RecordType, fold-roll-RecordType, fold_out-RecordType, out-RecordType, roll-RecordType}
+pub use Rattle.cedar_schema_ast.specs.declared.json_schema.type_of.Type.{CommonTypeRef, Plain, the_lemmas, «Type»}
+pub use Rattle.cedar_schema_ast.specs.declared.json_schema.type_of.TypeOfAttribute.{TypeOfAttribute, fold_out-TypeOfAttribute, out-TypeOfAttribute}
+pub use Rattle.cedar_schema_ast.specs.declared.json_schema.type_of.TypeVariant.{Boolean, EntityOrCommon, Extension, Long, Record, Set, TypeVariant}
+pub use Rattle.cedar_schema_semantics.specs.Bag.{Bag, action_in, action_uids, common_in, declared_actions, declared_common, declared_entities, declared_name, declared_uid, entity_in}
+pub use Rattle.cedar_schema_semantics.specs.Counted.{HasToResolve, IsEntityTypePosition, IsPrincipalOrResource, PositionsFit, entity_parents}
+pub use Rattle.cedar_schema_semantics.specs.Fault.{Fault, action_attributes, action_entity_type, action_not_defined, out_of_memory, reserved_name, type_not_defined}
+pub use Rattle.cedar_schema_semantics.specs.IllFormed.{HasAttributes, IsFault}
+pub use Rattle.cedar_schema_semantics.specs.Mentions.{MembersRefer, Refers}
+pub use Rattle.cedar_schema_semantics.specs.Names.{IsDefined, IsUnresolved, Names, NamesAction, NamesNoAction, ResolvesTo}
+pub use Rattle.cedar_schema_semantics.specs.Occurrences.{IsFirst}
+pub use Rattle.cedar_schema_semantics.specs.Resolved.{Resolves, ResolvesBag, ResolvesBody, ResolvesDeclaration, ResolvesEntityBody, ResolvesMembers, ResolvesParent, ResolvesReference, ResolvesRequests, ResolvesTags, reference_to_one, resolves_extension, resolves_long, resolves_member, resolves_named, resolves_no_member, resolves_record, resolves_set, resolves_text, resolves_truth}
+pub use Rattle.cedar_schema_semantics.specs.ResolvedExpr.{resolved_expr, resolved_record, resolved_reference, resolved_variant}
+pub use Rattle.cedar_schema_semantics.specs.SchemaError.{carried_action, fault_of, qualify_fault}
+pub use Rattle.cedar_schema_semantics.specs.Shadowing.{ShadowsAction, ShadowsType}
 pub use Rattle.cedar_fragments.specs.ActionDeclarations.{action_fragment_body, action_fragment_declaration, action_fragment_declarations, fragment_parent, fragment_requests}
 pub use Rattle.cedar_fragments.specs.ActionTypeName.{unqualified_action_type}
 pub use Rattle.cedar_fragments.specs.DeclaredAs.{declared_action, declared_as, name_of_parts, namespace_of, within_part}

@@ -1,19 +1,19 @@
 -- Declarations by the names that are written, each with the namespace that these are written in.
-use Rattle.std.specs.Prelude.{List, map, Option}
 use Rattle.std.specs.Global.{Box}
 use Rattle.std.specs.Option.{option_map}
-use Rattle.cedar_below.specs.Words.{PlainName, PlainUid, name_of, type_name, uid_of}
-use Rattle.cedar_below.specs.declared.entity_type.EntityType.{EntityType}
-use Rattle.cedar_below.specs.declared.entity_uid.EntityUID.{EntityUID}
-use Rattle.cedar_below.specs.declared.internal_name.InternalName.{InternalName}
+use Rattle.std.specs.Prelude.{List, map, Option}
+use Rattle.cedar_ast.specs.Words.{PlainName, PlainUid, name_of, type_name, uid_of}
+use Rattle.cedar_ast.specs.declared.entity_type.EntityType.{EntityType}
+use Rattle.cedar_ast.specs.declared.entity_uid.EntityUID.{EntityUID}
+use Rattle.cedar_ast.specs.declared.internal_name.InternalName.{InternalName}
 use Rattle.cedar_fragments.specs.ActionDeclarations.{action_fragment_body}
 use Rattle.cedar_fragments.specs.TypeDeclarations.{fragment_body}
 use Rattle.cedar_fragments.specs.declared.namespace.actions.ActionFragment.{ActionFragment}
 use Rattle.cedar_fragments.specs.declared.namespace.entity_types.EntityTypeFragment.{EntityTypeFragment}
 use Rattle.cedar_fragments.specs.declared.namespace.written.Written.{Written}
-use Rattle.cedar_names.specs.Words.{ActionBody, EntityBody, Expr, Reference, type_expr}
-use Rattle.cedar_names.specs.declared.json_schema.reference_type.ReferenceType.{ReferenceType}
-use Rattle.cedar_names.specs.declared.json_schema.type_of.Type.{«Type»}
+use Rattle.cedar_schema_ast.specs.Words.{ActionBody, EntityBody, Expr, Reference, type_expr}
+use Rattle.cedar_schema_ast.specs.declared.json_schema.reference_type.ReferenceType.{ReferenceType}
+use Rattle.cedar_schema_ast.specs.declared.json_schema.type_of.Type.{«Type»}
 
 -- the namespace that the names of a declaration are written in, None being the empty one
 abbrev pub written_namespace : {D : Type 0} → Written D → Option PlainName

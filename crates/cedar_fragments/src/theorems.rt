@@ -3,12 +3,12 @@
 ghost use Rattle.std.specs.Prelude.{◌≡◌, List};
 ghost use Rattle.std.specs.List.{flat_map};
 ghost use Rattle.cedar_fragments.specs.Words.{AreTheDeclaredNames, HasNoDefinitionFault, PositionsFit, Reference, ReferenceType, RefersAlike, SameDeclarations, ValidatorSchemaFragment, conditional_bag, conditional_fragment, declared_names, fragment_declarations, own_reference, positional_reference, resolved_action_type, resolved_fragment, resolved_reference};
-ghost use Rattle.cedar_below.specs.declared.entity_type.EntityType.{EntityType as ActionEntityType};
-ghost use Rattle.cedar_below.specs.declared.internal_name.InternalName.{InternalName as Full};
-ghost use Rattle.cedar_names.specs.declared.json_schema.conditional_name.ConditionalName.{ConditionalName as Conditional};
+ghost use Rattle.cedar_ast.specs.declared.entity_type.EntityType.{EntityType as ActionEntityType};
+ghost use Rattle.cedar_ast.specs.declared.internal_name.InternalName.{InternalName as Full};
+ghost use Rattle.cedar_schema_ast.specs.declared.json_schema.conditional_name.ConditionalName.{ConditionalName as Conditional};
 
-use cedar_below::{EntityType, InternalName};
-use cedar_names::json_schema::{ConditionalName, FragmentName};
+use cedar_ast::{EntityType, InternalName};
+use cedar_schema_ast::json_schema::{ConditionalName, FragmentName};
 
 /// The names that fragments declare are those of their bag, whatever their references are to.
 pub fn names_are_those_of_the_bag<N, A>()

@@ -1,10 +1,10 @@
 -- Chains of targets that lead back: each number on one has a list of its own.
 use Rattle.std.proofs.Common.{ℕ, ◌<◌, Contains, Vec, List, length, subst, inl, inr}
 use Rattle.std.proofs.lemmas.Bool.{cases_lt}
-use Rattle.cedar_below.proofs.Chains.{first_step, refined}
-use Rattle.cedar_graph.specs.Words.{Chain, IsTarget, LeadsTo, more, one}
+use Rattle.cedar_ast.proofs.Chains.{first_step, refined}
 use Rattle.cedar_graph.proofs.KeyedEdges.{nothing_in_nil}
 use Rattle.cedar_graph.proofs.Lists.{items_at-past}
+use Rattle.cedar_graph.specs.Words.{Chain, IsTarget, LeadsTo, more, one}
 
 module _ {Z : Type 0} (targets : List (Vec ℕ Z)) where
   -- what has a target has a list

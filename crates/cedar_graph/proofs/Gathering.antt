@@ -1,17 +1,17 @@
 -- Numbers gathered one after another, and how far each is gone through.
 use Rattle.std.proofs.Common.{◌≡◌, ◌≢◌, ◌⊎◌, ◌↔◌, ◌++◌, ◌<◌, ◌≤◌, ℕ, zero, suc, Bool, true, false, List, [], ◌∷◌, Vec, Contains, length, get_or, set, replicate, refl, sym, ◌∙◌, ap, subst, inl, inr, arith}
 use Rattle.std.proofs.lemmas.Bool.{cases_eq}
+use Rattle.std.proofs.lemmas.Bool.Decides.{Decides-eqb}
 use Rattle.std.proofs.lemmas.List.{append_assoc, append-nil, get_or-set_same, get_or-set_other, length-set}
 use Rattle.std.proofs.lemmas.List.Elements.{Contains-append_left, Contains-append_right, Contains-append_cases}
-use Rattle.std.proofs.lemmas.Bool.Decides.{Decides-eqb}
 use Rattle.std.proofs.lemmas.Map.Made.{IsDistinct-from_AllPairs}
-use Rattle.std.proofs.lemmas.Map.Views.{Contains-from_any}
 use Rattle.std.proofs.lemmas.Map.Steps.{length-le_from_distinct_below}
-use Rattle.cedar_below.proofs.Chains.{held_after, joined}
-use Rattle.cedar_below.proofs.Lists.{Contains-cons}
-use Rattle.cedar_graph.specs.Words.{AreGathered, AreReached, Chain, Done, Fresh, GathersMore, IsTarget, Met, mark_of, one}
+use Rattle.std.proofs.lemmas.Map.Views.{Contains-from_any}
+use Rattle.cedar_ast.proofs.Chains.{held_after, joined}
+use Rattle.cedar_ast.proofs.Lists.{Contains-cons}
 use Rattle.cedar_graph.proofs.OrderProgress.{distinct_snoc}
 use Rattle.cedar_graph.proofs.OrderSteps.{single}
+use Rattle.cedar_graph.specs.Words.{AreGathered, AreReached, Chain, Done, Fresh, GathersMore, IsTarget, Met, mark_of, one}
 use Rattle.cedar_graph.specs.declared.closing.Mark.{Mark}
 
 -- a mark that was read is that of its number

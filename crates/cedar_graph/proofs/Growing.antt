@@ -1,10 +1,10 @@
 -- Nodes that gain edges: none, more, one gain after another, and the gain of one node of a map.
 use Rattle.std.proofs.Common.{◌≡◌, Bool, cond, IsTrue, ◌⊎◌, inl, inr, Option, None, Some, IsSome, IsSomeAnd, HashMap, sym, ◌∙◌, subst, subst₂}
+use Rattle.std.proofs.lemmas.Bool.{cases_Bool, cond-true, cond-false}
 use Rattle.std.specs.Cmp.{IsEquivalence}
 use Rattle.std.specs.HashMap.{get}
-use Rattle.std.proofs.lemmas.Bool.{cases_Bool, cond-true, cond-false}
-use Rattle.cedar_graph.specs.Words.{AreAlike, GrowsAt, GrowsBy}
 use Rattle.cedar_graph.proofs.Numbers.{get_alike}
+use Rattle.cedar_graph.specs.Words.{AreAlike, GrowsAt, GrowsBy}
 
 module _ {K V : Type 0} (has_edge : V → K → Bool) (is_alike : V → V → Type 0) where
   -- a node that is left as it was

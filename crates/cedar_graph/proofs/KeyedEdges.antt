@@ -1,12 +1,12 @@
 -- Edges of the nodes of a map against the numbers of their targets.
 use Rattle.std.proofs.Common.{◌≡◌, ℕ, zero, suc, ◌≤◌, Bool, true, IsTrue, IfSome, IsSome, is_some, IsSomeAnd, List, [], Option, None, Some, Vec, HashMap, length, slice_get, Contains, option_map, refl, sym, ◌∙◌, ap, subst, arith, inl, inr}
-use Rattle.std.specs.Cmp.{IsEquivalence}
-use Rattle.std.specs.HashMap.{get, keys, values, IsUnique}
 use Rattle.std.proofs.lemmas.Map.Entries.{place_from_lookup, lookup_from_place}
 use Rattle.std.proofs.lemmas.Option.{slice_get-map, slice_get_cases}
-use Rattle.cedar_graph.specs.Words.{AreNumbersOf, Chain, HasEdge, IsNumbered, IsTarget, items_at, more, one}
+use Rattle.std.specs.Cmp.{IsEquivalence}
+use Rattle.std.specs.HashMap.{get, keys, values, IsUnique}
 use Rattle.cedar_graph.proofs.Lists.{items_at-past}
 use Rattle.cedar_graph.proofs.Numbers.{number_alike, number_same, number_below, get_alike}
+use Rattle.cedar_graph.specs.Words.{AreNumbersOf, Chain, HasEdge, IsNumbered, IsTarget, items_at, more, one}
 
 -- what is some value with a property
 pub some_with : {X : Type 0} (o : Option X) (P : X → Type 0) → IsSomeAnd o P → (x : X) × (o ≡ Some x) × P x

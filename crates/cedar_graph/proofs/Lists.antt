@@ -1,8 +1,8 @@
 -- Lemmas on lists, and on the items of a list of lists at a place.
 use Rattle.std.proofs.Common.{◌≡◌, ◌≢◌, ℕ, zero, suc, ◌+◌, ◌<◌, ◌≤◌, List, [], ◌∷◌, ◌++◌, Vec, Contains, length, get_or, set, take, drop, slice_get, Some, refl, arith, ap, ◌∙◌, sym, subst, inl, inr}
-use Rattle.std.specs.Vec.{with_items}
 use Rattle.std.proofs.Math.Seq.{take-append_seam}
 use Rattle.std.proofs.lemmas.Bool.{cases_eq}
+use Rattle.std.specs.Vec.{with_items}
 use Rattle.cedar_graph.specs.Numbered.{items_at}
 
 module _ {X Z : Type 0} where

@@ -1,12 +1,12 @@
 -- Entries put into a map, and taken out of it.
 use Rattle.std.proofs.Common.{◌≡◌, ◌⊎◌, inl, inr, Bool, true, false, cond, List, [], ◌∷◌, Option, None, Some, BTreeMap, refl, subst, ◌∙◌, Contains, arith}
 use Rattle.std.proofs.lemmas.List.Elements.{Contains-append_right}
-use Rattle.std.specs.BTreeMap.{insert_entry, is_at}
 use Rattle.std.specs.BTreeMap as tree
+use Rattle.std.specs.BTreeMap.{insert_entry, is_at}
 use Rattle.std.specs.Map.{lookup, remove_entry}
 use Rattle.std.specs.declared.cmp.Ordering.{Ordering}
 use Rattle.std.specs.declared.cmp.Ordering.TheVariants.{Less, Equal, Greater}
-use Rattle.cedar_below.proofs.Lists.{Contains-cons_cases}
+use Rattle.cedar_ast.proofs.Lists.{Contains-cons_cases}
 
 module _ {K X : Type 0} where
   -- an entry of those into which one was put at a new key is that one, or stood there
@@ -35,7 +35,8 @@ module _ {K X : Type 0} where
     by false is among more =
         elim (Contains-cons_cases e (remove_entry test es) entry (rw is at among)) [ inl same ↦ subst (Contains (e ∷ es)) same (0, omega arith, refl) | inr later ↦ Contains-append_right (e ∷ []) es entry (more later) ]
 
--- an entry of a map, in which one was put where one of its key was taken out, is that one or stood there before
+-- an entry of a map, in which one was put where one of its key was taken out, is that one or stood
+-- there before
 pub replaced_in_order : {K X : Type 0} (cmp : K → K → Ordering) (test : K → Bool) (before without after : BTreeMap K X) (key : K) (value : X)
     → without.entries ≡ remove_entry test before.entries → tree.get cmp without key ≡ None
     → after.entries ≡ insert_entry cmp without.entries key value

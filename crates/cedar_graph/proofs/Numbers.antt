@@ -1,12 +1,13 @@
--- Keys and their numbers: how one more name changes them, and chains of keys against chains of numbers.
+-- Keys and their numbers: how one more name changes them, and chains of keys against chains of
+-- numbers.
 use Rattle.std.proofs.Common.{◌≡◌, ◌⊎◌, ℕ, zero, suc, ◌<◌, Bool, true, false, cond, IsTrue, List, [], ◌∷◌, ◌++◌, length, Option, Some, None, IsSomeAnd, IfSome, slice_get, get_or, HashMap, refl, sym, ◌∙◌, ap, subst, inl, inr, arith}
+use Rattle.std.proofs.lemmas.Bool.{both_ways, cases_Bool, cond-true, cond-false}
+use Rattle.std.proofs.lemmas.Map.Keys.{apart_from_distinct}
+use Rattle.std.proofs.lemmas.Option.{MatchOption-at_some, slice_get-get_or, get_or_from_slice_get, none-some, same_Some, slice_get_within}
 use Rattle.std.specs.Cmp.{IsEquivalence}
 use Rattle.std.specs.HashMap.{get}
-use Rattle.std.specs.Map.{lookup}
-use Rattle.std.proofs.lemmas.Bool.{both_ways, cases_Bool, cond-true, cond-false}
-use Rattle.std.proofs.lemmas.Option.{MatchOption-at_some, slice_get-get_or, get_or_from_slice_get, none-some, same_Some, slice_get_within}
 use Rattle.std.specs.List.{IsDistinct}
-use Rattle.std.proofs.lemmas.Map.Keys.{apart_from_distinct}
+use Rattle.std.specs.Map.{lookup}
 use Rattle.cedar_graph.specs.Words.{AreNumbers, AreNumbersOf, Chain, IsNumbered, KeepsNumbers, more, one}
 
 -- what is never some value is none

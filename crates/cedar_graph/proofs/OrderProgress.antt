@@ -1,13 +1,13 @@
 -- How far numbers are ordered, and what each step makes of it.
 use Rattle.std.proofs.Common.{◌≡◌, ◌≢◌, ◌⊎◌, ◌↔◌, ◌<◌, ◌≤◌, ◌+◌, ℕ, zero, suc, List, [], ◌∷◌, ◌++◌, None, Vec, AllPairs, Contains, length, map, get_or, set, ap, sym, subst, ◌∙◌, refl, inl, inr, ⊎_elim, arith}
-use Rattle.std.proofs.lemmas.List.{append_assoc, map-append, get_or-set_same, get_or-set_other, length-set, length-append}
-use Rattle.std.proofs.lemmas.List.Elements.{Contains-append_left, Contains-append_right, Contains-append_cases}
-use Rattle.cedar_below.proofs.Lists.{Contains-cons, Contains-cons_cases}
-use Rattle.cedar_graph.specs.Words.{Chain, Enter, IsOrder, IsTarget, LeadsTo, Leave, Mark, Open, Step, items_at, more, one}
-use Rattle.cedar_below.proofs.Chains.{last_step}
 use Rattle.std.proofs.Math.ListN.{get_or-append}
 use Rattle.std.proofs.Math.Seq.{get_or-append_seam}
+use Rattle.std.proofs.lemmas.List.{append_assoc, map-append, get_or-set_same, get_or-set_other, length-set, length-append}
+use Rattle.std.proofs.lemmas.List.Elements.{Contains-append_left, Contains-append_right, Contains-append_cases}
+use Rattle.cedar_ast.proofs.Chains.{last_step}
+use Rattle.cedar_ast.proofs.Lists.{Contains-cons, Contains-cons_cases}
 use Rattle.cedar_graph.proofs.OrderSteps.{number_of, single, image, enter_or_leave, enters_leave_none, AreSteps, steps_before, steps_opened, left_once, left_covered, left_within, leads_back}
+use Rattle.cedar_graph.specs.Words.{Chain, Enter, IsOrder, IsTarget, LeadsTo, Leave, Mark, Open, Step, items_at, more, one}
 use Rattle.cedar_graph.specs.declared.ordering.Mark.TheVariants.{Fresh, Done}
 
 -- the mark of a number
@@ -105,7 +105,8 @@ distinct_snoc xs x distinct other i j d below within same =
         elim (below_or_last k n (omega (arith, within))) [ inl less ↦ inl (omega (arith, less)) | inr same ↦ inr (ap suc same) ]
 
 module _ {Z : Type 0} (targets : List (Vec ℕ Z)) where
-  -- how far the numbers are ordered: which are done and open, what is to be done, and the order so far
+  -- how far the numbers are ordered: which are done and open, what is to be done, and the order so
+  -- far
   pub record Progress (marks : List Mark) (steps : List Step) (order : List ℕ) : Type 0 where
     pub len : length marks ≡ length targets
     pub within : (n : ℕ) → Contains order n → n < length targets
@@ -298,8 +299,8 @@ module _ {Z : Type 0} (targets : List (Vec ℕ Z)) (order : List ℕ) (ordered :
       let at = taken_apart order number ((ordered.each number).1 last.1) in
       stands_once at.0 number at.1 (rw at.2 at ordered.once) (chain_before number number chain at.0 at.1 at.2)
 
--- what is still to be paid for a mark of a number that leads to so many: a fresh one will take a step for itself and one
--- for each
+-- what is still to be paid for a mark of a number that leads to so many: a fresh one will take a
+-- step for itself and one for each
 abbrev pub cost : Mark → ℕ → ℕ
 cost Fresh count = suc count
 cost _ count = 0

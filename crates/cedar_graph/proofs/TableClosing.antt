@@ -1,20 +1,20 @@
 -- A table whose nodes have gained edges, against the chains of what its keys lead to.
 use Rattle.std.proofs.Common.{◌≡◌, ◌↔◌, ℕ, zero, suc, ◌<◌, Bool, Contains, Err, Ok, OnOk, Result, List, [], ◌∷◌, Some, Vec, length, slice_get, option_map, refl, sym, ◌∙◌, ap, subst, arith, inl, inr}
+use Rattle.std.proofs.lemmas.List.{length-map}
+use Rattle.std.proofs.lemmas.Map.Keys.{IsDistinct-from_sorted}
+use Rattle.std.proofs.lemmas.Map.Made.{keys_of-zip}
+use Rattle.std.proofs.lemmas.Option.{get_or_from_slice_get, same_Some, slice_get-map, slice_get_within}
+use Rattle.std.proofs.lemmas.Slice.Zip.{seconds-zip}
 use Rattle.std.specs.Cmp.{IsEquivalence}
 use Rattle.std.specs.List.{IsDistinct, zip}
 use Rattle.std.specs.List.Sorted.{IsStrictlySortedBy}
 use Rattle.std.specs.Map.{keys_of, values_of}
 use Rattle.std.specs.Ordering.{is_eq}
 use Rattle.std.specs.declared.cmp.Ordering.{Ordering}
-use Rattle.std.proofs.lemmas.List.{length-map}
-use Rattle.std.proofs.lemmas.Map.Keys.{IsDistinct-from_sorted}
-use Rattle.std.proofs.lemmas.Map.Made.{keys_of-zip}
-use Rattle.std.proofs.lemmas.Option.{get_or_from_slice_get, same_Some, slice_get-map, slice_get_within}
-use Rattle.std.proofs.lemmas.Slice.Zip.{seconds-zip}
-use Rattle.cedar_below.proofs.Chains.{refined}
-use Rattle.cedar_graph.specs.Words.{AreInTurn, Chain, HasCycle, HoldsPairwise, IsClosedTo, IsCycle, IsGrown, IsLack, IsTableFault, IsTarget, Lacks, ListHas, Memory, StandsIn, StepsTo, TableFault, items_at, one}
+use Rattle.cedar_ast.proofs.Chains.{refined}
 use Rattle.cedar_graph.proofs.Growing.{grows_weaker}
 use Rattle.cedar_graph.proofs.TableEdges.{chain_of_keys, chain_of_numbers, entry_numbered, one_place}
+use Rattle.cedar_graph.specs.Words.{AreInTurn, Chain, HasCycle, HoldsPairwise, IsClosedTo, IsCycle, IsGrown, IsLack, IsTableFault, IsTarget, Lacks, ListHas, Memory, StandsIn, StepsTo, TableFault, items_at, one}
 
 -- keys that rise differ
 pub distinct_keys : {K : Type 0} {eq : K → K → Bool} (cmp : K → K → Ordering) → ((a b : K) → eq a b ≡ is_eq (cmp a b))

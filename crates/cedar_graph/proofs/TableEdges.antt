@@ -1,21 +1,21 @@
 -- The edges of a table's nodes against the places of their targets.
 use Rattle.std.proofs.Common.{◌≡◌, ◌≢◌, ◌⊎◌, ◌+◌, ℕ, zero, suc, ◌≤◌, ◌<◌, Bool, IsTrue, IfSome, List, [], ◌∷◌, None, Some, Vec, length, slice_get, get_or, Contains, option_map, refl, sym, ◌∙◌, ap, subst, true, false, ltb, ltb-true, ltb-false, arith, inl, inr}
+use Rattle.std.proofs.Math.ListN.{set}
+use Rattle.std.proofs.lemmas.Bool.{both_ways, cases_Bool, cases_eq, cases_lt, cond-false, cond-true}
+use Rattle.std.proofs.lemmas.List.{length-map}
+use Rattle.std.proofs.lemmas.Map.Keys.{apart_from_distinct}
+use Rattle.std.proofs.lemmas.Option.{get_or_from_slice_get, none-some, same_Some, slice_get-get_or, slice_get-map, slice_get_cases, slice_get_within}
 use Rattle.std.specs.BTreeMap.{is_at}
 use Rattle.std.specs.Cmp.{IsEquivalence}
 use Rattle.std.specs.List.{IsDistinct}
 use Rattle.std.specs.Map.{keys_of, lookup, values_of}
 use Rattle.std.specs.Ordering.{is_eq}
 use Rattle.std.specs.declared.cmp.Ordering.{Ordering}
-use Rattle.std.proofs.Math.ListN.{set}
-use Rattle.std.proofs.lemmas.Bool.{both_ways, cases_Bool, cases_eq, cases_lt, cond-false, cond-true}
-use Rattle.std.proofs.lemmas.List.{length-map}
-use Rattle.std.proofs.lemmas.Map.Keys.{apart_from_distinct}
-use Rattle.std.proofs.lemmas.Option.{get_or_from_slice_get, none-some, same_Some, slice_get-get_or, slice_get-map, slice_get_cases, slice_get_within}
-use Rattle.cedar_graph.specs.Words.{AreNumbersOf, Chain, GrowsBy, HasCycle, HasEntry, IsGrown, IsLack, IsNumbered, IsTarget, Lacks, ListHas, Memory, StandsAt, StandsIn, StepsTo, TableFault, items_at}
 use Rattle.cedar_graph.proofs.Growing.{grows_weaker}
 use Rattle.cedar_graph.proofs.KeyedEdges.{nothing_in_nil, some_with}
 use Rattle.cedar_graph.proofs.Lists.{items_at-past}
 use Rattle.cedar_graph.proofs.Numbers.{eq_back, eq_trans, keys_from_numbers, number_alike, number_below, number_same, numbered_from_name, numbers_from_keys}
+use Rattle.cedar_graph.specs.Words.{AreNumbersOf, Chain, GrowsBy, HasCycle, HasEntry, IsGrown, IsLack, IsNumbered, IsTarget, Lacks, ListHas, Memory, StandsAt, StandsIn, StepsTo, TableFault, items_at}
 
 -- where an entry's key passes, something is found
 found_at : {K V : Type 0} (test : K → Bool) (es : List (K × V)) (i : ℕ) (e : K × V) → slice_get es i ≡ Some e
@@ -232,7 +232,8 @@ module _ {K V : Type 0} (eq : K → K → Bool) (has_edge : V → K → Bool) (i
     (list known added : List ℕ) (only : (number : ℕ) → Contains added number → Contains list number)
     (all : (number : ℕ) → Contains list number → Contains known number ⊎ Contains added number) (old new : V)
     (has : (to : K) → StandsIn eq names known to → IsTrue (has_edge old to)) where
-  -- a node that had the known edges, and gained those after them, has gained those of the whole list
+  -- a node that had the known edges, and gained those after them, has gained those of the whole
+  -- list
   pub grown_after : GrowsBy has_edge is_alike old new (StandsIn eq names added)
       → ((to : K) → StandsIn eq names added to → IsTrue (has_edge new to))
       → IsGrown has_edge is_alike (StandsIn eq names list) old new

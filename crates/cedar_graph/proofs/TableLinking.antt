@@ -1,18 +1,18 @@
 -- The targets of places, filled from a list of edges, against these edges.
 use Rattle.std.proofs.Common.{◌≡◌, ◌⊎◌, ◌++◌, ◌↔◌, ℕ, ◌<◌, ◌+◌, Bool, IfSome, IsTrue, List, [], ◌∷◌, Vec, Contains, length, set, slice_get, sym, ◌∙◌, ap, subst, arith, inl, inr}
-use Rattle.std.specs.Cmp.{IsEquivalence}
 use Rattle.std.proofs.lemmas.Bool.{cases_eq, cases_lt}
 use Rattle.std.proofs.lemmas.List.{length-append}
 use Rattle.std.proofs.lemmas.List.Elements.{Contains-append_left, Contains-push, Contains-push_cases}
 use Rattle.std.proofs.lemmas.Option.{slice_get_cases}
+use Rattle.std.specs.Cmp.{IsEquivalence}
 use Rattle.std.specs.Map.{keys_of, values_of}
-use Rattle.cedar_below.proofs.Chains.{refined}
-use Rattle.cedar_graph.specs.Words.{AreInTurn, AreTargetsOf, Chain, HasCycle, HoldsPairwise, IsEdgeIn, IsEndIn, IsFaultOf, IsGrown, IsLack, IsLinkedTo, IsNumbered, IsTarget, Lacks, ListHas, Memory, StandsIn, TableFault, items_at, one}
+use Rattle.cedar_ast.proofs.Chains.{refined}
 use Rattle.cedar_graph.proofs.Growing.{grows_weaker}
 use Rattle.cedar_graph.proofs.KeyedEdges.{nothing_in_nil}
 use Rattle.cedar_graph.proofs.Lists.{each_after_push, items_at-past, items_at-set_other, items_at-set_same}
 use Rattle.cedar_graph.proofs.Numbers.{eq_back, number_alike, number_below, number_same}
 use Rattle.cedar_graph.proofs.TableClosing.{pairwise_in_turn}
+use Rattle.cedar_graph.specs.Words.{AreInTurn, AreTargetsOf, Chain, HasCycle, HoldsPairwise, IsEdgeIn, IsEndIn, IsFaultOf, IsGrown, IsLack, IsLinkedTo, IsNumbered, IsTarget, Lacks, ListHas, Memory, StandsIn, TableFault, items_at, one}
 
 module _ {Z : Type 0} (targets : List (Vec ℕ Z)) (from to : ℕ) (list : Vec ℕ Z) (within : from < length targets)
     (is : list.items ≡ items_at targets from ++ to ∷ []) where

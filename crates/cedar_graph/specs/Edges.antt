@@ -1,7 +1,7 @@
 -- Edges between the nodes of a map, and what a chain of edges reaches.
-use Rattle.std.specs.Prelude.{Bool, IsTrue, IsSomeAnd, List, Option, None, Some, Contains}
 use Rattle.std.specs.HashMap.{HashMap, get}
-use Rattle.cedar_below.specs.Chain.{Chain}
+use Rattle.std.specs.Prelude.{Bool, IsTrue, IsSomeAnd, List, Option, None, Some, Contains}
+use Rattle.cedar_ast.specs.Chain.{Chain}
 
 module _ {K V S : Type 0} (eq : K → K → Bool) (has_edge : V → K → Bool) where
   -- a node stands at the first key, and has an edge to the second

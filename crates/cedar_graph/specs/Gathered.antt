@@ -1,6 +1,6 @@
 -- The numbers that one number reaches, gathered one after another, with a mark for each.
 use Rattle.std.specs.Prelude.{◌≡◌, ◌≢◌, ◌⊎◌, ◌↔◌, ◌++◌, ◌<◌, ℕ, List, Vec, AllPairs, Contains, length, slice_index_or}
-use Rattle.cedar_below.specs.Chain.{Chain}
+use Rattle.cedar_ast.specs.Chain.{Chain}
 use Rattle.cedar_graph.specs.Numbered.{IsTarget}
 use Rattle.cedar_graph.specs.declared.closing.Mark.{Mark}
 use Rattle.cedar_graph.specs.declared.closing.Mark.TheVariants.{Fresh, Done}

@@ -1,6 +1,6 @@
 -- Keys known by numbers: the number of a key is its place in a list of names.
-use Rattle.std.specs.Prelude.{◌≡◌, ◌↔◌, ℕ, Bool, IsTrue, List, Some, IsSomeAnd, slice_get, Contains, Vec}
 use Rattle.std.specs.HashMap.{HashMap, get}
+use Rattle.std.specs.Prelude.{◌≡◌, ◌↔◌, ℕ, Bool, IsTrue, List, Some, IsSomeAnd, slice_get, Contains, Vec}
 use Rattle.cedar_graph.specs.Numbered.{IsTarget, items_at}
 
 module _ {K : Type 0} (eq : K → K → Bool) where

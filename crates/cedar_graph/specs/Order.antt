@@ -1,6 +1,6 @@
 -- An order of numbers in which each comes after those that it leads to.
 use Rattle.std.specs.Prelude.{◌≡◌, ◌≢◌, ◌↔◌, ◌++◌, ◌∷◌, ◌<◌, ℕ, List, AllPairs, Contains, Vec, length}
-use Rattle.cedar_below.specs.Chain.{Chain}
+use Rattle.cedar_ast.specs.Chain.{Chain}
 use Rattle.cedar_graph.specs.Numbered.{IsTarget}
 use Rattle.cedar_graph.specs.declared.ordering.Ordered.{Ordered}
 use Rattle.cedar_graph.specs.declared.ordering.Ordered.TheVariants.{Order, Cycle}

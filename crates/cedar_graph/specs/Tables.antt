@@ -1,6 +1,6 @@
 -- Edges between the keys of a table, and tables whose nodes have gained edges.
 use Rattle.std.specs.Prelude.{◌≡◌, ◌⊎◌, ◌↔◌, ℕ, Bool, Contains, IsTrue, List, Some, length, slice_get, ⊤}
-use Rattle.cedar_below.specs.Chain.{Chain}
+use Rattle.cedar_ast.specs.Chain.{Chain}
 use Rattle.cedar_graph.specs.Growth.{GrowsBy}
 use Rattle.cedar_graph.specs.declared.table_fault.TableFault.{TableFault}
 use Rattle.cedar_graph.specs.declared.table_fault.TableFault.TheVariants.{HasCycle, Lacks, Memory}

@@ -1,7 +1,7 @@
 -- What a refused closure says.
 use Rattle.std.specs.Option.{option_map}
 use Rattle.std.specs.Prelude.{◌++◌, Bool, IsTrue, Option, Some, codes, ⊤}
-use Rattle.cedar_below.specs.Text.{Text}
+use Rattle.cedar_ast.specs.Text.{Text}
 use Rattle.cedar_graph.specs.declared.tc_error.TcError.{TcError}
 use Rattle.cedar_graph.specs.declared.tc_error.TcError.TheVariants.{HasCycle, Memory}
 

@@ -1,6 +1,7 @@
 -- The words of clauses, from one place.
-pub use Rattle.cedar_below.specs.Words.{Chain, HoldsPairwise, more, one}
-pub use Rattle.cedar_table.specs.Words.{StandsAt}
+pub use Rattle.cedar_ast.specs.Chain.{Chain, more, one}
+pub use Rattle.cedar_ast.specs.Lists.{HoldsPairwise}
+pub use Rattle.cedar_table.specs.StandsAt.{StandsAt}
 pub use Rattle.cedar_graph.specs.Edges.{AreAlike, HasEdge, IsEdgeIn, Reaches}
 pub use Rattle.cedar_graph.specs.Gathered.{AreClosed, AreGathered, AreReached, GathersMore, mark_of}
 pub use Rattle.cedar_graph.specs.Growth.{GrowsAt, GrowsBy}

@@ -3,7 +3,7 @@
 ghost use Rattle.std.specs.Prelude.{◌≡◌, ◌≢◌, ◌++◌, ℕ, ◌*◌, ◌<◌, ◌≤◌, ◌↔◌, All, Contains, IfNone, IfOk, IfSome, IsTrue, List, OnOk, false, length, vec_len};
 ghost use Rattle.cedar_graph.specs.Words.{AreClosed, AreGathered, AreReached, Chain, Done, Fresh, GathersMore, IsTarget, mark_of};
 
-use cedar_below::M;
+use cedar_ast::M;
 use std::alloc::Global;
 
 /// How far a number is gone through while what one number reaches is gathered.

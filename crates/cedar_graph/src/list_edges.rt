@@ -5,7 +5,7 @@ ghost use Rattle.std.specs.HashMap.{get, keys, ContainsKey};
 ghost use Rattle.cedar_graph.specs.Words.{GrowsAt, GrowsBy, HasEdge, IsTarget, ListHas, StandsIn};
 
 use crate::tc_node::TCNode;
-use cedar_below::M;
+use cedar_ast::M;
 use std::collections::HashMap;
 use std::hash::Hash;
 

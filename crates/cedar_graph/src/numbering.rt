@@ -5,7 +5,7 @@ ghost use Rattle.std.specs.HashMap.{get, keys, hash_map_len, IsUnique};
 ghost use Rattle.cedar_graph.specs.Numbering.{IsNumbered, AreNumbers, KeepsNumbers};
 
 use crate::tc_node::TCNode;
-use cedar_below::M;
+use cedar_ast::M;
 use std::alloc::Global;
 use std::collections::HashMap;
 use std::hash::Hash;

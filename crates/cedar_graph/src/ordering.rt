@@ -3,7 +3,7 @@
 ghost use Rattle.std.specs.Prelude.{◌≡◌, ◌++◌, ◌<◌, ℕ, Contains, IfNone, IfOk, IfSome, IsTrue, OnOk, map};
 ghost use Rattle.cedar_graph.specs.Words.{Chain, Enter, IsOrdered, IsTarget, Leave};
 
-use cedar_below::M;
+use cedar_ast::M;
 use std::alloc::Global;
 
 /// Some numbers in order, or why there is none.

@@ -6,7 +6,7 @@ ghost use Rattle.cedar_graph.specs.Words.{AreNumbersOf, HasEntry, IsLack, IsNumb
 
 use crate::table_fault::TableFault;
 use crate::tc_node::TCNode;
-use cedar_below::QuickHash;
+use cedar_ast::QuickHash;
 use cedar_table::Table;
 use std::alloc::Global;
 use std::hash::Hash;

@@ -10,7 +10,7 @@ use crate::ordering::number_on_cycle;
 use crate::places::all_places;
 use crate::table_fault::TableFault;
 use crate::tc_node::TCNode;
-use cedar_below::{M, QuickHash};
+use cedar_ast::{M, QuickHash};
 use cedar_table::Table;
 use std::alloc::Global;
 use std::hash::Hash;

@@ -3,7 +3,7 @@
 ghost use Rattle.std.specs.Prelude.{◌≡◌};
 ghost use Rattle.cedar_graph.specs.declared.table_fault.TableFault.TheVariants.{Memory as NoMemory};
 
-use cedar_below::Memory;
+use cedar_ast::Memory;
 use std::alloc::{AllocError, AllocFailed};
 
 /// Why a table wasn't closed.

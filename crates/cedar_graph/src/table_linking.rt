@@ -8,7 +8,7 @@ use crate::places::place_of;
 use crate::table_closing::closed_table;
 use crate::table_fault::TableFault;
 use crate::tc_node::TCNode;
-use cedar_below::{M, QuickHash};
+use cedar_ast::{M, QuickHash};
 use cedar_table::Table;
 use std::alloc::Global;
 use std::hash::Hash;

@@ -6,7 +6,7 @@ ghost use Rattle.cedar_graph.specs.Words.{AreNumbers, AreNumbersOf, KeepsNumbers
 
 use crate::numbering::{Numbering, number_of};
 use crate::tc_node::TCNode;
-use cedar_below::M;
+use cedar_ast::M;
 use std::alloc::Global;
 use std::collections::HashMap;
 use std::hash::Hash;

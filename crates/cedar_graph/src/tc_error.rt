@@ -4,7 +4,7 @@ ghost use Rattle.std.specs.Prelude.{◌≡◌};
 ghost use Rattle.cedar_graph.specs.TcError.{tc_error_text};
 ghost use Rattle.cedar_graph.specs.declared.tc_error.TcError.TheVariants.{Memory as NoMemory};
 
-use cedar_below::Memory;
+use cedar_ast::Memory;
 use std::error::Error;
 use std::fmt;
 use std::fmt::{Debug, Display};

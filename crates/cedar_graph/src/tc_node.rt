@@ -3,7 +3,7 @@
 ghost use Rattle.std.specs.Prelude.{◌≡◌, Bool, ◌||◌, IsTrue, IfOk, OnOk, OnErr};
 ghost use Rattle.std.specs.List.{list_any};
 
-use cedar_below::M;
+use cedar_ast::M;
 use std::collections::hash_set;
 use std::hash::Hash;
 

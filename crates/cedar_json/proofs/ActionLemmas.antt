@@ -1,10 +1,10 @@
 -- Fields of actions that may be null, and the values of attributes.
 use Rattle.std.proofs.Common.{◌≡◌, List, [], Bool, Option, Some, None, option_and_then, option_map, ap, refl, sym, ◌∙◌}
 use Rattle.std.specs.BTreeMap.{insert_entry}
+use Rattle.cedar_json.proofs.ValueLemmas.{pairs_of-member, pairs_of-none}
+use Rattle.cedar_json.specs.Words.{Pairs, Requests, Tree, WrittenParent, action_by, entries_in, entries_of, field_or, optional, pairs_in, pairs_of, text_cmp, unless_null, value_of}
 use Rattle.json.specs.Find.{as_object}
 use Rattle.json.specs.Json.{Json, boolean, number, string, array, object, Members, no_members, member}
-use Rattle.cedar_json.specs.Words.{Pairs, Requests, Tree, WrittenParent, action_by, entries_in, entries_of, field_or, optional, pairs_in, pairs_of, text_cmp, unless_null, value_of}
-use Rattle.cedar_json.proofs.ValueLemmas.{pairs_of-member, pairs_of-none}
 
 -- what a field holds that isn't null
 pub unless_null-held : (o : Option Json) (k : Json) → unless_null o ≡ Some k → o ≡ Some k

@@ -4,29 +4,29 @@ use Rattle.std.proofs.lemmas.List.{drop-drop}
 use Rattle.std.specs.BTreeMap.{insert_entry}
 use Rattle.std.specs.Str.{bytes_eq}
 use Rattle.std.specs.declared.cmp.Ordering.{Ordering}
+use Rattle.cedar_json.proofs.MapLemmas.{seen-insert}
+use Rattle.cedar_json.specs.Words.{CommonTypeId, Expr, Fault, IsReadFrom, IsTrueOf, RawName, Text, WrittenAction, WrittenEntity, common_type_text, common_types_in, definition_by, entries_of, field_or, raw_expr, written_common_types}
+use Rattle.cedar_json.specs.declared.fault.Fault.TheVariants as fault
+use Rattle.cedar_schema_ast.specs.declared.json_schema.fragment.CommonType.{CommonType}
 use Rattle.json.specs.Find.{get_member, later_or}
 use Rattle.json.specs.Json.{Json}
 use Rattle.json.specs.Value.{members_view, value_view}
 use Rattle.json.specs.declared.value.Value.{Value}
-use Rattle.cedar_json.specs.Words.{CommonTypeId, Expr, Fault, IsReadFrom, IsTrueOf, RawName, Text, WrittenAction, WrittenEntity, common_type_text, common_types_in, definition_by, entries_of, field_or, raw_expr, written_common_types}
-use Rattle.cedar_names.specs.declared.json_schema.fragment.CommonType.{CommonType}
-use Rattle.cedar_json.specs.declared.fault.Fault.TheVariants as fault
-use Rattle.cedar_json.proofs.MapLemmas.{seen-insert}
 
-abbrev Held : Type 0
-Held = Bor Text × Value Global
+abbrev MaybeShared : Type 0
+MaybeShared = Bor Text × Value Global
 
 -- behind a member that is left are the others
-pub left_after : (all left after : List Held) (i j : ℕ) (x : Held) → drop i all ≡ left → left ≡ x ∷ after → j ≡ i + 1 → drop j all ≡ after
+pub left_after : (all left after : List MaybeShared) (i j : ℕ) (x : MaybeShared) → drop i all ≡ left → left ≡ x ∷ after → j ≡ i + 1 → drop j all ≡ after
 left_after all left after i j x is first next =
     ap (λ n. drop n all) next ∙ sym (drop-drop 1 i all) ∙ ap (drop 1) (is ∙ first)
 
 -- from a member that is left on stand the member and the others
-pub left_here : (all left after : List Held) (i : ℕ) (x : Held) → drop i all ≡ left → left ≡ x ∷ after → drop i all ≡ x ∷ drop (i + 1) all
+pub left_here : (all left after : List MaybeShared) (i : ℕ) (x : MaybeShared) → drop i all ≡ left → left ≡ x ∷ after → drop i all ≡ x ∷ drop (i + 1) all
 left_here all left after i x is first = is ∙ first ∙ ap (λ rest. x ∷ rest) (sym (left_after all left after i (i + 1) x is first refl))
 
 -- the last of the members that have a name
-pub get_member-push : (name : Text) (members : List Held) (x : Held)
+pub get_member-push : (name : Text) (members : List MaybeShared) (x : MaybeShared)
     → get_member name (members_view (members ++ x ∷ [])) ≡ cond (bytes_eq x.0.now name) (Some (value_view x.1)) (get_member name (members_view members))
 get_member-push name [] x = by (bytes_eq x.0.now name)
   where
@@ -59,13 +59,13 @@ module _ {K X L Y : Type 0} (R : K → K → Ordering) (S : L → L → Ordering
   plain entries = map (λ entry. (shown_key entry.0, shown entry.1)) entries
 
   -- where none is left, all were read
-  pub none_left : (all : List Held) (index : ℕ) (entries : List (K × X)) → drop index all ≡ []
+  pub none_left : (all : List MaybeShared) (index : ℕ) (entries : List (K × X)) → drop index all ≡ []
       → entries_of S key describes (members_view all) [] ≡ entries_of S key describes (members_view (drop index all)) (plain entries)
       → entries_of S key describes (members_view all) [] ≡ Some (plain entries)
   none_left all index entries end so_far = so_far ∙ ap (λ ys. entries_of S key describes (members_view ys) (plain entries)) end
 
   -- at a member
-  module _ (all : List Held) (index : ℕ) (x : Held) (entries : List (K × X)) (here : drop index all ≡ x ∷ drop (index + 1) all)
+  module _ (all : List MaybeShared) (index : ℕ) (x : MaybeShared) (entries : List (K × X)) (here : drop index all ≡ x ∷ drop (index + 1) all)
       (so_far : entries_of S key describes (members_view all) [] ≡ entries_of S key describes (members_view (drop index all)) (plain entries)) where
     abbrev put_before : Option L → Option Y → Option (List (L × Y))
     put_before k o =

@@ -3,10 +3,10 @@ use Rattle.std.proofs.Common.{◌≡◌, ℕ, ◌+◌, ◌<◌, ◌≤◌, ◌++
 use Rattle.std.proofs.lemmas.List.{drop_more, map-append, take_all, take_more}
 use Rattle.std.specs.BTreeMap.{insert_entry, is_at}
 use Rattle.std.specs.Map.{lookup}
-use Rattle.cedar_below.proofs.Names.{name_ord-name_cmp}
-use Rattle.cedar_json.specs.Words.{AreNames, AreRows, ExtensionFunction, IsRow, Name, PlainName, Row, Signature, SpellsName, Text, inserted, name_cmp, plain_name, row_signature, signature, texts_of, unqualified}
-use Rattle.cedar_below.specs.contracts.name.NameOrd.TheImpl as name_ord
+use Rattle.cedar_ast.proofs.Names.{name_ord-name_cmp}
+use Rattle.cedar_ast.specs.contracts.name.NameOrd.TheImpl as name_ord
 use Rattle.cedar_json.proofs.MapLemmas.{seen-insert}
+use Rattle.cedar_json.specs.Words.{AreNames, AreRows, ExtensionFunction, IsRow, Name, PlainName, Row, Signature, SpellsName, Text, inserted, name_cmp, plain_name, row_signature, signature, texts_of, unqualified}
 
 abbrev pub Signatures : Type 0
 Signatures = List (PlainName × Signature)

@@ -3,12 +3,12 @@ use Rattle.std.proofs.Common.{◌≡◌, ℕ, zero, suc, ◌<◌, List, [], ◌�
 use Rattle.std.proofs.lemmas.List.{length-append}
 use Rattle.std.specs.Str.{bytes_eq}
 use Rattle.std.specs.declared.alloc.Global.{Global}
-use Rattle.json.specs.Json.{Json, object, Members, no_members, member}
+use Rattle.cedar_json.specs.Words.{IsOther, Text, has_only, if_so, is_among, keys_among, member_at, nth_member}
 use Rattle.json.specs.Find.{get, get_member, later_or, as_object}
+use Rattle.json.specs.Json.{Json, object, Members, no_members, member}
 use Rattle.json.specs.Tree.{json_tokens, members_tokens}
 use Rattle.json.specs.Value.{value_view, members_view}
 use Rattle.json.specs.declared.value.Value.{Value}
-use Rattle.cedar_json.specs.Words.{IsOther, Text, has_only, if_so, is_among, keys_among, member_at, nth_member}
 
 or_assoc : (a b c : Bool) → ((a || b) || c) ≡ (a || (b || c))
 or_assoc true b c = refl

@@ -2,10 +2,10 @@ pub mod ActionLemmas
 pub mod DefinitionLemmas
 pub mod ExtensionLemmas
 pub mod FieldLemmas
-pub mod FillingLemmas
 pub mod InTurn
 pub mod KeyLemmas
 pub mod ListLemmas
+pub mod MapBuilderLemmas
 pub mod MapLemmas
 pub mod NameLemmas
 pub mod NumberLemmas

@@ -2,11 +2,11 @@
 use Rattle.std.proofs.Common.{◌≡◌, ℕ, zero, suc, ◌+◌, ◌<◌, ◌≤◌, List, [], ◌∷◌, ◌++◌, length, drop, drop_of_length-le, get_or, map, Option, Some, None, option_map, option_and_then, refl, ap, sym, ◌∙◌, arith, append_assoc, append-nil}
 use Rattle.std.proofs.lemmas.List.{drop_more, map-append}
 use Rattle.std.specs.declared.alloc.Global.{Global}
+use Rattle.cedar_json.specs.Lists.{all_of}
 use Rattle.json.specs.Find.{get_item}
 use Rattle.json.specs.Json.{Json, Items, no_items, item}
 use Rattle.json.specs.Value.{items_view, value_view}
 use Rattle.json.specs.declared.value.Value.{Value}
-use Rattle.cedar_json.specs.Lists.{all_of}
 
 get_item-view : (xs : List (Value Global)) (index : ℕ) (x : Value Global) → index < length xs
     → get_item index (items_view xs) ≡ Some (value_view (get_or xs index x))

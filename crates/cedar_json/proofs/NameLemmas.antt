@@ -6,10 +6,10 @@ use Rattle.std.proofs.lemmas.Slice.Eq.{bytes_eq-Decides}
 use Rattle.std.specs.List.{list_all}
 use Rattle.std.specs.Option.{option_cmp}
 use Rattle.std.specs.Str.{bytes_eq}
-use Rattle.cedar_below.proofs.NameReading.{both_true, either, ids_are_identifiers, path_text}
-use Rattle.cedar_below.proofs.Names.{name_ord-name_cmp}
+use Rattle.cedar_ast.proofs.NameReading.{both_true, either, ids_are_identifiers, path_text}
+use Rattle.cedar_ast.proofs.Names.{name_ord-name_cmp}
+use Rattle.cedar_ast.specs.contracts.name.NameOrd.TheImpl as name_ord
 use Rattle.cedar_json.specs.Words.{CommonTypeId, InternalName, IsIdentifier, IsNameFault, IsNameText, IsOfIdentifiers, IsReserved, IsReservedNameText, Name, NameFault, NoCommonType, NotAName, PlainName, RawName, Reserved, Text, UnreservedId, begins_identifier, common_key, common_type_text, if_unreserved, is_among, is_identifier_byte, is_identifier_text, is_reserved, is_unreserved, joined, name_after, name_cmp, name_of, name_of_parts, name_text, namespace_key, pieces, plain_name, plain_name_in, raw_name, reserved_type_words, reserved_word, spelled_name, unreserved_id_text, with_byte}
-use Rattle.cedar_below.specs.contracts.name.NameOrd.TheImpl as name_ord
 
 -- a byte of an identifier is no colon
 no_colon : (byte : ℕ) (test : Bool) → (byte == 58) ≡ test → is_identifier_byte byte ≡ true → test ≡ false

@@ -4,7 +4,7 @@ use Rattle.std.specs.Char.{digit_value}
 use Rattle.std.specs.List.{list_all}
 use Rattle.std.specs.Str.{bytes_eq}
 use Rattle.std.specs.Str.Parse.{AllDigits, IsNumeral, ParsesSigned, signed_digits_value, without_leading_sign}
-use Rattle.cedar_below.proofs.NameReading.{both_true}
+use Rattle.cedar_ast.proofs.NameReading.{both_true}
 use Rattle.cedar_json.specs.Words.{Text, are_digits, is_digit, is_long, whole_number}
 
 both : (a b : Bool) → a ≡ true → b ≡ true → (a && b) ≡ true

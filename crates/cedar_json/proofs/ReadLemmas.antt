@@ -1,8 +1,8 @@
 -- What was read of a part of a value.
 use Rattle.std.proofs.Common.{◌≡◌, ◌≢◌, Option, Some, None, Result, Ok, Err, MatchResult, ap, subst, sym, ◌∙◌}
-use Rattle.json.specs.Json.{Json}
 use Rattle.cedar_json.specs.Words.{Fault, IsReadFrom, IsSeenFrom, IsTrueOf}
 use Rattle.cedar_json.specs.declared.fault.Fault.TheVariants.{Memory}
+use Rattle.json.specs.Json.{Json}
 
 -- what is described was made, or memory ran out
 pub made : {T A : Type 0} (r : Result T Fault) (j : Json) {described : Option A} (shown : T → A) (plain : A) → described ≡ Some plain

@@ -1,10 +1,10 @@
 -- What is listed in a table that is being made.
 use Rattle.std.proofs.Common.{◌≡◌, List, [], ◌∷◌, ◌++◌, false, map, Result, Ok, Err, true, IfOk, MatchResult, append_assoc, ap, subst, sym, ◌∙◌}
 use Rattle.std.proofs.lemmas.Bool.{false≢true}
-use Rattle.cedar_below.specs.declared.memory.Memory.{Memory}
+use Rattle.cedar_ast.specs.declared.memory.Memory.{Memory}
+use Rattle.cedar_json.proofs.InTurn.{IsListing, IsListing-done, IsListing-next}
 use Rattle.cedar_json.specs.Words.{IsListed, Marked, Marks, WrittenAt, marked}
 use Rattle.cedar_json.specs.declared.places.table.Table.{Table}
-use Rattle.cedar_json.proofs.InTurn.{IsListing, IsListing-done, IsListing-next}
 
 -- what is listed one after the other is listed together
 pub listed_in_turn : (one other : Marks) (before between after : Table) → IsListed one before between → IsListed other between after
@@ -21,7 +21,8 @@ listed_made (Ok it) mark before after is listed suffices = subst (λ m. IsListed
 listed_made (Err refusal) mark before after is refused suffices = absurd (false≢true (sym suffices ∙ refused))
 
 module _ {X : Type 0} (f : X → Marks) (before : Table) (whole : Marks) where
-  -- unless memory ran out, what is listed and what the entries that are left give are what was and the whole
+  -- unless memory ran out, what is listed and what the entries that are left give are what was and
+  -- the whole
   abbrev pub IsUnderWay : Table → List X → Type 0
   IsUnderWay now left = now.is_refused ≡ false → (before.is_refused ≡ false)
       × IsListing f (map marked now.listed.items) left (map marked before.listed.items ++ whole)

@@ -1,23 +1,23 @@
 -- The definition of types by look-ups.
 use Rattle.std.proofs.Common.{◌≡◌, ℕ, ◌+◌, ◌<◌, ◌≤◌, length, drop, drop_of_length-le, get_or, BTreeMap, List, [], ◌∷◌, Bool, true, false, cond, Option, Some, None, Result, Ok, Err, MatchResult, ◌≢◌, option_map, option_and_then, codes, string_bytes, string_cmp, Bor, String, Global, refl, ap, ap₂, sym, ◌∙◌}
-use Rattle.std.proofs.lemmas.List.{drop_more}
-use Rattle.std.specs.BTreeMap.{insert_entry}
 use Rattle.std.proofs.lemmas.Bool.{cond-false}
+use Rattle.std.proofs.lemmas.List.{drop_more}
 use Rattle.std.proofs.lemmas.Slice.Eq.{bytes_eq-Decides}
+use Rattle.std.specs.BTreeMap.{insert_entry}
 use Rattle.std.specs.Bool.{Decides}
 use Rattle.std.specs.Str.{bytes_eq}
-use Rattle.json.specs.Json.{Json, null, boolean, number, string, array, object, Members, no_members, member}
-use Rattle.json.specs.Find.{as_object, as_str, get, get_member, later_or}
-use Rattle.json.specs.Value.{value_view, members_view}
-use Rattle.json.specs.declared.value.Value.{Value}
-use Rattle.cedar_json.specs.Words.{Attributes, Common, Entity, Expr, Fault, Loc, OfAttribute, OfType, PlainName, RawName, Reference, Text, «Type», TypeOfAttribute, additional_field, annotations_fit, attribute_by, attribute_of, attribute_step, attributes_field, attributes_held, attributes_in, attributes_of, element_field, element_of, entity_reference, flag_or, fold-roll-TypeOfAttribute, has_only, if_so, known_fields, later_field, members_from, plain_members, raw_attribute, raw_expr, raw_record, raw_reference, record_expr, record_of, record_step, reference_in, roll-RecordType, roll-TypeOfAttribute, spelled_name, text_cmp, text_held, type_by, type_by_word, type_of, type_step, type_with, variant_step}
-use Rattle.cedar_names.specs.Words.{named, reference_to}
-use Rattle.cedar_names.specs.declared.json_schema.reference_type.ReferenceType.{ReferenceType}
-use Rattle.cedar_names.specs.declared.json_schema.reference_type.ReferenceType.TheVariants.{CommonOrEntity}
-use Rattle.cedar_names.proofs.ExprLemmas.{record_type_expr-made}
 use Rattle.cedar_json.proofs.MapLemmas.{seen-insert}
+use Rattle.cedar_json.specs.Words.{Attributes, Common, Entity, Expr, Fault, Loc, OfAttribute, OfType, PlainName, RawName, Reference, Text, «Type», TypeOfAttribute, additional_field, annotations_fit, attribute_by, attribute_of, attribute_step, attributes_field, attributes_held, attributes_in, attributes_of, element_field, element_of, entity_reference, flag_or, fold-roll-TypeOfAttribute, has_only, if_so, known_fields, later_field, members_from, plain_members, raw_attribute, raw_expr, raw_record, raw_reference, record_expr, record_of, record_step, reference_in, roll-RecordType, roll-TypeOfAttribute, spelled_name, text_cmp, text_held, type_by, type_by_word, type_of, type_step, type_with, variant_step}
 use Rattle.cedar_json.specs.declared.fault.Fault.TheVariants as fault
 use Rattle.cedar_json.specs.declared.fault.Row.{Row}
+use Rattle.cedar_schema_ast.proofs.ExprLemmas.{record_type_expr-made}
+use Rattle.cedar_schema_ast.specs.Words.{named, reference_to}
+use Rattle.cedar_schema_ast.specs.declared.json_schema.reference_type.ReferenceType.{ReferenceType}
+use Rattle.cedar_schema_ast.specs.declared.json_schema.reference_type.ReferenceType.TheVariants.{CommonOrEntity}
+use Rattle.json.specs.Find.{as_object, as_str, get, get_member, later_or}
+use Rattle.json.specs.Json.{Json, null, boolean, number, string, array, object, Members, no_members, member}
+use Rattle.json.specs.Value.{value_view, members_view}
+use Rattle.json.specs.declared.value.Value.{Value}
 
 -- a walk for a field is a look-up
 pub later : {A : Type 0} (f : Json → Option A) (o : Option Json) (found : Option A) (b : Bool) (j : Json)
@@ -140,18 +140,18 @@ module _ (j : Json) where
       attribute_of-with j ∙ ap (by_parts fits ty) is_flagged
       ∙ ap (λ test. by_parts test ty (Some required)) is_fit ∙ ap (λ t. by_parts true t (Some required)) is_typed
 
-abbrev Held : Type 0
-Held = Bor Text × Value Global
+abbrev MaybeShared : Type 0
+MaybeShared = Bor Text × Value Global
 
 -- the member at an index, and those after it
-pub members_from_index : (xs all : List Held) (index : ℕ) (x : Held) → xs ≡ all → index < length xs → x ≡ get_or xs index x
+pub members_from_index : (xs all : List MaybeShared) (index : ℕ) (x : MaybeShared) → xs ≡ all → index < length xs → x ≡ get_or xs index x
     → drop index all ≡ x ∷ drop (index + 1) all
 members_from_index xs all index x same within is =
     ap (drop index) (sym same) ∙ drop_more xs index x within ∙ ap (λ y. y ∷ drop (index + 1) xs) (sym is)
     ∙ ap (λ ys. x ∷ drop (index + 1) ys) same
 
 -- attributes that are read one after another
-module _ (all : List Held) (index : ℕ) (x : Held) (entries : Entries) (here : drop index all ≡ x ∷ drop (index + 1) all)
+module _ (all : List MaybeShared) (index : ℕ) (x : MaybeShared) (entries : Entries) (here : drop index all ≡ x ∷ drop (index + 1) all)
     (so_far : attributes_of (members_view all) [] ≡ attributes_of (members_view (drop index all)) (plain_members None entries)) where
   abbrev put_before : Option (Bool × Expr) → Option Attributes
   put_before = option_and_then (λ it. attributes_of (members_view (drop (index + 1) all)) (insert_entry text_cmp (plain_members None entries) x.0.now it))
@@ -174,7 +174,7 @@ module _ (all : List Held) (index : ℕ) (x : Held) (entries : Entries) (here : 
       ∙ ap (λ es. attributes_of (members_view (drop (index + 1) all)) (plain_members None es)) (sym grown)
 
 -- where no member is left, all were read
-pub all_read : (xs all : List Held) (index : ℕ) (entries : Entries) → xs ≡ all → length xs ≤ index
+pub all_read : (xs all : List MaybeShared) (index : ℕ) (entries : Entries) → xs ≡ all → length xs ≤ index
     → attributes_of (members_view all) [] ≡ attributes_of (members_view (drop index all)) (plain_members None entries)
     → attributes_of (members_view all) [] ≡ Some (plain_members None entries)
 all_read xs all index entries same end so_far =

@@ -4,8 +4,8 @@ use Rattle.std.proofs.lemmas.List.Folds.{flat_map-map}
 use Rattle.std.specs.List.{flat_map}
 use Rattle.std.specs.declared.alloc.Global.{Global}
 use Rattle.std.specs.declared.string.String.{String}
-use Rattle.cedar_json.specs.Words.{Loc, Marks, MarksAt, RawName, RecordType, TypeOfAttribute, attribute_marks, attribute_marks_step, fold_out-RecordType, fold_out-TypeOfAttribute, open_record, out-RecordType, out-TypeOfAttribute, record_marks, record_marks_step, type_marks, type_marks_step, variant_marks_step}
 use Rattle.cedar_json.proofs.InTurn.{IsListing}
+use Rattle.cedar_json.specs.Words.{Loc, Marks, MarksAt, RawName, RecordType, TypeOfAttribute, attribute_marks, attribute_marks_step, fold_out-RecordType, fold_out-TypeOfAttribute, open_record, out-RecordType, out-TypeOfAttribute, record_marks, record_marks_step, type_marks, type_marks_step, variant_marks_step}
 
 -- attributes by name
 abbrev Entries : Type 0

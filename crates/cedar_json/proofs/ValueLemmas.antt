@@ -3,20 +3,20 @@ use Rattle.std.proofs.Common.{◌≡◌, ◌≢◌, ℕ, ℤ, ◌+◌, ◌<◌, 
 use Rattle.std.proofs.lemmas.List.{length-append}
 use Rattle.std.specs.BTreeMap.{insert_entry}
 use Rattle.std.specs.Str.{bytes_eq}
+use Rattle.cedar_ast.proofs.TreeLemmas.{tree_of-record}
+use Rattle.cedar_ast.proofs.ValueCopies.{tree_of-text, tree_of-truth}
+use Rattle.cedar_ast.specs.declared.value.RestrictedExpr.TheOpen as layer
+use Rattle.cedar_ast.specs.declared.value.RestrictedExpr.TheVariants as expr
+use Rattle.cedar_json.proofs.MapLemmas.{seen-insert}
+use Rattle.cedar_json.proofs.TypeLemmas.{later}
+use Rattle.cedar_json.specs.Words.{OfCall, Pairs, PlainName, RestrictedExpr, Text, Tree, Trees, argument_of, call_by, call_in, call_of, call_value, first_call, fold-roll-RestrictedExpr, has_only, if_so, known_fields, no_tree, number_value, object_by, pairs_of, plain_name_in, record_of_pairs, roll-RestrictedExpr, set_value, sole_held, text_cmp, text_held, text_value, tree, tree_of, tree_step, trees_of, truth_value, uid_in, uid_value, value_of, values_of, whole_number}
 use Rattle.json.proofs.Trees.{view-Array}
 use Rattle.json.specs.Find.{as_number, get, get_member}
 use Rattle.json.specs.Json.{Json, null, boolean, number, string, array, object, Items, no_items, item, Members, no_members, member}
 use Rattle.json.specs.Tree.{json_tokens, members_tokens}
 use Rattle.json.specs.Value.{items_view, members_view, value_view}
-use Rattle.json.specs.declared.value.Value.{Value, the_lemmas}
 use Rattle.json.specs.declared.value.Value as kit
-use Rattle.cedar_below.proofs.TreeLemmas.{tree_of-record}
-use Rattle.cedar_below.proofs.ValueCopies.{tree_of-text, tree_of-truth}
-use Rattle.cedar_json.specs.Words.{OfCall, Pairs, PlainName, RestrictedExpr, Text, Tree, Trees, argument_of, call_by, call_in, call_of, call_value, first_call, fold-roll-RestrictedExpr, has_only, if_so, known_fields, no_tree, number_value, object_by, pairs_of, plain_name_in, record_of_pairs, roll-RestrictedExpr, set_value, sole_held, text_cmp, text_held, text_value, tree, tree_of, tree_step, trees_of, truth_value, uid_in, uid_value, value_of, values_of, whole_number}
-use Rattle.cedar_below.specs.declared.value.RestrictedExpr.TheOpen as layer
-use Rattle.cedar_below.specs.declared.value.RestrictedExpr.TheVariants as expr
-use Rattle.cedar_json.proofs.MapLemmas.{seen-insert}
-use Rattle.cedar_json.proofs.TypeLemmas.{later}
+use Rattle.json.specs.declared.value.Value.{Value, the_lemmas}
 
 argument_of-get : (ms : Members) → argument_of ms ≡ option_and_then value_of (get_member (codes "arg") ms)
 unfolding value_of
@@ -132,8 +132,8 @@ module _ (all : List (Value Global)) (index : ℕ) (x : Value Global) (exprs : L
       → values_of (items_view all) ≡ option_map (before new) rest
   value_more expr new is grown = step ∙ ap with_value is ∙ pushed exprs expr rest ∙ ap (λ es. option_map (before es) rest) (sym grown)
 
-abbrev Held : Type 0
-Held = Bor Text × Value Global
+abbrev MaybeShared : Type 0
+MaybeShared = Bor Text × Value Global
 
 pub pairs_of-member : (key : Text) (j : Json) (others : Members) (pairs : Pairs)
     → pairs_of (member key j others) pairs ≡ option_and_then (λ value. pairs_of others (insert_entry text_cmp pairs key value)) (value_of j)
@@ -154,7 +154,7 @@ module _ {X : Type 0} (tree_for : X → Tree) where
   shown entries = map (λ entry. (string_bytes entry.0, tree_for entry.1)) entries
 
   -- where no member is left, all were read
-  pub all_pairs : (xs all : List Held) (index : ℕ) (entries : Entries) → xs ≡ all → length xs ≤ index
+  pub all_pairs : (xs all : List MaybeShared) (index : ℕ) (entries : Entries) → xs ≡ all → length xs ≤ index
       → pairs_of (members_view all) [] ≡ pairs_of (members_view (drop index all)) (shown entries)
       → pairs_of (members_view all) [] ≡ Some (shown entries)
   all_pairs xs all index entries same end so_far =
@@ -163,7 +163,7 @@ module _ {X : Type 0} (tree_for : X → Tree) where
       ∙ pairs_of-none (shown entries)
 
   -- at a member
-  module _ (all : List Held) (index : ℕ) (x : Held) (entries : Entries) (here : drop index all ≡ x ∷ drop (index + 1) all)
+  module _ (all : List MaybeShared) (index : ℕ) (x : MaybeShared) (entries : Entries) (here : drop index all ≡ x ∷ drop (index + 1) all)
       (so_far : pairs_of (members_view all) [] ≡ pairs_of (members_view (drop index all)) (shown entries)) where
     abbrev put_before : Option Tree → Option Pairs
     put_before = option_and_then (λ value. pairs_of (members_view (drop (index + 1) all)) (insert_entry text_cmp (shown entries) x.0.now value))
@@ -299,7 +299,7 @@ module _ (j : Json) where
   call_read name it named valued = call_in-called ∙ ap (λ f. call_of f argument) named ∙ ap (call_of (Some name)) valued
 
 -- what an object that isn't one of a single member with the key holds
-pub sole_held-many : (name : Text) (xs : List Held) → length xs ≢ 1 → sole_held name (members_view xs) ≡ None
+pub sole_held-many : (name : Text) (xs : List MaybeShared) → length xs ≢ 1 → sole_held name (members_view xs) ≡ None
 sole_held-many name [] many = refl
 sole_held-many name (x ∷ []) many = absurd (many refl)
 sole_held-many name (x ∷ y ∷ xs) many = refl

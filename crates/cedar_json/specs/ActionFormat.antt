@@ -1,24 +1,24 @@
 -- Which declarations of actions JSON values describe.
-use Rattle.std.specs.Prelude.{List, [], Bool, false, map, Option, Some, None, option_map, option_and_then, codes, string_bytes}
 use Rattle.std.specs.BTreeMap.{BTreeMap}
+use Rattle.std.specs.Prelude.{List, [], Bool, false, map, Option, Some, None, option_map, option_and_then, codes, string_bytes}
 use Rattle.std.specs.declared.alloc.Global.{Global}
 use Rattle.std.specs.declared.string.String.{String}
-use Rattle.json.specs.Find.{as_array, as_object, get}
-use Rattle.json.specs.Json.{Json, null, boolean, number, string, array, object}
-use Rattle.cedar_below.specs.Words.{Text, tree_of, value_expr}
-use Rattle.cedar_below.specs.declared.value.Value.{Value}
-use Rattle.cedar_names.specs.Words.{Expr, Reference, Requests, raw_expr, raw_reference, requests}
-use Rattle.cedar_names.specs.declared.json_schema.action_type.ActionEntityUID.{ActionEntityUID}
-use Rattle.cedar_names.specs.declared.json_schema.action_type.ActionType.{ActionType}
-use Rattle.cedar_names.specs.declared.json_schema.action_type.ApplySpec.{ApplySpec}
-use Rattle.cedar_names.specs.declared.json_schema.raw_name.RawName.{RawName}
-use Rattle.cedar_names.specs.declared.json_schema.reference_type.ReferenceType.TheVariants.{Entity}
+use Rattle.cedar_ast.specs.Words.{Text, tree_of, value_expr}
+use Rattle.cedar_ast.specs.declared.value.Value.{Value}
 use Rattle.cedar_json.specs.EntityFormat.{entity_reference, references_in, shape_in}
 use Rattle.cedar_json.specs.Fields.{annotations_fit, flag_or, has_only, known_fields, text_held}
 use Rattle.cedar_json.specs.Lists.{all_of, field_or}
 use Rattle.cedar_json.specs.TypeFormat.{if_so}
 use Rattle.cedar_json.specs.ValueFormat.{Pairs, pairs_of}
 use Rattle.cedar_json.specs.declared.fault.Row.TheVariants.{OfAction, OfAppliesTo, OfParent}
+use Rattle.cedar_schema_ast.specs.Words.{Expr, Reference, Requests, raw_expr, raw_reference, requests}
+use Rattle.cedar_schema_ast.specs.declared.json_schema.action_type.ActionEntityUID.{ActionEntityUID}
+use Rattle.cedar_schema_ast.specs.declared.json_schema.action_type.ActionType.{ActionType}
+use Rattle.cedar_schema_ast.specs.declared.json_schema.action_type.ApplySpec.{ApplySpec}
+use Rattle.cedar_schema_ast.specs.declared.json_schema.raw_name.RawName.{RawName}
+use Rattle.cedar_schema_ast.specs.declared.json_schema.reference_type.ReferenceType.TheVariants.{Entity}
+use Rattle.json.specs.Find.{as_array, as_object, get}
+use Rattle.json.specs.Json.{Json, null, boolean, number, string, array, object}
 
 -- a parent of an action as it was written: its id, and the name of its type, where one is written
 abbrev pub WrittenParent : Type 0

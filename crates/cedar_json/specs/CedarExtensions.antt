@@ -1,10 +1,10 @@
 -- The extension types of Cedar, and their functions.
-use Rattle.std.specs.Prelude.{List, [], ◌∷◌, Option, Some, codes, map}
 use Rattle.std.specs.BTreeMap.{BTreeMap, is_at}
 use Rattle.std.specs.Map.{lookup}
-use Rattle.cedar_below.specs.Words.{CoreTy, PlainName, Text, argument_types, core_extension, core_long, core_text, core_truth, name_cmp, plain_name, result_type}
-use Rattle.cedar_below.specs.declared.extension.ExtensionFunction.{ExtensionFunction}
-use Rattle.cedar_below.specs.declared.name.Name.{Name}
+use Rattle.std.specs.Prelude.{List, [], ◌∷◌, Option, Some, codes, map}
+use Rattle.cedar_ast.specs.Words.{CoreTy, PlainName, Text, argument_types, core_extension, core_long, core_text, core_truth, name_cmp, plain_name, result_type}
+use Rattle.cedar_ast.specs.declared.extension.ExtensionFunction.{ExtensionFunction}
+use Rattle.cedar_ast.specs.declared.name.Name.{Name}
 
 -- what a function takes and gives: the types of its arguments in order, and that of its result
 abbrev pub Signature : Type 0

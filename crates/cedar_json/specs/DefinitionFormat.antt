@@ -1,23 +1,13 @@
 -- Which definitions of namespaces, and which fragments, JSON values and texts describe.
-use Rattle.std.specs.Prelude.{◌≡◌, List, [], ◌∷◌, not, ◌&&◌, map, Option, Some, None, cond, option_map, option_and_then, codes, string_bytes}
 use Rattle.std.specs.BTreeMap.{BTreeMap, insert_entry}
 use Rattle.std.specs.Option.{option_cmp}
+use Rattle.std.specs.Prelude.{◌≡◌, List, [], ◌∷◌, not, ◌&&◌, map, Option, Some, None, cond, option_map, option_and_then, codes, string_bytes}
 use Rattle.std.specs.declared.alloc.Global.{Global}
 use Rattle.std.specs.declared.cmp.Ordering.{Ordering}
 use Rattle.std.specs.declared.string.String.{String}
-use Rattle.json.specs.Find.{as_object, get}
-use Rattle.json.specs.Json.{Json, Members, no_members, member}
-use Rattle.cedar_below.specs.Words.{PlainName, Text, name_cmp, plain_name, text_cmp, unreserved_id_text}
-use Rattle.cedar_below.specs.declared.name.Name.{Name}
-use Rattle.cedar_below.specs.declared.unreserved_id.UnreservedId.{UnreservedId}
-use Rattle.cedar_names.specs.Words.{Expr, common_type_text, raw_expr, reserved_type_words}
-use Rattle.cedar_names.specs.declared.json_schema.action_type.ActionType.{ActionType}
-use Rattle.cedar_names.specs.declared.json_schema.common_type_id.CommonTypeId.{CommonTypeId}
-use Rattle.cedar_names.specs.declared.json_schema.entity_type.EntityType.{EntityType}
-use Rattle.cedar_names.specs.declared.json_schema.fragment.CommonType.{CommonType}
-use Rattle.cedar_names.specs.declared.json_schema.fragment.Fragment.{Fragment}
-use Rattle.cedar_names.specs.declared.json_schema.fragment.NamespaceDefinition.{NamespaceDefinition}
-use Rattle.cedar_names.specs.declared.json_schema.raw_name.RawName.{RawName}
+use Rattle.cedar_ast.specs.Words.{PlainName, Text, name_cmp, plain_name, text_cmp, unreserved_id_text}
+use Rattle.cedar_ast.specs.declared.name.Name.{Name}
+use Rattle.cedar_ast.specs.declared.unreserved_id.UnreservedId.{UnreservedId}
 use Rattle.cedar_json.specs.ActionFormat.{WrittenAction, action_of, written_action}
 use Rattle.cedar_json.specs.EntityFormat.{WrittenEntity, entity_of, written_entity}
 use Rattle.cedar_json.specs.Fields.{annotations_fit, has_only, is_among, known_fields}
@@ -25,6 +15,16 @@ use Rattle.cedar_json.specs.Lists.{field_or}
 use Rattle.cedar_json.specs.TypeFormat.{if_so, type_with}
 use Rattle.cedar_json.specs.WrittenName.{is_unreserved, plain_name_in}
 use Rattle.cedar_json.specs.declared.fault.Row.TheVariants.{OfCommonType, OfDefinition}
+use Rattle.cedar_schema_ast.specs.Words.{Expr, common_type_text, raw_expr, reserved_type_words}
+use Rattle.cedar_schema_ast.specs.declared.json_schema.action_type.ActionType.{ActionType}
+use Rattle.cedar_schema_ast.specs.declared.json_schema.common_type_id.CommonTypeId.{CommonTypeId}
+use Rattle.cedar_schema_ast.specs.declared.json_schema.entity_type.EntityType.{EntityType}
+use Rattle.cedar_schema_ast.specs.declared.json_schema.fragment.CommonType.{CommonType}
+use Rattle.cedar_schema_ast.specs.declared.json_schema.fragment.Fragment.{Fragment}
+use Rattle.cedar_schema_ast.specs.declared.json_schema.fragment.NamespaceDefinition.{NamespaceDefinition}
+use Rattle.cedar_schema_ast.specs.declared.json_schema.raw_name.RawName.{RawName}
+use Rattle.json.specs.Find.{as_object, get}
+use Rattle.json.specs.Json.{Json, Members, no_members, member}
 
 -- what is declared in a namespace, as it was written: common types, entity types and actions, each
 -- in the order of ids

@@ -1,18 +1,18 @@
 -- Which declarations of entity types JSON values describe.
 use Rattle.std.specs.Prelude.{List, [], ◌∷◌, Bool, false, Option, Some, None, option_map, option_and_then, codes}
-use Rattle.json.specs.Find.{as_array, as_str, get}
-use Rattle.json.specs.Json.{Json}
-use Rattle.cedar_below.specs.Text.{Text}
-use Rattle.cedar_names.specs.Words.{EntityBody, Expr, Reference, enumerated, kind_body, no_member, raw_reference, record_expr, reference_to, standard}
-use Rattle.cedar_names.specs.declared.json_schema.entity_type.EntityType.{EntityType}
-use Rattle.cedar_names.specs.declared.json_schema.entity_type.EntityTypeKind.{EntityTypeKind}
-use Rattle.cedar_names.specs.declared.json_schema.raw_name.RawName.{RawName}
-use Rattle.cedar_names.specs.declared.json_schema.reference_type.ReferenceType.TheVariants.{Entity}
+use Rattle.cedar_ast.specs.Text.{Text}
 use Rattle.cedar_json.specs.Fields.{annotations_fit, flag_or, has_only, known_fields}
 use Rattle.cedar_json.specs.Lists.{all_of, field_or}
 use Rattle.cedar_json.specs.TypeFormat.{if_so, type_of}
 use Rattle.cedar_json.specs.WrittenName.{spelled_name}
 use Rattle.cedar_json.specs.declared.fault.Row.TheVariants.{OfEntityType, OfEnumeratedType}
+use Rattle.cedar_schema_ast.specs.Words.{EntityBody, Expr, Reference, enumerated, kind_body, no_member, raw_reference, record_expr, reference_to, standard}
+use Rattle.cedar_schema_ast.specs.declared.json_schema.entity_type.EntityType.{EntityType}
+use Rattle.cedar_schema_ast.specs.declared.json_schema.entity_type.EntityTypeKind.{EntityTypeKind}
+use Rattle.cedar_schema_ast.specs.declared.json_schema.raw_name.RawName.{RawName}
+use Rattle.cedar_schema_ast.specs.declared.json_schema.reference_type.ReferenceType.TheVariants.{Entity}
+use Rattle.json.specs.Find.{as_array, as_str, get}
+use Rattle.json.specs.Json.{Json}
 
 -- what is declared of an entity type, as it was written, and whether the declaration is external
 pub record WrittenEntity : Type 0 where

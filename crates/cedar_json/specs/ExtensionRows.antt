@@ -1,8 +1,8 @@
 -- The table from which Cedar's extensions are made.
-use Rattle.std.specs.Prelude.{◌≡◌, List, [], ◌∷◌, Some, map, ⊤}
-use Rattle.std.specs.Borrow.{Bor}
 use Rattle.std.specs.BTreeMap.{insert_entry}
-use Rattle.cedar_below.specs.Words.{CoreTy, PlainName, Text, core_extension, core_long, core_text, core_truth, name_cmp}
+use Rattle.std.specs.Borrow.{Bor}
+use Rattle.std.specs.Prelude.{◌≡◌, List, [], ◌∷◌, Some, map, ⊤}
+use Rattle.cedar_ast.specs.Words.{CoreTy, PlainName, Text, core_extension, core_long, core_text, core_truth, name_cmp}
 use Rattle.cedar_json.specs.CedarExtensions.{Signature, unqualified}
 use Rattle.cedar_json.specs.WrittenName.{plain_name_in}
 use Rattle.cedar_json.specs.declared.extensions.Kind.{Kind}

@@ -1,13 +1,13 @@
 -- The fields of JSON objects. A field is found as the last of its name.
-use Rattle.std.specs.Prelude.{◌≡◌, ℕ, zero, suc, List, [], ◌∷◌, ◌++◌, Bool, true, false, ◌&&◌, ◌||◌, Option, Some, None, IsSomeAnd, cond, codes, map, option_and_then}
 use Rattle.std.specs.Borrow.{Bor}
 use Rattle.std.specs.Option.{unwrap_or}
+use Rattle.std.specs.Prelude.{◌≡◌, ℕ, zero, suc, List, [], ◌∷◌, ◌++◌, Bool, true, false, ◌&&◌, ◌||◌, Option, Some, None, IsSomeAnd, cond, codes, map, option_and_then}
 use Rattle.std.specs.Str.{bytes_eq}
-use Rattle.json.specs.Find.{as_bool, as_str, get}
-use Rattle.json.specs.Json.{Json, null, boolean, number, string, array, object, Members, no_members, member}
-use Rattle.cedar_below.specs.Words.{Text, is_identifier_text}
+use Rattle.cedar_ast.specs.Words.{Text, is_identifier_text}
 use Rattle.cedar_json.specs.declared.fault.Row.{Row}
 use Rattle.cedar_json.specs.declared.fault.Row.TheVariants.{OfType, OfCommonType, OfAttribute, OfEntityType, OfEnumeratedType, OfAction, OfAppliesTo, OfParent, OfEntityUid, OfCall, OfDefinition}
+use Rattle.json.specs.Find.{as_bool, as_str, get}
+use Rattle.json.specs.Json.{Json, null, boolean, number, string, array, object, Members, no_members, member}
 
 -- a text is one of some
 abbrev pub is_among : Text → List Text → Bool

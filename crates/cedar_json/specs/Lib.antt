@@ -4,9 +4,9 @@ pub mod DefinitionFormat
 pub mod EntityFormat
 pub mod ExtensionRows
 pub mod Fields
-pub mod Filling
 pub mod Listing
 pub mod Lists
+pub mod MapBuilder
 pub mod Mark
 pub mod Nesting
 pub mod Place

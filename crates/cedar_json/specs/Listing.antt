@@ -2,17 +2,17 @@
 use Rattle.std.specs.Prelude.{◌≡◌, ◌∷◌, ◌++◌, false, map, Option, is_some, string_bytes}
 use Rattle.std.specs.declared.alloc.Global.{Global}
 use Rattle.std.specs.declared.string.String.{String}
-use Rattle.cedar_below.specs.Words.{PlainName, action_word, unreserved_id_text}
-use Rattle.cedar_below.specs.declared.unreserved_id.UnreservedId.{UnreservedId}
-use Rattle.cedar_names.specs.Words.{common_type_text}
-use Rattle.cedar_names.specs.declared.json_schema.action_type.ActionType.{ActionType}
-use Rattle.cedar_names.specs.declared.json_schema.common_type_id.CommonTypeId.{CommonTypeId}
-use Rattle.cedar_names.specs.declared.json_schema.entity_type.EntityType.{EntityType}
-use Rattle.cedar_names.specs.declared.json_schema.fragment.CommonType.{CommonType}
-use Rattle.cedar_names.specs.declared.json_schema.raw_name.RawName.{RawName}
+use Rattle.cedar_ast.specs.Words.{PlainName, action_word, unreserved_id_text}
+use Rattle.cedar_ast.specs.declared.unreserved_id.UnreservedId.{UnreservedId}
 use Rattle.cedar_json.specs.Mark.{Marked, Marks, action, common_type, entity_type, marked}
 use Rattle.cedar_json.specs.Table.{full_name}
 use Rattle.cedar_json.specs.declared.places.table.Table.{Table}
+use Rattle.cedar_schema_ast.specs.Words.{common_type_text}
+use Rattle.cedar_schema_ast.specs.declared.json_schema.action_type.ActionType.{ActionType}
+use Rattle.cedar_schema_ast.specs.declared.json_schema.common_type_id.CommonTypeId.{CommonTypeId}
+use Rattle.cedar_schema_ast.specs.declared.json_schema.entity_type.EntityType.{EntityType}
+use Rattle.cedar_schema_ast.specs.declared.json_schema.fragment.CommonType.{CommonType}
+use Rattle.cedar_schema_ast.specs.declared.json_schema.raw_name.RawName.{RawName}
 
 -- some marks are listed behind what was, unless memory ran out
 abbrev pub IsListed : Marks → Table → Table → Type 0

@@ -1,7 +1,7 @@
 -- What a fragment has at a place.
 use Rattle.std.specs.Prelude.{Bool, List, Option, string_bytes}
-use Rattle.cedar_below.specs.Words.{PlainName, Text, name_of}
-use Rattle.cedar_below.specs.declared.loc.Loc.{Loc}
+use Rattle.cedar_ast.specs.Words.{PlainName, Text, name_of}
+use Rattle.cedar_ast.specs.declared.loc.Loc.{Loc}
 use Rattle.cedar_json.specs.declared.places.written.Written.{Written}
 use Rattle.cedar_json.specs.declared.places.written.Written.TheVariants as written
 use Rattle.cedar_json.specs.declared.places.written.WrittenAt.{WrittenAt}

@@ -1,19 +1,19 @@
 -- Places in a JSON value, and what a refusal says of one.
 use Rattle.std.specs.Prelude.{◌≡◌, ℕ, false, List, [], ◌∷◌, Option, Some, None, option_and_then, reverse, IsSomeAnd, ⊤}
-use Rattle.json.specs.Find.{get, at, as_str, as_number, as_bool, as_array, as_object}
-use Rattle.json.specs.Json.{Json, null, no_items}
-use Rattle.cedar_below.specs.Words.{IsIdentifier, IsNameText, IsReservedNameText, Text, reserved_word}
-use Rattle.cedar_names.specs.ReservedTypeWord.{IsReservedTypeWord}
-use Rattle.cedar_json.specs.WholeNumber.{whole_number}
+use Rattle.cedar_ast.specs.Words.{IsIdentifier, IsNameText, IsReservedNameText, Text, reserved_word}
 use Rattle.cedar_json.specs.Fields.{is_among, is_text_or_null, known_fields, nth_member}
+use Rattle.cedar_json.specs.WholeNumber.{whole_number}
+use Rattle.cedar_json.specs.declared.fault.Expected.{Expected}
+use Rattle.cedar_json.specs.declared.fault.Expected.TheVariants as wanted
 use Rattle.cedar_json.specs.declared.fault.Fault.{Fault}
 use Rattle.cedar_json.specs.declared.fault.Fault.TheVariants.{At, Memory}
 use Rattle.cedar_json.specs.declared.fault.FaultKind.{FaultKind}
 use Rattle.cedar_json.specs.declared.fault.FaultKind.TheVariants.{Missing, UnknownField, Wants, NoName, NoId, ReservedId, KeyIsNoId, NoChoices, ReservedName, NoLong, KeyIsReserved, KeyIsTypeWord, KeyIsNoName, KeyIsReservedName}
 use Rattle.cedar_json.specs.declared.fault.Step.{Step}
 use Rattle.cedar_json.specs.declared.fault.Step.TheVariants.{Field, Member, Item}
-use Rattle.cedar_json.specs.declared.fault.Wanted.{Wanted}
-use Rattle.cedar_json.specs.declared.fault.Wanted.TheVariants as wanted
+use Rattle.cedar_schema_ast.specs.ReservedTypeWord.{IsReservedTypeWord}
+use Rattle.json.specs.Find.{get, at, as_str, as_number, as_bool, as_array, as_object}
+use Rattle.json.specs.Json.{Json, null, no_items}
 
 -- the member at an index of a value
 abbrev pub member_at : ℕ → Json → Option (Text × Json)
@@ -31,7 +31,7 @@ found_at [] j = Some j
 found_at (step ∷ steps) j = option_and_then (found_at steps) (step_into step j)
 
 -- the value isn't of the kind
-abbrev pub IsNot : Wanted → Json → Type 0
+abbrev pub IsNot : Expected → Json → Type 0
 IsNot wanted.Text j = as_str j ≡ None
 IsNot wanted.Object j = as_object j ≡ None
 IsNot wanted.Array j = as_array j ≡ None

@@ -1,13 +1,13 @@
 -- What a reader of JSON values gives.
-use Rattle.std.specs.Prelude.{◌≡◌, ◌≢◌, List, string_bytes, string_cmp, Option, Some, None, Result, MatchResult}
 use Rattle.std.specs.BTreeMap.{insert_entry}
+use Rattle.std.specs.Prelude.{◌≡◌, ◌≢◌, List, string_bytes, string_cmp, Option, Some, None, Result, MatchResult}
 use Rattle.std.specs.declared.alloc.Global.{Global}
 use Rattle.std.specs.declared.string.String.{String}
-use Rattle.json.specs.Json.{Json}
-use Rattle.cedar_below.specs.Words.{Text}
+use Rattle.cedar_ast.specs.Words.{Text}
 use Rattle.cedar_json.specs.Place.{IsTrueOf}
 use Rattle.cedar_json.specs.declared.fault.Fault.{Fault}
 use Rattle.cedar_json.specs.declared.fault.Fault.TheVariants.{Memory}
+use Rattle.json.specs.Json.{Json}
 
 -- what was read shows what is described; a refusal is true of each value that is so, and where
 -- something is described it is for want of memory

@@ -2,20 +2,20 @@
 use Rattle.std.specs.Prelude.{◌≡◌, ◌≢◌, ◌⊎◌, true, List, [], ◌∷◌, Option, Some, None, ⊤, string_bytes}
 use Rattle.std.specs.declared.alloc.Global.{Global}
 use Rattle.std.specs.declared.string.String.{String}
-use Rattle.cedar_below.specs.Words.{PlainName, PlainUid, Text, name_loc, name_of, plain_name, type_loc, type_name, uid_loc, uid_of}
-use Rattle.cedar_below.specs.declared.internal_name.InternalName.{InternalName}
-use Rattle.cedar_below.specs.declared.loc.Loc.{Loc}
-use Rattle.cedar_declarations.specs.declared.schema_error.ContextOrShape.{ContextOrShape}
-use Rattle.cedar_declarations.specs.declared.schema_error.ContextOrShape.TheVariants.{EntityTypeShape, ActionContext}
-use Rattle.cedar_declarations.specs.declared.schema_error.SchemaError.{SchemaError}
-use Rattle.cedar_declarations.specs.declared.schema_error.SchemaError.TheVariants as error
-use Rattle.cedar_declarations.specs.declared.schema_error.UnsupportedFeature.{UnsupportedFeature}
-use Rattle.cedar_declarations.specs.declared.schema_error.UnsupportedFeature.TheVariants.{ActionAttributes, OpenRecordsAndEntities}
-use Rattle.cedar_names.specs.ConditionalName.{possibility_locs}
-use Rattle.cedar_names.specs.declared.json_schema.conditional_name.ConditionalName.{ConditionalName}
+use Rattle.cedar_ast.specs.Words.{PlainName, PlainUid, Text, name_loc, name_of, plain_name, type_loc, type_name, uid_loc, uid_of}
+use Rattle.cedar_ast.specs.declared.internal_name.InternalName.{InternalName}
+use Rattle.cedar_ast.specs.declared.loc.Loc.{Loc}
 use Rattle.cedar_json.specs.Mark.{Mark, Marks, action, common_type, entity_type, extension_type, open_record}
 use Rattle.cedar_json.specs.declared.places.place.Sought.{Sought}
 use Rattle.cedar_json.specs.declared.places.place.Sought.TheVariants as sought
+use Rattle.cedar_schema_ast.specs.ConditionalName.{possibility_locs}
+use Rattle.cedar_schema_ast.specs.declared.json_schema.conditional_name.ConditionalName.{ConditionalName}
+use Rattle.cedar_schema_semantics.specs.declared.schema_error.ContextOrShape.{ContextOrShape}
+use Rattle.cedar_schema_semantics.specs.declared.schema_error.ContextOrShape.TheVariants.{EntityTypeShape, ActionContext}
+use Rattle.cedar_schema_semantics.specs.declared.schema_error.SchemaError.{SchemaError}
+use Rattle.cedar_schema_semantics.specs.declared.schema_error.SchemaError.TheVariants as error
+use Rattle.cedar_schema_semantics.specs.declared.schema_error.UnsupportedFeature.{UnsupportedFeature}
+use Rattle.cedar_schema_semantics.specs.declared.schema_error.UnsupportedFeature.TheVariants.{ActionAttributes, OpenRecordsAndEntities}
 
 -- the mark is an action of the id that has attributes
 abbrev pub IsAttributedAction : Text → Mark → Type 0

@@ -1,9 +1,9 @@
 -- Keys that come twice in an object.
 use Rattle.std.specs.Prelude.{◌≡◌, ℕ, ◌<◌, reverse, IsSomeAnd, ⊤}
-use Rattle.json.specs.Json.{Json}
 use Rattle.cedar_json.specs.Place.{found_at, member_at}
 use Rattle.cedar_json.specs.declared.repeated_keys.Repeat.{Repeat}
 use Rattle.cedar_json.specs.declared.repeated_keys.Repeat.TheVariants.{At, Memory}
+use Rattle.json.specs.Json.{Json}
 
 -- the key of the member at an index is that of an earlier member too
 abbrev pub IsRepeated : ℕ → Json → Type 0

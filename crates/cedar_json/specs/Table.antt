@@ -1,26 +1,26 @@
 -- What of a fragment is listed with its places.
-use Rattle.std.specs.Prelude.{[], ◌∷◌, ◌++◌, Option, Some, None, is_some, string_bytes}
 use Rattle.std.specs.List.{flat_map}
 use Rattle.std.specs.Option.{option_map}
+use Rattle.std.specs.Prelude.{[], ◌∷◌, ◌++◌, Option, Some, None, is_some, string_bytes}
 use Rattle.std.specs.declared.alloc.Global.{Global}
 use Rattle.std.specs.declared.string.String.{String}
-use Rattle.cedar_below.specs.Words.{PlainName, Text, action_word, plain_name, unreserved_id_text}
-use Rattle.cedar_below.specs.declared.name.Name.{Name}
-use Rattle.cedar_below.specs.declared.unreserved_id.UnreservedId.{UnreservedId}
-use Rattle.cedar_names.specs.Words.{common_type_text, qualified_name}
-use Rattle.cedar_names.specs.declared.json_schema.action_type.ActionType.{ActionType}
-use Rattle.cedar_names.specs.declared.json_schema.action_type.ApplySpec.{ApplySpec}
-use Rattle.cedar_names.specs.declared.json_schema.common_type_id.CommonTypeId.{CommonTypeId}
-use Rattle.cedar_names.specs.declared.json_schema.entity_type.EntityType.{EntityType}
-use Rattle.cedar_names.specs.declared.json_schema.entity_type.EntityTypeKind.{EntityTypeKind}
-use Rattle.cedar_names.specs.declared.json_schema.entity_type.EntityTypeKind.TheVariants as kind
-use Rattle.cedar_names.specs.declared.json_schema.fragment.CommonType.{CommonType}
-use Rattle.cedar_names.specs.declared.json_schema.fragment.Fragment.{Fragment}
-use Rattle.cedar_names.specs.declared.json_schema.fragment.NamespaceDefinition.{NamespaceDefinition}
-use Rattle.cedar_names.specs.declared.json_schema.raw_name.RawName.{RawName}
-use Rattle.cedar_names.specs.declared.json_schema.type_of.Type.{«Type»}
+use Rattle.cedar_ast.specs.Words.{PlainName, Text, action_word, plain_name, unreserved_id_text}
+use Rattle.cedar_ast.specs.declared.name.Name.{Name}
+use Rattle.cedar_ast.specs.declared.unreserved_id.UnreservedId.{UnreservedId}
 use Rattle.cedar_json.specs.Mark.{Marks, action, common_type, entity_type}
 use Rattle.cedar_json.specs.TypeMarks.{type_marks}
+use Rattle.cedar_schema_ast.specs.Words.{common_type_text, qualified_name}
+use Rattle.cedar_schema_ast.specs.declared.json_schema.action_type.ActionType.{ActionType}
+use Rattle.cedar_schema_ast.specs.declared.json_schema.action_type.ApplySpec.{ApplySpec}
+use Rattle.cedar_schema_ast.specs.declared.json_schema.common_type_id.CommonTypeId.{CommonTypeId}
+use Rattle.cedar_schema_ast.specs.declared.json_schema.entity_type.EntityType.{EntityType}
+use Rattle.cedar_schema_ast.specs.declared.json_schema.entity_type.EntityTypeKind.{EntityTypeKind}
+use Rattle.cedar_schema_ast.specs.declared.json_schema.entity_type.EntityTypeKind.TheVariants as kind
+use Rattle.cedar_schema_ast.specs.declared.json_schema.fragment.CommonType.{CommonType}
+use Rattle.cedar_schema_ast.specs.declared.json_schema.fragment.Fragment.{Fragment}
+use Rattle.cedar_schema_ast.specs.declared.json_schema.fragment.NamespaceDefinition.{NamespaceDefinition}
+use Rattle.cedar_schema_ast.specs.declared.json_schema.raw_name.RawName.{RawName}
+use Rattle.cedar_schema_ast.specs.declared.json_schema.type_of.Type.{«Type»}
 
 -- a namespace by its plain name; None is the empty one
 abbrev pub namespace_of : Option Name → Option PlainName

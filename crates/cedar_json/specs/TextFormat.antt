@@ -2,16 +2,16 @@
 use Rattle.std.specs.Prelude.{◌≡◌, ◌<◌, ◌≤◌, ◌^◌, ◌-◌, ℕ, length, reverse, true, Some, None, IsSomeAnd, ⊤}
 use Rattle.std.specs.Str.{IsUtf8}
 use Rattle.std.specs.Str.Lossy.{utf8_valid_len}
-use Rattle.json.specs.Json.{Json, document}
-use Rattle.json.specs.Lex.{tokens}
-use Rattle.json.specs.Strict.{HasUniqueKeys}
-use Rattle.cedar_below.specs.Text.{Text}
+use Rattle.cedar_ast.specs.Text.{Text}
 use Rattle.cedar_json.specs.DefinitionFormat.{WrittenFragment, fragment_of}
 use Rattle.cedar_json.specs.Nesting.{nests_too_deep}
 use Rattle.cedar_json.specs.Place.{IsFault, found_at}
 use Rattle.cedar_json.specs.Repeats.{IsRepeated}
 use Rattle.cedar_json.specs.declared.text_reading.JsonSchemaFault.{JsonSchemaFault}
 use Rattle.cedar_json.specs.declared.text_reading.JsonSchemaFault.TheVariants.{TooLong, NotUtf8, NotJson, TwiceInObject, OutOfShape, Memory}
+use Rattle.json.specs.Json.{Json, document}
+use Rattle.json.specs.Lex.{tokens}
+use Rattle.json.specs.Strict.{HasUniqueKeys}
 
 -- from so many bytes on a text is refused
 abbrev pub too_long : ℕ

@@ -1,17 +1,17 @@
 -- Which types JSON values describe.
-use Rattle.std.specs.Prelude.{List, [], Bool, true, false, cond, Option, Some, None, option_map, option_and_then, codes}
 use Rattle.std.specs.BTreeMap.{insert_entry}
+use Rattle.std.specs.Prelude.{List, [], Bool, true, false, cond, Option, Some, None, option_map, option_and_then, codes}
 use Rattle.std.specs.Str.{bytes_eq}
-use Rattle.json.specs.Find.{get, get_member}
-use Rattle.json.specs.Json.{Json, null, boolean, number, string, array, object, Members, no_members, member}
-use Rattle.cedar_below.specs.Text.{Text, text_cmp}
-use Rattle.cedar_names.specs.Words.{Expr, extension_expr, long_expr, members_from, named, record_expr, reference_to, set_expr, text_expr, truth_expr}
-use Rattle.cedar_names.specs.declared.json_schema.reference_type.ReferenceType.{ReferenceType}
-use Rattle.cedar_names.specs.declared.json_schema.reference_type.ReferenceType.TheVariants.{Common, Entity, CommonOrEntity}
+use Rattle.cedar_ast.specs.Text.{Text, text_cmp}
 use Rattle.cedar_json.specs.Fields.{annotations_fit, flag_or, has_only, known_fields, text_held}
 use Rattle.cedar_json.specs.WrittenName.{is_unreserved, spelled_name}
 use Rattle.cedar_json.specs.declared.fault.Row.{Row}
 use Rattle.cedar_json.specs.declared.fault.Row.TheVariants.{OfType, OfAttribute}
+use Rattle.cedar_schema_ast.specs.Words.{Expr, extension_expr, long_expr, members_from, named, record_expr, reference_to, set_expr, text_expr, truth_expr}
+use Rattle.cedar_schema_ast.specs.declared.json_schema.reference_type.ReferenceType.{ReferenceType}
+use Rattle.cedar_schema_ast.specs.declared.json_schema.reference_type.ReferenceType.TheVariants.{Common, Entity, CommonOrEntity}
+use Rattle.json.specs.Find.{get, get_member}
+use Rattle.json.specs.Json.{Json, null, boolean, number, string, array, object, Members, no_members, member}
 
 -- the attributes of a record, in the order of their names: for each whether it is required, and its
 -- type

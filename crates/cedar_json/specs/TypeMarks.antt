@@ -1,15 +1,15 @@
 -- What the types of a fragment hold whose places are listed.
-use Rattle.std.specs.Prelude.{[], ◌∷◌, ◌++◌, Option, cond}
 use Rattle.std.specs.List.{flat_map}
-use Rattle.cedar_below.specs.UnreservedId.{unreserved_id_text}
-use Rattle.cedar_below.specs.declared.loc.Loc.{Loc}
-use Rattle.cedar_names.specs.declared.json_schema.raw_name.RawName.{RawName}
-use Rattle.cedar_names.specs.declared.json_schema.type_of.RecordType.{RecordType, fold-RecordType}
-use Rattle.cedar_names.specs.declared.json_schema.type_of.Type.{«Type», fold-Type}
-use Rattle.cedar_names.specs.declared.json_schema.type_of.Type.TheOpen as layer
-use Rattle.cedar_names.specs.declared.json_schema.type_of.TypeOfAttribute.{TypeOfAttribute, fold-TypeOfAttribute}
-use Rattle.cedar_names.specs.declared.json_schema.type_of.TypeVariant.{TypeVariant, fold-TypeVariant}
+use Rattle.std.specs.Prelude.{[], ◌∷◌, ◌++◌, Option, cond}
+use Rattle.cedar_ast.specs.UnreservedId.{unreserved_id_text}
+use Rattle.cedar_ast.specs.declared.loc.Loc.{Loc}
 use Rattle.cedar_json.specs.Mark.{Marks, open_record, extension_type}
+use Rattle.cedar_schema_ast.specs.declared.json_schema.raw_name.RawName.{RawName}
+use Rattle.cedar_schema_ast.specs.declared.json_schema.type_of.RecordType.{RecordType, fold-RecordType}
+use Rattle.cedar_schema_ast.specs.declared.json_schema.type_of.Type.{«Type», fold-Type}
+use Rattle.cedar_schema_ast.specs.declared.json_schema.type_of.Type.TheOpen as layer
+use Rattle.cedar_schema_ast.specs.declared.json_schema.type_of.TypeOfAttribute.{TypeOfAttribute, fold-TypeOfAttribute}
+use Rattle.cedar_schema_ast.specs.declared.json_schema.type_of.TypeVariant.{TypeVariant, fold-TypeVariant}
 
 -- what is listed of something that was written at a place
 abbrev pub MarksAt : Type 0

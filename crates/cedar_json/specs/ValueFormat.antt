@@ -1,18 +1,18 @@
 -- Which values of Cedar JSON values describe.
-use Rattle.std.specs.Prelude.{List, [], Option, Some, None, cond, codes, map, option_map, option_and_then, string_bytes}
 use Rattle.std.specs.BTreeMap.{BTreeMap, insert_entry}
+use Rattle.std.specs.Prelude.{List, [], Option, Some, None, cond, codes, map, option_map, option_and_then, string_bytes}
 use Rattle.std.specs.Str.{bytes_eq}
 use Rattle.std.specs.declared.alloc.Global.{Global}
 use Rattle.std.specs.declared.string.String.{String}
-use Rattle.json.specs.Find.{get_member}
-use Rattle.json.specs.Json.{Json, null, boolean, number, string, array, object, Items, no_items, item, Members, no_members, member}
-use Rattle.cedar_below.specs.Words.{PlainName, PlainUid, Text, Tree, Trees, call_value, entries_from, map_value, no_tree, number_value, set_value, text_cmp, text_value, tree, tree_of, truth_value, uid_value}
-use Rattle.cedar_below.specs.declared.value.RestrictedExpr.{RestrictedExpr}
+use Rattle.cedar_ast.specs.Words.{PlainName, PlainUid, Text, Tree, Trees, call_value, entries_from, map_value, no_tree, number_value, set_value, text_cmp, text_value, tree, tree_of, truth_value, uid_value}
+use Rattle.cedar_ast.specs.declared.value.RestrictedExpr.{RestrictedExpr}
 use Rattle.cedar_json.specs.Fields.{has_only, known_fields, text_held}
 use Rattle.cedar_json.specs.TypeFormat.{if_so, later_field}
 use Rattle.cedar_json.specs.WholeNumber.{whole_number}
 use Rattle.cedar_json.specs.WrittenName.{plain_name_in}
 use Rattle.cedar_json.specs.declared.fault.Row.TheVariants.{OfEntityUid, OfCall}
+use Rattle.json.specs.Find.{get_member}
+use Rattle.json.specs.Json.{Json, null, boolean, number, string, array, object, Items, no_items, item, Members, no_members, member}
 
 -- values by text
 abbrev pub Pairs : Type 0

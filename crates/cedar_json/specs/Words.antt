@@ -1,30 +1,57 @@
 -- The words of clauses, from one place.
-pub use Rattle.cedar_below.specs.Words.{IsIdentifier, IsNameFault, IsNameText, IsOfIdentifiers, IsReserved, IsReservedNameText, PlainName, Text, Tree, Trees, TypeNamesFit, begins_identifier, call_value, core_ty_of, eid_text, extension_types, function_named, id_text, is_identifier_byte, is_identifier_start, is_identifier_text, items_of, joined, name_cmp, name_loc, name_of, name_text, no_tree, number_value, plain_name, reserved_word, set_value, text_cmp, text_value, tree, tree_of, tree_step, trees_of, truth_value, type_loc, type_name, uid_loc, uid_of, uid_value, unreserved_id_text, value_expr}
-pub use Rattle.cedar_below.specs.declared.extension.ExtensionFunction.{ExtensionFunction}
-pub use Rattle.cedar_below.specs.declared.internal_name.InternalName.{InternalName}
-pub use Rattle.cedar_below.specs.declared.loc.Loc.{Loc}
-pub use Rattle.cedar_below.specs.declared.name.Name.{Name}
-pub use Rattle.cedar_below.specs.declared.name_fault.NameFault.{NameFault}
-pub use Rattle.cedar_below.specs.declared.name_fault.NameFault.TheVariants.{NoCommonType, NotAName, Reserved}
-pub use Rattle.cedar_below.specs.declared.unreserved_id.UnreservedId.{UnreservedId}
-pub use Rattle.cedar_below.specs.declared.value.RestrictedExpr.{RestrictedExpr, fold-roll-RestrictedExpr, roll-RestrictedExpr}
-pub use Rattle.cedar_names.specs.Words.{Expr, Reference, Requests, attribute_step, common_type_text, members_from, plain_members, raw_attribute, raw_expr, raw_name, raw_record, raw_reference, raw_variant, record_expr, record_step, reserved_type_words, set_expr, type_step, variant_step}
-pub use Rattle.cedar_names.specs.declared.json_schema.common_type_id.CommonTypeId.{CommonTypeId}
-pub use Rattle.cedar_names.specs.declared.json_schema.raw_name.RawName.{RawName}
-pub use Rattle.cedar_names.specs.declared.json_schema.reference_type.ReferenceType.TheVariants.{Common, Entity}
-pub use Rattle.cedar_names.specs.declared.json_schema.type_of.RecordType.{RecordType, fold_out-RecordType, out-RecordType, roll-RecordType}
-pub use Rattle.cedar_names.specs.declared.json_schema.type_of.Type.{«Type»}
-pub use Rattle.cedar_names.specs.declared.json_schema.type_of.TypeOfAttribute.{TypeOfAttribute, fold-roll-TypeOfAttribute, fold_out-TypeOfAttribute, out-TypeOfAttribute, roll-TypeOfAttribute}
-pub use Rattle.cedar_declarations.specs.declared.schema_error.SchemaError.{SchemaError}
+pub use Rattle.cedar_ast.specs.CoreSchemaType.{core_ty_of}
+pub use Rattle.cedar_ast.specs.Eid.{eid_text}
+pub use Rattle.cedar_ast.specs.EntityType.{type_loc, type_name}
+pub use Rattle.cedar_ast.specs.EntityUID.{uid_loc, uid_of}
+pub use Rattle.cedar_ast.specs.Extensions.{extension_types, function_named}
+pub use Rattle.cedar_ast.specs.Id.{id_text}
+pub use Rattle.cedar_ast.specs.Identifier.{IsIdentifier, begins_identifier, is_identifier_byte, is_identifier_start, is_identifier_text, reserved_word}
+pub use Rattle.cedar_ast.specs.InternalName.{name_loc, name_of}
+pub use Rattle.cedar_ast.specs.Joined.{joined}
+pub use Rattle.cedar_ast.specs.Name.{plain_name}
+pub use Rattle.cedar_ast.specs.NameFault.{IsNameFault}
+pub use Rattle.cedar_ast.specs.NameText.{IsNameText, IsOfIdentifiers, IsReservedNameText}
+pub use Rattle.cedar_ast.specs.NonEmpty.{items_of}
+pub use Rattle.cedar_ast.specs.PlainName.{IsReserved, PlainName, name_cmp, name_text}
+pub use Rattle.cedar_ast.specs.RestrictedExpr.{tree_of, tree_step, trees_of}
+pub use Rattle.cedar_ast.specs.Text.{Text, text_cmp}
+pub use Rattle.cedar_ast.specs.Tree.{Tree, Trees, call_value, no_tree, number_value, set_value, text_value, tree, truth_value, uid_value}
+pub use Rattle.cedar_ast.specs.TypeNames.{TypeNamesFit}
+pub use Rattle.cedar_ast.specs.UnreservedId.{unreserved_id_text}
+pub use Rattle.cedar_ast.specs.Value.{value_expr}
+pub use Rattle.cedar_ast.specs.declared.extension.ExtensionFunction.{ExtensionFunction}
+pub use Rattle.cedar_ast.specs.declared.internal_name.InternalName.{InternalName}
+pub use Rattle.cedar_ast.specs.declared.loc.Loc.{Loc}
+pub use Rattle.cedar_ast.specs.declared.name.Name.{Name}
+pub use Rattle.cedar_ast.specs.declared.name_fault.NameFault.{NameFault}
+pub use Rattle.cedar_ast.specs.declared.name_fault.NameFault.TheVariants.{NoCommonType, NotAName, Reserved}
+pub use Rattle.cedar_ast.specs.declared.unreserved_id.UnreservedId.{UnreservedId}
+pub use Rattle.cedar_ast.specs.declared.value.RestrictedExpr.{RestrictedExpr, fold-roll-RestrictedExpr, roll-RestrictedExpr}
+pub use Rattle.cedar_schema_ast.specs.ActionBody.{Requests}
+pub use Rattle.cedar_schema_ast.specs.CommonTypeId.{common_type_text}
+pub use Rattle.cedar_schema_ast.specs.Expr.{Expr, members_from, record_expr, set_expr}
+pub use Rattle.cedar_schema_ast.specs.PlainMembers.{plain_members}
+pub use Rattle.cedar_schema_ast.specs.RawExpr.{raw_attribute, raw_expr, raw_record, raw_reference, raw_variant}
+pub use Rattle.cedar_schema_ast.specs.RawName.{raw_name}
+pub use Rattle.cedar_schema_ast.specs.Reference.{Reference}
+pub use Rattle.cedar_schema_ast.specs.ReservedTypeWord.{reserved_type_words}
+pub use Rattle.cedar_schema_ast.specs.TypeExpr.{attribute_step, record_step, type_step, variant_step}
+pub use Rattle.cedar_schema_ast.specs.declared.json_schema.common_type_id.CommonTypeId.{CommonTypeId}
+pub use Rattle.cedar_schema_ast.specs.declared.json_schema.raw_name.RawName.{RawName}
+pub use Rattle.cedar_schema_ast.specs.declared.json_schema.reference_type.ReferenceType.TheVariants.{Common, Entity}
+pub use Rattle.cedar_schema_ast.specs.declared.json_schema.type_of.RecordType.{RecordType, fold_out-RecordType, out-RecordType, roll-RecordType}
+pub use Rattle.cedar_schema_ast.specs.declared.json_schema.type_of.Type.{«Type»}
+pub use Rattle.cedar_schema_ast.specs.declared.json_schema.type_of.TypeOfAttribute.{TypeOfAttribute, fold-roll-TypeOfAttribute, fold_out-TypeOfAttribute, out-TypeOfAttribute, roll-TypeOfAttribute}
+pub use Rattle.cedar_schema_semantics.specs.declared.schema_error.SchemaError.{SchemaError}
 pub use Rattle.cedar_json.specs.ActionFormat.{WrittenAction, WrittenParent, action_by, action_of, optional, pairs_in, parent_by, parent_of, parents_of, requests_by, requests_of, unless_null, written_action, written_pairs, written_parent, written_requests}
 pub use Rattle.cedar_json.specs.CedarExtensions.{Signature, cedar_function, cedar_type_names, signature, signatures, unqualified}
 pub use Rattle.cedar_json.specs.DefinitionFormat.{IsEntryPut, WrittenDefinition, WrittenFragment, actions_in, common_key, common_type_of, common_types_in, definition_by, definition_of, entity_types_in, entries_in, entries_of, fragment_of, id_key, namespace_key, written_actions, written_common_types, written_definition, written_entity_types, written_fragment}
 pub use Rattle.cedar_json.specs.EntityFormat.{WrittenEntity, at_least_one, body_by, choices_in, empty_record, entity_by, entity_of, entity_reference, parents_in, references_in, shape_in, standard_by, standard_of, tags_in, written_entity, written_kind}
 pub use Rattle.cedar_json.specs.ExtensionRows.{AreKinds, AreNames, AreRows, IsKind, IsRow, SpellsName, inserted, kind_type, row_signature}
 pub use Rattle.cedar_json.specs.Fields.{IsOther, annotations_fit, are_annotations, flag_or, further_fields, has_only, is_among, is_text_or_null, keys_among, known_fields, nth_member, own_fields, text_held, texts_of, type_fields, type_word}
-pub use Rattle.cedar_json.specs.Filling.{IsAscending, all_put}
-pub use Rattle.cedar_json.specs.Lists.{all_of, field_or}
 pub use Rattle.cedar_json.specs.Listing.{IsListed, action_mark, common_type_mark, entity_type_mark, marks_under}
+pub use Rattle.cedar_json.specs.Lists.{all_of, field_or}
+pub use Rattle.cedar_json.specs.MapBuilder.{IsAscending, all_put}
 pub use Rattle.cedar_json.specs.Mark.{Mark, Marked, Marks, extension_type, mark_of, marked, open_record}
 pub use Rattle.cedar_json.specs.Place.{IsFault, IsTrueOf, member_at, step_into}
 unfoldable pub use Rattle.cedar_json.specs.Place.{IsFaultAt}

@@ -1,7 +1,7 @@
 -- Names and identifiers as texts spell them.
 use Rattle.std.specs.Prelude.{ℕ, Bool, not, ◌==◌, ◌&&◌, ◌||◌, List, [], ◌∷◌, Option, Some, None, option_map, option_and_then, cond}
 use Rattle.std.specs.Str.{bytes_eq}
-use Rattle.cedar_below.specs.Words.{PlainName, Text, is_identifier_text, reserved_word}
+use Rattle.cedar_ast.specs.Words.{PlainName, Text, is_identifier_text, reserved_word}
 use Rattle.cedar_json.specs.Fields.{is_among}
 
 -- texts in a row, the first of them with a byte before it

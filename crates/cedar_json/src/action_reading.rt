@@ -4,20 +4,20 @@ ghost use Rattle.std.specs.Prelude.{false};
 ghost use Rattle.cedar_json.specs.Words.{Requests, Tree, WrittenAction, WrittenParent, action_of, parent_of, requests_of, tree_of, value_expr, value_of, written_action, written_parent, written_requests};
 
 use crate::annotations::check_declaration;
-use crate::described::{Described, described_field, optional_field};
 use crate::entity_reading::shape_field;
 use crate::fault::{Fault, Row};
 use crate::fields::{check_fields, flag_field};
+use crate::from_json::{FromJson, described_field, optional_field};
+use crate::from_json_owned::{FromJsonOwned, taken_unless_null};
 use crate::place_table::Cursor;
-use crate::taken::{Taken, taken_unless_null};
 use crate::value_reading::read_expr;
-use cedar_below::{Eid, Value as CedarValue};
-use cedar_names::json_schema::{ActionEntityUID, ActionType, ApplySpec, RawName};
+use cedar_ast::{Eid, Value as CedarValue};
+use cedar_schema_ast::json_schema::{ActionEntityUID, ActionType, ApplySpec, RawName};
 use json::Value;
 use std::alloc::Global;
 use std::collections::BTreeMap;
 
-impl Described for ActionEntityUID<RawName> {
+impl FromJson for ActionEntityUID<RawName> {
     ghost Plain = { WrittenParent };
 
     ghost describes = { parent_of };
@@ -41,7 +41,7 @@ impl Described for ActionEntityUID<RawName> {
     }
 }
 
-impl Described for ApplySpec<RawName> {
+impl FromJson for ApplySpec<RawName> {
     ghost Plain = { Requests };
 
     ghost describes = { requests_of };
@@ -66,7 +66,7 @@ impl Described for ApplySpec<RawName> {
     }
 }
 
-impl Taken for CedarValue {
+impl FromJsonOwned for CedarValue {
     ghost Plain = { Tree };
 
     ghost describes = { value_of };
@@ -84,7 +84,7 @@ impl Taken for CedarValue {
     }
 }
 
-impl Taken for ActionType<RawName> {
+impl FromJsonOwned for ActionType<RawName> {
     ghost Plain = { WrittenAction };
 
     ghost describes = { action_of };

@@ -6,7 +6,7 @@ ghost use Rattle.json.specs.Json.{object};
 ghost use Rattle.json.specs.Value.{value_view, members_view};
 ghost use Rattle.cedar_json.specs.Words.{IsTrueOf, annotations_fit, are_annotations, has_only, is_text_or_null, known_fields};
 
-use crate::fault::{Fault, FaultKind, Row, Step, Wanted};
+use crate::fault::{Expected, Fault, FaultKind, Row, Step};
 use crate::fields::{check_fields, members_of};
 use crate::spelling::is_identifier;
 use json::Value;
@@ -31,7 +31,7 @@ fn check_annotation_members(alloc: Global, members: &Vec<(&str, Value<'_>)>) -> 
             return Err(Fault::here(alloc, FaultKind::KeyIsNoId(index)));
         }
         if !is_text_or_null(&member.1) {
-            let fault = Fault::here(alloc, FaultKind::Wants(Wanted::TextOrNull));
+            let fault = Fault::here(alloc, FaultKind::Wants(Expected::TextOrNull));
             return Err(fault.behind(Step::Member(index)));
         }
     }
@@ -47,7 +47,7 @@ fn check_held(alloc: Global, value: &Value<'_>) -> Result<(), Fault>
 {
     match members_of(value) {
         Some(members) => check_annotation_members(alloc, members),
-        None => Err(Fault::here(alloc, FaultKind::Wants(Wanted::Object))),
+        None => Err(Fault::here(alloc, FaultKind::Wants(Expected::Object))),
     }
 }
 

@@ -4,20 +4,20 @@ ghost use Rattle.std.proofs.Common.{refl};
 ghost use Rattle.std.specs.Prelude.{Option, Some, None, option_map, string_bytes};
 ghost use Rattle.std.specs.Option.{option_cmp};
 ghost use Rattle.cedar_json.specs.Words.{Expr, PlainName, Text, WrittenDefinition, common_key, common_type_of, common_type_text, definition_of, id_key, name_cmp, namespace_key, plain_name, raw_expr, text_cmp, unreserved_id_text, written_definition};
-ghost use Rattle.cedar_below.proofs.Names.{name_ord-name_cmp};
+ghost use Rattle.cedar_ast.proofs.Names.{name_ord-name_cmp};
 
 use crate::annotations::{check_annotations, check_declaration};
 use crate::fault::{Fault, FaultKind, Row};
+use crate::from_json_owned::{FromJsonOwned, Key, taken_field, taken_or_else};
 use crate::place_table::Cursor;
-use crate::taken::{Key, Taken, taken_field, taken_or_else};
 use crate::type_reading::read_type_of;
-use cedar_below::{Name, NameFault, UnreservedId};
-use cedar_names::json_schema::{CommonType, CommonTypeId, NamespaceDefinition, RawName};
+use cedar_ast::{Name, NameFault, UnreservedId};
+use cedar_schema_ast::json_schema::{CommonType, CommonTypeId, NamespaceDefinition, RawName};
 use json::Value;
 use std::alloc::Global;
 use std::collections::BTreeMap;
 
-impl Taken for CommonType<RawName> {
+impl FromJsonOwned for CommonType<RawName> {
     ghost Plain = { Expr };
 
     ghost describes = { common_type_of };
@@ -122,7 +122,7 @@ impl Key for String {
     }
 }
 
-impl Taken for NamespaceDefinition<RawName> {
+impl FromJsonOwned for NamespaceDefinition<RawName> {
     ghost Plain = { WrittenDefinition };
 
     ghost describes = { definition_of };

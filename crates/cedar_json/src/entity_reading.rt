@@ -6,14 +6,14 @@ ghost use Rattle.json.specs.Value.{value_view};
 ghost use Rattle.cedar_json.specs.Words.{Entity, IsReadFrom, Reference, Text, WrittenEntity, body_by, choices_in, eid_text, empty_record, entity_of, entity_reference, items_of, raw_expr, raw_record, raw_reference, shape_in, standard_of, written_entity, written_kind};
 
 use crate::annotations::check_annotations;
-use crate::described::{Described, field_or_else};
-use crate::fault::{Fault, FaultKind, Row, Wanted};
+use crate::fault::{Expected, Fault, FaultKind, Row};
 use crate::fields::{check_fields, flag_field};
+use crate::from_json::{FromJson, field_or_else};
+use crate::from_json_owned::FromJsonOwned;
 use crate::place_table::Cursor;
 use crate::spelling::read_name;
-use crate::taken::Taken;
-use cedar_below::{Eid, NonEmpty};
-use cedar_names::json_schema::{
+use cedar_ast::{Eid, NonEmpty};
+use cedar_schema_ast::json_schema::{
     AttributesOrContext, EntityType, EntityTypeKind, RawName, RecordType, StandardEntityType, Type,
     TypeVariant,
 };
@@ -21,7 +21,7 @@ use json::Value;
 use std::alloc::Global;
 use std::collections::BTreeMap;
 
-impl Described for RawName {
+impl FromJson for RawName {
     ghost Plain = { Reference };
 
     ghost describes = { entity_reference };
@@ -32,12 +32,12 @@ impl Described for RawName {
     fn read(alloc: Global, value: &Value<'_>, cursor: Cursor<'_>) -> Result<RawName, Fault> {
         match value.as_str() {
             Some(text) => read_name(alloc, text, cursor.loc()),
-            None => Err(Fault::here(alloc, FaultKind::Wants(Wanted::Text))),
+            None => Err(Fault::here(alloc, FaultKind::Wants(Expected::Text))),
         }
     }
 }
 
-impl Described for Eid {
+impl FromJson for Eid {
     ghost Plain = { Text };
 
     ghost describes = { as_str };
@@ -48,7 +48,7 @@ impl Described for Eid {
     fn read(alloc: Global, value: &Value<'_>, _cursor: Cursor<'_>) -> Result<Eid, Fault> {
         match value.as_str() {
             Some(id) => Ok(Eid(String::from_str(alloc, id)?)),
-            None => Err(Fault::here(alloc, FaultKind::Wants(Wanted::Text))),
+            None => Err(Fault::here(alloc, FaultKind::Wants(Expected::Text))),
         }
     }
 }
@@ -139,7 +139,7 @@ fn read_kind(
     }
 }
 
-impl Taken for EntityType<RawName> {
+impl FromJsonOwned for EntityType<RawName> {
     ghost Plain = { WrittenEntity };
 
     ghost describes = { entity_of };

@@ -5,7 +5,7 @@ ghost use Rattle.cedar_json.specs.Words.{AreKinds, AreNames, AreRows, IsKind, Is
 
 use crate::fault::Fault;
 use crate::spelling::read_plain_name;
-use cedar_below::{CoreSchemaType, ExtensionFunction, Extensions, M, Memory, Name, put};
+use cedar_ast::{CoreSchemaType, ExtensionFunction, Extensions, M, Memory, Name, put};
 use std::alloc::Global;
 use std::collections::BTreeMap;
 

@@ -5,7 +5,7 @@ ghost use Rattle.json.specs.Json.{Json};
 ghost use Rattle.json.specs.Find.{get};
 ghost use Rattle.cedar_json.specs.Words.{IsFault, IsTrueOf, step_into};
 
-use cedar_below::Memory;
+use cedar_ast::Memory;
 use std::alloc::{AllocError, AllocFailed, Global};
 
 /// A step into a JSON value.
@@ -48,7 +48,7 @@ pub enum Row {
 
 /// The kinds of JSON value that the format asks for.
 #[derive(Clone, Copy, Debug, Drop, PartialEq, Eq)]
-pub enum Wanted {
+pub enum Expected {
     /// A text.
     Text,
     /// An object.
@@ -71,7 +71,7 @@ pub enum FaultKind {
     /// The member at this index is a field that the object may not have.
     UnknownField(Row, usize),
     /// Another kind of value is wanted.
-    Wants(Wanted),
+    Wants(Expected),
     /// The text is no name.
     NoName,
     /// The text is no identifier.

@@ -5,7 +5,7 @@ ghost use Rattle.json.specs.Find.{get, as_object, as_str};
 ghost use Rattle.json.specs.Value.{members_view, value_view};
 ghost use Rattle.cedar_json.specs.Words.{IsOther, IsTrueOf, flag_or, further_fields, has_only, is_among, keys_among, known_fields, own_fields, texts_of, type_fields, type_word};
 
-use crate::fault::{Fault, FaultKind, Row, Wanted};
+use crate::fault::{Expected, Fault, FaultKind, Row};
 use json::Value;
 use std::alloc::Global;
 
@@ -27,7 +27,7 @@ pub(crate) fn lack(alloc: Global, value: &Value<'_>, name: &'static str) -> Faul
 {
     match members_of(value) {
         Some(_) => Fault::here(alloc, FaultKind::Missing(name)),
-        None => Fault::here(alloc, FaultKind::Wants(Wanted::Object)),
+        None => Fault::here(alloc, FaultKind::Wants(Expected::Object)),
     }
 }
 
@@ -62,7 +62,7 @@ pub(crate) fn text_field<'a>(
     match value.get(name) {
         Some(held) => match held.as_str() {
             Some(text) => Ok(text),
-            None => Err(Fault::here(alloc, FaultKind::Wants(Wanted::Text)).within(name)),
+            None => Err(Fault::here(alloc, FaultKind::Wants(Expected::Text)).within(name)),
         },
         None => Err(lack(alloc, value, name)),
     }
@@ -83,7 +83,7 @@ pub(crate) fn object_field<'v, 'a>(
     match value.get(name) {
         Some(held) => match members_of(held) {
             Some(members) => Ok(members),
-            None => Err(Fault::here(alloc, FaultKind::Wants(Wanted::Object)).within(name)),
+            None => Err(Fault::here(alloc, FaultKind::Wants(Expected::Object)).within(name)),
         },
         None => Err(lack(alloc, value, name)),
     }
@@ -104,7 +104,7 @@ pub(crate) fn flag_field(
     match value.get(name) {
         Some(held) => match held.as_bool() {
             Some(flag) => Ok(flag),
-            None => Err(Fault::here(alloc, FaultKind::Wants(Wanted::Flag)).within(name)),
+            None => Err(Fault::here(alloc, FaultKind::Wants(Expected::Flag)).within(name)),
         },
         None => Ok(absent),
     }
@@ -217,7 +217,7 @@ pub(crate) fn check_fields(alloc: Global, value: &Value<'_>, row: Row) -> Result
         × IsTrueOf fault (value_view value.now)) }
 {
     let Some(members) = members_of(value) else {
-        return Err(Fault::here(alloc, FaultKind::Wants(Wanted::Object)));
+        return Err(Fault::here(alloc, FaultKind::Wants(Expected::Object)));
     };
     match other_member(members, own_fields(value, row), further_fields(row)) {
         Some(index) => Err(Fault::here(alloc, FaultKind::UnknownField(row, index))),

@@ -5,7 +5,7 @@ ghost use Rattle.json.specs.Find.{at};
 ghost use Rattle.cedar_json.specs.Words.{IsPutUnder, IsSeenFrom, member_at};
 
 use crate::fault::{Fault, Step};
-use cedar_below::put;
+use cedar_ast::put;
 use std::alloc::Global;
 use std::collections::BTreeMap;
 

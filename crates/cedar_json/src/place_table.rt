@@ -4,7 +4,7 @@
 //! values are numbered in the order of the text, and a cursor goes over their numbers as a reader
 //! goes over the values. No contract says that a place is the right one: tests do.
 
-use cedar_below::{Loc, M, Memory};
+use cedar_ast::{Loc, M, Memory};
 use json::{Reader, Scratch, Token, Value};
 use std::alloc::Global;
 

@@ -7,7 +7,7 @@ ghost use Rattle.json.specs.Value.{items_view, members_view, value_view};
 ghost use Rattle.cedar_json.specs.Words.{IsRepeatIn, IsRepeated, step_into};
 
 use crate::fault::Step;
-use cedar_below::{M, Memory};
+use cedar_ast::{M, Memory};
 use json::Value;
 use std::alloc::Global;
 use std::collections::BTreeMap;

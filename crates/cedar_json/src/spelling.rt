@@ -7,8 +7,8 @@ ghost use Rattle.json.specs.Json.{Json};
 ghost use Rattle.cedar_json.specs.Words.{IsReadWhere, IsTrueOf, begins_identifier, is_identifier_byte, is_identifier_start, is_identifier_text, is_unreserved, plain_name, plain_name_in, raw_name, spelled_name, unreserved_id_text};
 
 use crate::fault::{Fault, FaultKind};
-use cedar_below::{Loc, Name, NameFault, UnreservedId};
-use cedar_names::json_schema::RawName;
+use cedar_ast::{Loc, Name, NameFault, UnreservedId};
+use cedar_schema_ast::json_schema::RawName;
 use std::alloc::Global;
 
 /// Whether a byte may begin an identifier: an ASCII letter or `_`.

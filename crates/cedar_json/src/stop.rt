@@ -5,7 +5,7 @@ ghost use Rattle.json.specs.Lex.{tokens};
 ghost use Rattle.json.specs.Reads.{token_of};
 ghost use Rattle.cedar_json.specs.Nesting.{begins_part, nests_too_deep, open_after};
 
-use cedar_below::M;
+use cedar_ast::M;
 use json::{MAX_DEPTH, Reader, Scratch, Token};
 use std::alloc::Global;
 

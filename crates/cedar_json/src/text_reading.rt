@@ -7,12 +7,12 @@ ghost use Rattle.json.specs.Value.{value_view};
 ghost use Rattle.cedar_json.specs.Words.{Describes, IsFaultOf, IsRepeatIn, IsTrueOf, WrittenFragment, fragment_of, written_fragment};
 
 use crate::fault::{Fault, FaultKind, Step};
+use crate::from_json_owned::take_whole;
 use crate::place_table::ValuePlaces;
 use crate::repeated_keys::{Repeat, check_keys};
 use crate::stop::stop_of;
-use crate::taken::take_whole;
 use crate::value_place::{Place, faulty_key, place_at};
-use cedar_names::json_schema::{Fragment, RawName};
+use cedar_schema_ast::json_schema::{Fragment, RawName};
 use json::{Error, Scratch, Value};
 use std::alloc::Global;
 

@@ -6,13 +6,13 @@ ghost use Rattle.json.specs.Value.{value_view, members_view};
 ghost use Rattle.cedar_json.specs.Words.{Common, Expr, IsReadFrom, IsTrueOf, additional_field, attribute_of, attributes_field, attributes_of, element_field, extension_in, plain_members, raw_attribute, raw_expr, raw_variant, record_of, reference_in, set_expr, text_held, type_by_word, type_of, type_with};
 
 use crate::annotations::check_annotations;
-use crate::described::{Described, described_field};
 use crate::fault::{Fault, Row};
 use crate::fields::{check_fields, field, flag_field, object_field, text_field};
+use crate::from_json::{FromJson, described_field};
 use crate::gathering::put_read;
 use crate::place_table::Cursor;
 use crate::spelling::{read_name, read_unreserved_id};
-use cedar_names::json_schema::{RawName, RecordType, Type, TypeOfAttribute, TypeVariant};
+use cedar_schema_ast::json_schema::{RawName, RecordType, Type, TypeOfAttribute, TypeVariant};
 use json::Value;
 use std::alloc::Global;
 use std::collections::BTreeMap;
@@ -67,7 +67,7 @@ fn common_type(
     }
 }
 
-impl Described for Type<RawName> {
+impl FromJson for Type<RawName> {
     ghost Plain = { Expr };
 
     ghost describes = { type_of };

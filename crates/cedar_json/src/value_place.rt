@@ -4,7 +4,7 @@ ghost use Rattle.std.specs.Prelude.{◌≡◌, IfOk};
 
 use crate::fault::{FaultKind, Step};
 use crate::place_table::Cursor;
-use cedar_below::{Loc, M, Memory};
+use cedar_ast::{Loc, M, Memory};
 use json::Value;
 use std::alloc::Global;
 

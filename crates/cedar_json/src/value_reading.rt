@@ -6,11 +6,11 @@ ghost use Rattle.json.specs.Json.{array, object};
 ghost use Rattle.json.specs.Value.{items_view, members_view, value_view};
 ghost use Rattle.cedar_json.specs.Words.{IsReadFrom, call_in, call_value, has_only, if_so, known_fields, no_tree, pairs_of, plain_name, plain_name_in, record_of_pairs, set_value, sole_held, text_held, tree, tree_of, uid_in, uid_of, value_of, values_of, whole_number};
 
-use crate::fault::{Fault, FaultKind, Row, Wanted};
+use crate::fault::{Expected, Fault, FaultKind, Row};
 use crate::fields::{check_fields, field, text_field};
 use crate::gathering::{push_read, put_read};
 use crate::spelling::read_plain_name;
-use cedar_below::{Eid, EntityType, EntityUID, Name, RestrictedExpr};
+use cedar_ast::{Eid, EntityType, EntityUID, Name, RestrictedExpr};
 use json::Value;
 use std::alloc::Global;
 use std::collections::BTreeMap;
@@ -72,7 +72,7 @@ pub(crate) fn read_expr(alloc: Global, value: &Value<'_>) -> Result<RestrictedEx
     ensures { IsReadFrom (value_view value.now) (value_of (value_view value.now)) tree_of result }
 {
     match value {
-        Value::Null => Err(Fault::here(alloc, FaultKind::Wants(Wanted::NoNull))),
+        Value::Null => Err(Fault::here(alloc, FaultKind::Wants(Expected::NoNull))),
         Value::Bool(flag) => Ok(RestrictedExpr::Bool(*flag)),
         Value::Number(_) => match whole_number(value) {
             Some(number) => Ok(RestrictedExpr::Long(number)),

@@ -2,9 +2,9 @@
 use Rattle.std.proofs.Common.{◌≡◌, Bool, true, false, List, [], ◌∷◌, ◌++◌, map, Option, Some, None, String, Global, string_bytes, option_map, is_some, refl, ap, sym, ◌∙◌}
 use Rattle.std.specs.List.{flat_map}
 use Rattle.std.specs.declared.vec.Vec.{Vec}
-use Rattle.cedar_json_laws.specs.Words.{ActionBody, ActionEntityUID, ActionReference, ActionType, ApplySpec, Body, CommonType, CommonTypeId, Declaration, Entity, EntityBody, EntityType, EntityTypeKind, Fragment, Name, NamespaceDefinition, PlainName, RawName, Reference, Requests, Text, «Type», UnreservedId, WrittenAction, WrittenDefinition, WrittenEntity, WrittenFragment, WrittenParent, action, action_body, action_declarations, common_declarations, common_type, common_type_text, elsewhere, entity_declarations, entity_type, enumerated, external, kind_body, no_member, parent_action, parent_actions, parent_type, plain_action_type, plain_name, raw_declarations, raw_expr, raw_fragment, raw_reference, record_expr, reference_to, requests, requests_by, standard, unreserved_id_text, written_action, written_definition, written_entity, written_fragment, written_pairs, written_parent, written_requests}
-use Rattle.cedar_names.specs.declared.json_schema.entity_type.EntityTypeKind.TheVariants as variant
 use Rattle.cedar_json_laws.proofs.Placed.{expr_in, reference_in, types_placed}
+use Rattle.cedar_json_laws.specs.Words.{ActionBody, ActionEntityUID, ActionReference, ActionType, ApplySpec, Body, CommonType, CommonTypeId, Declaration, Entity, EntityBody, EntityType, EntityTypeKind, Fragment, Name, NamespaceDefinition, PlainName, RawName, Reference, Requests, Text, «Type», UnreservedId, WrittenAction, WrittenDefinition, WrittenEntity, WrittenFragment, WrittenParent, action, action_body, action_declarations, common_declarations, common_type, common_type_text, elsewhere, entity_declarations, entity_type, enumerated, external, kind_body, no_member, parent_action, parent_actions, parent_type, plain_action_type, plain_name, raw_declarations, raw_expr, raw_fragment, raw_reference, record_expr, reference_to, requests, requests_by, standard, unreserved_id_text, written_action, written_definition, written_entity, written_fragment, written_pairs, written_parent, written_requests}
+use Rattle.cedar_schema_ast.specs.declared.json_schema.entity_type.EntityTypeKind.TheVariants as variant
 
 module _ (namespace : Option PlainName) where
   -- what is declared of an entity type by what was written, and by whether it is external

@@ -1,8 +1,8 @@
 -- Types and references that were written, as they stand in a namespace.
 use Rattle.std.proofs.Common.{◌≡◌, Bool, List, [], ◌∷◌, map, Option, None, String, Global, string_bytes, refl, ap, sym, subst, ◌∙◌}
 use Rattle.cedar_json_laws.specs.Words.{Expr, Members, PlainName, RawName, RecordType, Reference, «Type», TypeOfAttribute, TypeVariant, attribute_step, extension_expr, fold-roll-Type, fold-roll-TypeOfAttribute, fold-roll-TypeVariant, ind-Type, long_expr, map-RecordType, map-Type, map-TypeOfAttribute, map-TypeVariant, member, members_from, named, no_member, possible_names, raw_attribute, raw_expr, raw_record, raw_reference, raw_variant, record_expr, record_step, roll-RecordType, roll-Type, roll-TypeOfAttribute, roll-TypeVariant, set_expr, text_expr, truth_expr, type_step, variant_step}
-use Rattle.cedar_names.proofs.ExprLemmas.{record_type_expr-made}
-use Rattle.cedar_names.specs.declared.json_schema.type_of.Type.TheOpen as layer
+use Rattle.cedar_schema_ast.proofs.ExprLemmas.{record_type_expr-made}
+use Rattle.cedar_schema_ast.specs.declared.json_schema.type_of.Type.TheOpen as layer
 
 -- the names that a written name may stand for in a namespace, by those in the empty one
 abbrev pub names_in : Option PlainName → List PlainName → List PlainName

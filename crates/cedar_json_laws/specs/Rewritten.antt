@@ -1,9 +1,9 @@
 -- Fragments that are read of what was written of others.
 use Rattle.std.specs.Prelude.{◌<◌, length}
-use Rattle.cedar_below.specs.Text.{Text}
+use Rattle.cedar_ast.specs.Text.{Text}
 use Rattle.cedar_json.specs.Words.{Describes, too_long, written_fragment}
-use Rattle.cedar_names.specs.declared.json_schema.fragment.Fragment.{Fragment}
-use Rattle.cedar_names.specs.declared.json_schema.raw_name.RawName.{RawName}
+use Rattle.cedar_schema_ast.specs.declared.json_schema.fragment.Fragment.{Fragment}
+use Rattle.cedar_schema_ast.specs.declared.json_schema.raw_name.RawName.{RawName}
 
 -- the second fragment was read of a text that was written of the first: the promises of the two
 -- calls

@@ -6,17 +6,17 @@ use Rattle.std.specs.Cmp.Lexicographic.{options_total}
 use Rattle.std.specs.List.Sorted.{IsStrictlySortedBy}
 use Rattle.std.specs.Map.{keys_of}
 use Rattle.std.specs.declared.cmp.Ordering.{Ordering}
-use Rattle.json.specs.Find.{as_str}
-use Rattle.json.specs.Json.{Json, string, object, no_members, member}
-use Rattle.json.specs.Value.{items_of}
-use Rattle.cedar_below.proofs.PlainNames.{name_cmp-total}
-use Rattle.cedar_below.proofs.Texts.{text_cmp-total}
-use Rattle.cedar_json_writer.specs.Words.{Each, Entity, EntityBody, Expr, Flaw, IfThere, IsPlain, IsWrittenEntity, Pairs, PlainName, Reference, Requests, SoundAction, SoundBody, SoundDeclarations, SoundDefinition, SoundFragment, SoundPairs, SoundParent, SoundRequests, SoundType, SoundValue, Text, WrittenAction, WrittenDefinition, WrittenEntity, WrittenFragment, WrittenParent, action_by, action_document, action_flaws, action_of, actions_in, all_of, at_least_one, body_flaws, body_members, choices_in, common_key, common_type_of, common_types_held, common_types_in, declared_flaws, declared_members, definition_by, definition_document, definition_flaws, definition_of, elsewhere, entity_by, entity_of, entity_reference, entity_type_document, entity_types_in, entries_from, enumerated, external, field_or, flag_held, flag_or, flaws_in, fragment_document, fragment_of, id_key, keyed_members, name_text, namespace_key, namespace_text, optional, optional_member, pairs_document, pairs_flaws, pairs_in, parent_array, parent_by, parent_document, parent_of, parents_held, parents_in, parents_of, parts_flaws, plain_name_in, reference_array, reference_text, reference_to, references_in, requests, requests_by, requests_document, requests_flaws, requests_of, shape_held, shape_in, standard, standard_by, tags_in, text_array, text_cmp, type_document, type_flaws}
+use Rattle.cedar_ast.proofs.PlainNames.{name_cmp-total}
+use Rattle.cedar_ast.proofs.Texts.{text_cmp-total}
 use Rattle.cedar_json.proofs.NameLemmas.{spelled_name-text}
 use Rattle.cedar_json.specs.DefinitionFormat.{entries_of}
 use Rattle.cedar_json_writer.proofs.TypeReadBack.{common_type_back, shape_back, type_back}
 use Rattle.cedar_json_writer.proofs.ValueReadBack.{entries_back, listed, plain_name-back}
 use Rattle.cedar_json_writer.proofs.WrittenOrder.{both_none, put-last, still_sorted}
+use Rattle.cedar_json_writer.specs.Words.{Each, Entity, EntityBody, Expr, Flaw, IfThere, IsPlain, IsWrittenEntity, Pairs, PlainName, Reference, Requests, SoundAction, SoundBody, SoundDeclarations, SoundDefinition, SoundFragment, SoundPairs, SoundParent, SoundRequests, SoundType, SoundValue, Text, WrittenAction, WrittenDefinition, WrittenEntity, WrittenFragment, WrittenParent, action_by, action_document, action_flaws, action_of, actions_in, all_of, at_least_one, body_flaws, body_members, choices_in, common_key, common_type_of, common_types_held, common_types_in, declared_flaws, declared_members, definition_by, definition_document, definition_flaws, definition_of, elsewhere, entity_by, entity_of, entity_reference, entity_type_document, entity_types_in, entries_from, enumerated, external, field_or, flag_held, flag_or, flaws_in, fragment_document, fragment_of, id_key, keyed_members, name_text, namespace_key, namespace_text, optional, optional_member, pairs_document, pairs_flaws, pairs_in, parent_array, parent_by, parent_document, parent_of, parents_held, parents_in, parents_of, parts_flaws, plain_name_in, reference_array, reference_text, reference_to, references_in, requests, requests_by, requests_document, requests_flaws, requests_of, shape_held, shape_in, standard, standard_by, tags_in, text_array, text_cmp, type_document, type_flaws}
+use Rattle.json.specs.Find.{as_str}
+use Rattle.json.specs.Json.{Json, string, object, no_members, member}
+use Rattle.json.specs.Value.{items_of}
 
 -- what is written of a reference to an entity type describes it
 reference_back : (reference : Reference) → IsWrittenEntity reference → entity_reference (string (reference_text reference)) ≡ Some reference

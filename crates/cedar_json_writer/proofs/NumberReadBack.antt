@@ -7,8 +7,8 @@ use Rattle.std.specs.Char.{digit_value}
 use Rattle.std.specs.Fmt.{decimal, signed_decimal}
 use Rattle.std.specs.Str.{bytes_eq}
 use Rattle.std.specs.Str.Parse.{IsNumeral, digits_value, signed_digits_value, starts_with_minus, without_leading_sign}
-use Rattle.cedar_json_writer.specs.Words.{Text, is_long, whole_number}
 use Rattle.cedar_json.proofs.NumberLemmas.{whole_number-parsed}
+use Rattle.cedar_json_writer.specs.Words.{Text, is_long, whole_number}
 
 -- a digit is no sign
 no_minus : (c : ℕ) (test : Bool) → (c == 45) ≡ test → digit_value c < 10 → test ≡ false

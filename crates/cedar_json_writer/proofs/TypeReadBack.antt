@@ -4,15 +4,15 @@ use Rattle.std.specs.BTreeMap.{insert_entry}
 use Rattle.std.specs.List.Sorted.{IsStrictlySortedBy}
 use Rattle.std.specs.Map.{keys_of}
 use Rattle.std.specs.Str.{bytes_eq}
-use Rattle.json.specs.Find.{get, get_member, later_or}
-use Rattle.json.specs.Json.{Json, boolean, Members, no_members, member}
-use Rattle.cedar_below.proofs.Texts.{text_cmp-total}
-use Rattle.cedar_json_writer.specs.Words.{Attributes, Common, CommonOrEntity, Entity, Expr, IsOfIdentifiers, OfAttribute, OfCommonType, OfType, PlainName, ReferenceType, SoundAttributes, SoundType, Text, annotations_fit, attribute_document, attribute_members, attribute_names, attribute_of, attributes_flaws, common_type_of, empty_record, extension_expr, flag_or, if_so, is_among, is_empty_record, is_unreserved, long_expr, members_from, name_text, named, record_expr, reference_flaws, reference_members, reference_text, reference_to, set_expr, shape_held, shape_in, spelled_name, text_cmp, text_expr, truth_expr, type_document, type_flaws, type_members, type_of, type_with, type_word, type_words}
-use Rattle.cedar_names.specs.Expr.{Members as AttributeList, no_member as no_attribute, member as attribute}
+use Rattle.cedar_ast.proofs.Texts.{text_cmp-total}
 use Rattle.cedar_json.proofs.NameLemmas.{spelled_name-text}
 use Rattle.cedar_json.proofs.TypeLemmas.{attribute_read, attributes_of-member, attributes_of-none, type_of-with}
 use Rattle.cedar_json.specs.TypeFormat.{attributes_of}
 use Rattle.cedar_json_writer.proofs.WrittenOrder.{both_none, put-last, still_sorted}
+use Rattle.cedar_json_writer.specs.Words.{Attributes, Common, CommonOrEntity, Entity, Expr, IsOfIdentifiers, OfAttribute, OfCommonType, OfType, PlainName, ReferenceType, SoundAttributes, SoundType, Text, annotations_fit, attribute_document, attribute_members, attribute_names, attribute_of, attributes_flaws, common_type_of, empty_record, extension_expr, flag_or, if_so, is_among, is_empty_record, is_unreserved, long_expr, members_from, name_text, named, record_expr, reference_flaws, reference_members, reference_text, reference_to, set_expr, shape_held, shape_in, spelled_name, text_cmp, text_expr, truth_expr, type_document, type_flaws, type_members, type_of, type_with, type_word, type_words}
+use Rattle.cedar_schema_ast.specs.Expr.{Members as AttributeList, no_member as no_attribute, member as attribute}
+use Rattle.json.specs.Find.{get, get_member, later_or}
+use Rattle.json.specs.Json.{Json, boolean, Members, no_members, member}
 
 -- what is written of a type describes it, wherever the type stands
 record Reads (ty : Expr) : Type 0 where

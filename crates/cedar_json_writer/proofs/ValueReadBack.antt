@@ -6,13 +6,13 @@ use Rattle.std.specs.BTreeMap.{insert_entry}
 use Rattle.std.specs.List.Sorted.{IsStrictlySortedBy}
 use Rattle.std.specs.Map.{keys_of}
 use Rattle.std.specs.Str.{bytes_eq}
-use Rattle.cedar_below.proofs.NameReading.{either}
-use Rattle.cedar_below.proofs.Texts.{text_cmp-total}
-use Rattle.cedar_json_writer.specs.Words.{Entries, IsPlain, IsReserved, Pairs, PlainName, PlainUid, SoundEntries, SoundValue, SoundValues, Text, Tree, Trees, call_of, call_value, entries_flaws, entries_from, entry, entry_names, if_unreserved, is_among, is_reserved, key_flaws, lone_key, map_value, name_text, no_entry, no_tree, number_value, pairs_of, plain_name_in, record_of_pairs, reserved_word, set_value, sole_held, text_cmp, text_value, tree, truth_value, uid_by, uid_document, uid_in, uid_value, value_document, value_flaws, value_items, value_keys, value_members, value_of, values_flaws, values_of}
+use Rattle.cedar_ast.proofs.NameReading.{either}
+use Rattle.cedar_ast.proofs.Texts.{text_cmp-total}
 use Rattle.cedar_json.proofs.NameLemmas.{spelled_name-text}
 use Rattle.cedar_json.proofs.ValueLemmas.{pairs_of-member, pairs_of-none, value_of-record}
 use Rattle.cedar_json_writer.proofs.NumberReadBack.{whole_number-back}
 use Rattle.cedar_json_writer.proofs.WrittenOrder.{both_none, put-last, still_sorted}
+use Rattle.cedar_json_writer.specs.Words.{Entries, IsPlain, IsReserved, Pairs, PlainName, PlainUid, SoundEntries, SoundValue, SoundValues, Text, Tree, Trees, call_of, call_value, entries_flaws, entries_from, entry, entry_names, if_unreserved, is_among, is_reserved, key_flaws, lone_key, map_value, name_text, no_entry, no_tree, number_value, pairs_of, plain_name_in, record_of_pairs, reserved_word, set_value, sole_held, text_cmp, text_value, tree, truth_value, uid_by, uid_document, uid_in, uid_value, value_document, value_flaws, value_items, value_keys, value_members, value_of, values_flaws, values_of}
 
 listed-among : (text : Text) (texts : List Text) → is_among text texts ≡ true → Contains texts text
 listed-among text [] e = absurd (false≢true e)

@@ -1,11 +1,11 @@
 -- Tokens that are written one after another, and what is free of flaws.
 use Rattle.std.proofs.Common.{◌≡◌, List, [], ◌∷◌, ◌++◌, Err, IfErr, MatchResult, Ok, OnOk, Result, Some, None, ap, refl, sym, subst, ◌∙◌, append_assoc}
 use Rattle.std.proofs.lemmas.List.Elements.{Contains-append_left, Contains-append_right}
+use Rattle.cedar_json_writer.specs.Words.{AddsField, AddsFields, AddsMembers, AddsValue, Flaw, IsChecked, IsFlawOf, IsFree, Text, WriteFault, flaw_of}
+use Rattle.cedar_json_writer.specs.declared.fault.WriteFault.TheVariants as fault
 use Rattle.json.specs.Json.{Json, array, object, Items, no_items, item, Members, no_members, member}
 use Rattle.json.specs.Token.{Token, begin_array, begin_object, end_array, end_object, key}
 use Rattle.json.specs.Tree.{items_tokens, json_tokens, members_tokens}
-use Rattle.cedar_json_writer.specs.Words.{AddsField, AddsFields, AddsMembers, AddsValue, Flaw, IsChecked, IsFlawOf, IsFree, Text, WriteFault, flaw_of}
-use Rattle.cedar_json_writer.specs.declared.fault.WriteFault.TheVariants as fault
 
 -- what follows from the clause of a success is one too
 pub on_ok : {A E P Q : Type 0} (r : Result A E) → OnOk r P → (P → Q) → OnOk r Q
@@ -90,7 +90,8 @@ pub object_by : (old opened new : List Token) (name : Text) (j : Json) → opene
 object_by old opened new name j begun added =
     field_added old (old ++ key name ∷ []) new name j refl (added (begun ∙ sym (append_assoc old (key name ∷ []) (begin_object ∷ []))))
 
--- a list whose items are written each under a text: its members, what can't be written of it, and what makes it sound
+-- a list whose items are written each under a text: its members, what can't be written of it, and
+-- what makes it sound
 pub record MembersShape (E : Type 0) : Type 1 where
   pub members : List E → Members
   pub flaws : List E → List Flaw

@@ -1,12 +1,12 @@
 -- What is written of actions.
 use Rattle.std.proofs.Common.{◌≡◌, Global, List, [], ◌∷◌, ◌++◌, map, Option, Some, None, codes, option_map, refl}
 use Rattle.std.specs.declared.vec.Vec.{Vec}
-use Rattle.json.specs.Json.{Json, object, no_members, member}
-use Rattle.json.specs.Token.{Token, begin_object, end_object}
-use Rattle.cedar_json_writer.specs.Words.{ActionEntityUID, AddsField, AddsMembers, AddsValue, Each, Entity, Expr, IfThere, IsFlawOf, IsFree, IsWrittenEntity, RawName, SoundAction, SoundPairs, SoundParent, SoundRequests, WriteFault, WrittenAction, action_flaws, flaws_in, optional_member, pairs_flaws, raw_name, raw_reference, requests, requests_flaws, written_parent}
 use Rattle.cedar_json_writer.proofs.WritingLemmas.{fields_after, flaw_left, flaw_right, none_both, object_added, object_closed}
 use Rattle.cedar_json_writer.proofs.WrittenEntities.{names_sound}
 use Rattle.cedar_json_writer.proofs.WrittenTypes.{FreeType, raw_ids}
+use Rattle.cedar_json_writer.specs.Words.{ActionEntityUID, AddsField, AddsMembers, AddsValue, Each, Entity, Expr, IfThere, IsFlawOf, IsFree, IsWrittenEntity, RawName, SoundAction, SoundPairs, SoundParent, SoundRequests, WriteFault, WrittenAction, action_flaws, flaws_in, optional_member, pairs_flaws, raw_name, raw_reference, requests, requests_flaws, written_parent}
+use Rattle.json.specs.Json.{Json, object, no_members, member}
+use Rattle.json.specs.Token.{Token, begin_object, end_object}
 
 -- the object of requests
 pub requests_added : (old opened one_of two_of inside new : List Token) (principals resources : Json) (context : Option Json)

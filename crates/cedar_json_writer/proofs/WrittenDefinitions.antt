@@ -5,14 +5,14 @@ use Rattle.std.specs.List.Sorted.{IsStrictlySortedBy}
 use Rattle.std.specs.Map.{keys_of}
 use Rattle.std.specs.Option.{option_cmp}
 use Rattle.std.specs.declared.cmp.Ordering.{Ordering}
-use Rattle.json.specs.Json.{Json, object, no_members, member}
-use Rattle.json.specs.Token.{Token, begin_object, end_object}
-use Rattle.cedar_below.proofs.Ordered.{IsStrictlySortedBy-map}
-use Rattle.cedar_json_writer.specs.Keyed.{SoundKeyed}
-use Rattle.cedar_json_writer.specs.Words.{AddsField, AddsValue, CommonType, CommonTypeId, Each, Expr, Flaw, IfThere, IsFlawOf, IsFree, IsPlain, Name, NamespaceDefinition, RawName, SoundAction, SoundBody, SoundDeclarations, SoundDefinition, SoundFragment, SoundType, Text, WriteFault, WrittenDefinition, WrittenEntity, action_flaws, body_flaws, common_key, common_type_text, common_types_held, declared_flaws, declared_members, definition_flaws, id_key, keyed_members, name_cmp, optional_member, parts_flaws, plain_name, raw_expr, text_cmp, type_document, type_flaws, written_common_types, written_definition}
+use Rattle.cedar_ast.proofs.Ordered.{IsStrictlySortedBy-map}
 use Rattle.cedar_json.proofs.ListLemmas.{no_length}
 use Rattle.cedar_json_writer.proofs.WritingLemmas.{MembersShape, fields_after, flaw_left, flaw_right, none_both, object_added}
 use Rattle.cedar_json_writer.proofs.WrittenValues.{name_plain}
+use Rattle.cedar_json_writer.specs.Keyed.{SoundKeyed}
+use Rattle.cedar_json_writer.specs.Words.{AddsField, AddsValue, CommonType, CommonTypeId, Each, Expr, Flaw, IfThere, IsFlawOf, IsFree, IsPlain, Name, NamespaceDefinition, RawName, SoundAction, SoundBody, SoundDeclarations, SoundDefinition, SoundFragment, SoundType, Text, WriteFault, WrittenDefinition, WrittenEntity, action_flaws, body_flaws, common_key, common_type_text, common_types_held, declared_flaws, declared_members, definition_flaws, id_key, keyed_members, name_cmp, optional_member, parts_flaws, plain_name, raw_expr, text_cmp, type_document, type_flaws, written_common_types, written_definition}
+use Rattle.json.specs.Json.{Json, object, no_members, member}
+use Rattle.json.specs.Token.{Token, begin_object, end_object}
 
 -- declarations that a map holds, each under a key that is shown as a name and written as a text
 module _ {K L V A : Type 0} (shown : K → L) (text : L → Text) (view : V → A) (document : A → Json) (flaws : A → List Flaw)

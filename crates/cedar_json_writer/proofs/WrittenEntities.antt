@@ -1,11 +1,11 @@
 -- What is written of entity types.
 use Rattle.std.proofs.Common.{◌≡◌, ◌≢◌, List, [], ◌∷◌, Bool, true, false, map, length, Option, Some, None, ap, codes, cond, refl, sym, subst}
 use Rattle.std.specs.List.Sorted.{IsStrictlySortedBy}
-use Rattle.json.specs.Token.{Token}
-use Rattle.cedar_json_writer.specs.Words.{AddsField, Each, Entity, Expr, IfThere, IsFree, IsWrittenEntity, RawName, SoundBody, SoundType, body_flaws, empty_record, flaws_in, is_empty_record, parents_held, raw_name, raw_reference, record_expr, reference_array, shape_held, standard, type_document, type_flaws}
 use Rattle.cedar_json_writer.proofs.TypeReadBack.{empty-is}
 use Rattle.cedar_json_writer.proofs.WritingLemmas.{none_both}
 use Rattle.cedar_json_writer.proofs.WrittenTypes.{Entries, FreeType, listed, raw_ids}
+use Rattle.cedar_json_writer.specs.Words.{AddsField, Each, Entity, Expr, IfThere, IsFree, IsWrittenEntity, RawName, SoundBody, SoundType, body_flaws, empty_record, flaws_in, is_empty_record, parents_held, raw_name, raw_reference, record_expr, reference_array, shape_held, standard, type_document, type_flaws}
+use Rattle.json.specs.Token.{Token}
 
 -- a record with an attribute isn't the one without any
 pub filled_record : (entries : Entries) (additional : Bool) → length entries ≢ 0 → is_empty_record (record_expr (listed entries) additional) ≡ false

@@ -1,12 +1,12 @@
 -- What is written of entities and of requests.
 use Rattle.std.proofs.Common.{◌≡◌, ◌≢◌, List, [], ◌∷◌, ◌++◌, codes, length, map, string_bytes, Global, String, Option, Some, refl, ap, sym, subst}
 use Rattle.std.specs.BTreeMap.{BTreeMap}
+use Rattle.cedar_json.proofs.ListLemmas.{no_length}
+use Rattle.cedar_json_writer.proofs.WritingLemmas.{field_absent, field_added, fields_after, items_from, object_added}
+use Rattle.cedar_json_writer.specs.Words.{AddsField, AddsValue, Pairs, PlainUid, Value, optional_member, pairs_document, pairs_flaws, tags_held, tree_of, uid_array, uid_document, value_expr, value_flaws, written_pairs}
 use Rattle.json.specs.Json.{Json, array, object, item, no_members, member}
 use Rattle.json.specs.Token.{Token, begin_object, end_object, key}
 use Rattle.json.specs.Value.{items_of}
-use Rattle.cedar_json_writer.specs.Words.{AddsField, AddsValue, Pairs, PlainUid, Value, optional_member, pairs_document, pairs_flaws, tags_held, tree_of, uid_array, uid_document, value_expr, value_flaws, written_pairs}
-use Rattle.cedar_json.proofs.ListLemmas.{no_length}
-use Rattle.cedar_json_writer.proofs.WritingLemmas.{field_absent, field_added, fields_after, items_from, object_added}
 
 uids-items : (uids : List PlainUid) → items_from uid_document uids ≡ items_of (map uid_document uids)
 uids-items [] = refl

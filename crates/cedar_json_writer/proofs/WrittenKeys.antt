@@ -11,15 +11,15 @@ use Rattle.std.specs.List.Sorted.{IsStrictlySortedBy}
 use Rattle.std.specs.Option.{option_cmp}
 use Rattle.std.specs.Str.{bytes_eq}
 use Rattle.std.specs.declared.cmp.Ordering.TheVariants.{Less}
-use Rattle.json.specs.Json.{Json, object, Members, no_members, member}
-use Rattle.json.specs.Strict.{AreDistinct, HasUniqueKeys, ItemsHaveUniqueKeys, MembersHaveUniqueKeys, keys}
-use Rattle.cedar_below.proofs.Ordered.{not_itself}
-use Rattle.cedar_below.proofs.PlainNames.{name_cmp-total}
-use Rattle.cedar_below.proofs.Texts.{text_cmp-total}
-use Rattle.cedar_json_writer.specs.Words.{Common, CommonOrEntity, Each, Entity, EntityBody, Entries, Expr, Flaw, IfThere, IsPlain, Pairs, PlainName, Reference, ReferenceType, Requests, SoundAction, SoundAttributes, SoundBody, SoundDeclarations, SoundDefinition, SoundEntries, SoundFragment, SoundPairs, SoundRequests, SoundType, SoundValue, SoundValues, Text, Tree, Trees, WrittenAction, WrittenDefinition, WrittenEntity, WrittenFragment, WrittenParent, action_document, action_flaws, attribute_members, attribute_names, body_flaws, body_members, call_value, common_key, common_types_held, declared_flaws, declared_members, definition_document, definition_flaws, elsewhere, entity_type_document, entries_flaws, entries_from, entry, entry_names, enumerated, extension_expr, external, flag_held, flaws_in, fragment_document, id_key, is_among, is_empty_record, key_flaws, keyed_members, long_expr, map_value, name_cmp, named, namespace_key, namespace_text, no_entry, no_tree, number_value, optional_member, pairs_document, pairs_flaws, parent_array, parent_document, parents_held, parts_flaws, record_expr, reference_array, reference_members, reference_text, requests, requests_document, requests_flaws, set_expr, set_value, shape_held, standard, text_array, text_cmp, text_expr, text_value, tree, truth_expr, truth_value, type_document, type_flaws, type_members, uid_value, value_document, value_flaws, value_items, value_members, values_flaws}
-use Rattle.cedar_names.specs.Expr.{Members as AttributeList, no_member as no_attribute, member as attribute}
+use Rattle.cedar_ast.proofs.Ordered.{not_itself}
+use Rattle.cedar_ast.proofs.PlainNames.{name_cmp-total}
+use Rattle.cedar_ast.proofs.Texts.{text_cmp-total}
 use Rattle.cedar_json_writer.proofs.FragmentReadBack.{namespace_back}
 use Rattle.cedar_json_writer.proofs.WrittenOrder.{both_none}
+use Rattle.cedar_json_writer.specs.Words.{Common, CommonOrEntity, Each, Entity, EntityBody, Entries, Expr, Flaw, IfThere, IsPlain, Pairs, PlainName, Reference, ReferenceType, Requests, SoundAction, SoundAttributes, SoundBody, SoundDeclarations, SoundDefinition, SoundEntries, SoundFragment, SoundPairs, SoundRequests, SoundType, SoundValue, SoundValues, Text, Tree, Trees, WrittenAction, WrittenDefinition, WrittenEntity, WrittenFragment, WrittenParent, action_document, action_flaws, attribute_members, attribute_names, body_flaws, body_members, call_value, common_key, common_types_held, declared_flaws, declared_members, definition_document, definition_flaws, elsewhere, entity_type_document, entries_flaws, entries_from, entry, entry_names, enumerated, extension_expr, external, flag_held, flaws_in, fragment_document, id_key, is_among, is_empty_record, key_flaws, keyed_members, long_expr, map_value, name_cmp, named, namespace_key, namespace_text, no_entry, no_tree, number_value, optional_member, pairs_document, pairs_flaws, parent_array, parent_document, parents_held, parts_flaws, record_expr, reference_array, reference_members, reference_text, requests, requests_document, requests_flaws, set_expr, set_value, shape_held, standard, text_array, text_cmp, text_expr, text_value, tree, truth_expr, truth_value, type_document, type_flaws, type_members, uid_value, value_document, value_flaws, value_items, value_members, values_flaws}
+use Rattle.cedar_schema_ast.specs.Expr.{Members as AttributeList, no_member as no_attribute, member as attribute}
+use Rattle.json.specs.Json.{Json, object, Members, no_members, member}
+use Rattle.json.specs.Strict.{AreDistinct, HasUniqueKeys, ItemsHaveUniqueKeys, MembersHaveUniqueKeys, keys}
 
 -- whether no text comes twice
 abbrev are_apart : List Text → Bool

@@ -1,11 +1,11 @@
 -- What is written of names and ids.
 use Rattle.std.proofs.Common.{◌≡◌, List, [], ◌∷◌, ◌++◌, map, None, refl, ap, subst, ◌∙◌}
+use Rattle.cedar_json_writer.proofs.WritingLemmas.{items_from}
+use Rattle.cedar_json_writer.specs.Words.{ActionEntityUID, AddsValue, Eid, Entity, RawName, eid_text, name_text, parent_array, parent_document, raw_name, raw_reference, reference_array, reference_text, written_parent}
 use Rattle.json.specs.Json.{Json, array, item, string}
 use Rattle.json.specs.Token.{Token}
 use Rattle.json.specs.Tree.{items_tokens}
 use Rattle.json.specs.Value.{items_of}
-use Rattle.cedar_json_writer.specs.Words.{ActionEntityUID, AddsValue, Eid, Entity, RawName, eid_text, name_text, parent_array, parent_document, raw_name, raw_reference, reference_array, reference_text, written_parent}
-use Rattle.cedar_json_writer.proofs.WritingLemmas.{items_from}
 
 -- a name as an item
 abbrev pub name_item : RawName → Json

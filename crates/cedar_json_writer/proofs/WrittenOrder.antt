@@ -6,7 +6,7 @@ use Rattle.std.specs.Cmp.{IsTotalOrder}
 use Rattle.std.specs.List.Sorted.{IsStrictlySortedBy}
 use Rattle.std.specs.Map.{keys_of}
 use Rattle.std.specs.declared.cmp.Ordering.{Ordering}
-use Rattle.cedar_below.proofs.Ordered.{above_front, insert_entry-end}
+use Rattle.cedar_ast.proofs.Ordered.{above_front, insert_entry-end}
 
 module _ {K X : Type 0} {R : K → K → Ordering} (total : IsTotalOrder R) where
   -- an entry whose key follows in order is put last

@@ -1,9 +1,9 @@
 -- What is written of values that stand under texts.
 use Rattle.std.proofs.Common.{◌≡◌, List, [], ◌∷◌, ◌++◌, map, refl, ap, sym, subst, ◌∙◌}
 use Rattle.std.specs.List.Sorted.{IsStrictlySortedBy}
-use Rattle.json.specs.Json.{member}
 use Rattle.cedar_json_writer.specs.Keyed.{SoundKeyed}
 use Rattle.cedar_json_writer.specs.Words.{Each, Flaw, IsFlawOf, IsFree, SoundEntries, SoundPairs, SoundValue, Text, Tree, WriteFault, declared_flaws, entries_flaws, entries_from, entry_names, keyed_members, pairs_flaws, text_cmp, value_document, value_flaws, value_members}
+use Rattle.json.specs.Json.{member}
 
 -- values that stand under their texts are a record's
 pub keyed-members : (pairs : List (Text × Tree)) → keyed_members (map (λ pair. (pair.0, value_document pair.1)) pairs) ≡ value_members (entries_from pairs)

@@ -1,6 +1,11 @@
 -- What a text is that has the tokens of a fragment's object.
 use Rattle.std.proofs.Common.{◌≡◌, ◌<◌, ◌≤◌, List, [], ◌∷◌, ◌++◌, Bool, true, false, cond, length, nat_lt, Option, Some, None, IsSome, Contains, option_and_then, refl, ap, sym, ◌∙◌, append-nil, arith, ltb-false, ltb-true}
 use Rattle.std.specs.Str.{IsUtf8}
+use Rattle.cedar_json_writer.proofs.FragmentReadBack.{fragment_back}
+use Rattle.cedar_json_writer.proofs.WritingLemmas.{flaw_right, none_both}
+use Rattle.cedar_json_writer.proofs.WrittenKeys.{fragment_unique}
+use Rattle.cedar_json_writer.specs.Words.{AddsValue, Describes, Flaw, IsFlawOf, IsFree, IsWritable, SoundFragment, Text, TooDeep, WrittenFragment, fragment_document, fragment_flaws, nesting, nesting_flaws, parts_flaws, too_long}
+use Rattle.cedar_json_writer.specs.declared.fault.WriteFault.TheVariants as fault
 use Rattle.json.proofs.Found.{one_reading}
 use Rattle.json.proofs.Nesting.{value-depth}
 use Rattle.json.proofs.Printed.Trees.{value-json_tokens}
@@ -8,11 +13,6 @@ use Rattle.json.specs.Json.{Json, document, if_last, max_depth, value}
 use Rattle.json.specs.Lex.{tokens}
 use Rattle.json.specs.Token.{Token}
 use Rattle.json.specs.Tree.{depth, json_tokens}
-use Rattle.cedar_json_writer.specs.Words.{AddsValue, Describes, Flaw, IsFlawOf, IsFree, IsWritable, SoundFragment, Text, TooDeep, WrittenFragment, fragment_document, fragment_flaws, nesting, nesting_flaws, parts_flaws, too_long}
-use Rattle.cedar_json_writer.proofs.FragmentReadBack.{fragment_back}
-use Rattle.cedar_json_writer.proofs.WritingLemmas.{flaw_right, none_both}
-use Rattle.cedar_json_writer.proofs.WrittenKeys.{fragment_unique}
-use Rattle.cedar_json_writer.specs.declared.fault.WriteFault.TheVariants as fault
 
 -- what was written from nothing has just the tokens of its value
 pub written_alone : (opened now : List Token) (j : Json) → opened ≡ [] → AddsValue opened now j → now ≡ json_tokens j

@@ -6,15 +6,15 @@ use Rattle.std.specs.Map.{keys_of}
 use Rattle.std.specs.Str.{bytes_eq}
 use Rattle.std.specs.declared.alloc.Global.{Global}
 use Rattle.std.specs.declared.string.String.{String}
+use Rattle.cedar_ast.proofs.NameReading.{ids_are_identifiers}
+use Rattle.cedar_ast.proofs.Ordered.{IsStrictlySortedBy-map}
+use Rattle.cedar_json.proofs.NameLemmas.{spelled_name-text}
+use Rattle.cedar_json_writer.proofs.WritingLemmas.{MembersShape, fields_after, object_closed}
+use Rattle.cedar_json_writer.specs.Words.{AddsField, AddsFields, AddsMembers, AddsValue, Common, CommonOrEntity, Each, Entity, Expr, IsFlawOf, IsFree, IsOfIdentifiers, PlainName, RawName, SoundAttributes, SoundType, Text, TypeOfAttribute, UnreservedId, WriteFault, attribute_document, attribute_members, attribute_names, attributes_flaws, extension_expr, flag_held, form_opening, id_key, is_among, is_identifier_text, is_unreserved, long_expr, members_from, name_text, named, optional_member, plain_members, raw_attribute, raw_name, raw_reference, record_expr, reserved_word, set_expr, spelled_name, text_cmp, text_expr, truth_expr, type_document, type_flaws, type_members, type_word, type_words, unreserved_id_text}
+use Rattle.cedar_schema_ast.specs.Expr.{Members as AttributeList}
 use Rattle.json.specs.Json.{object, string, Members, no_members, member}
 use Rattle.json.specs.Token.{Token, begin_object}
 use Rattle.json.specs.Tree.{json_tokens, members_tokens}
-use Rattle.cedar_below.proofs.NameReading.{ids_are_identifiers}
-use Rattle.cedar_below.proofs.Ordered.{IsStrictlySortedBy-map}
-use Rattle.cedar_json_writer.specs.Words.{AddsField, AddsFields, AddsMembers, AddsValue, Common, CommonOrEntity, Each, Entity, Expr, IsFlawOf, IsFree, IsOfIdentifiers, PlainName, RawName, SoundAttributes, SoundType, Text, TypeOfAttribute, UnreservedId, WriteFault, attribute_document, attribute_members, attribute_names, attributes_flaws, extension_expr, flag_held, form_opening, id_key, is_among, is_identifier_text, is_unreserved, long_expr, members_from, name_text, named, optional_member, plain_members, raw_attribute, raw_name, raw_reference, record_expr, reserved_word, set_expr, spelled_name, text_cmp, text_expr, truth_expr, type_document, type_flaws, type_members, type_word, type_words, unreserved_id_text}
-use Rattle.cedar_names.specs.Expr.{Members as AttributeList}
-use Rattle.cedar_json.proofs.NameLemmas.{spelled_name-text}
-use Rattle.cedar_json_writer.proofs.WritingLemmas.{MembersShape, fields_after, object_closed}
 
 -- a written name is of identifiers
 pub raw_ids : (name : RawName) → IsOfIdentifiers (raw_name name)

@@ -7,16 +7,16 @@ use Rattle.std.specs.List.Sorted.{IsStrictlySortedBy}
 use Rattle.std.specs.Map.{keys_of}
 use Rattle.std.specs.declared.alloc.Global.{Global}
 use Rattle.std.specs.declared.string.String.{String}
+use Rattle.cedar_ast.proofs.NameReading.{ids_are_identifiers}
+use Rattle.cedar_ast.proofs.Ordered.{IsStrictlySortedBy-map}
+use Rattle.cedar_ast.specs.declared.value.RestrictedExpr.TheOpen as layer
+use Rattle.cedar_ast.specs.declared.value.RestrictedExpr.TheVariants as expr
+use Rattle.cedar_json_writer.proofs.WritingLemmas.{MembersShape, field_added, fields_after, flaw_left, flaw_right, none_both, object_added}
+use Rattle.cedar_json_writer.specs.Words.{AddsField, AddsValue, Arguments, EntityUID, Entries, Flaw, IsFlawOf, IsFree, IsPlain, Name, PlainUid, RestrictedExpr, SoundEntries, SoundValue, SoundValues, Text, Tree, Unwritable, WriteFault, arguments, arity_flaws, call_opening, call_value, count, entries_flaws, entries_from, entries_of, entry_names, flaw_of, fold-roll-RestrictedExpr, is_among, is_long, key_flaws, lone_key, map_value, name_text, number_value, optional_member, plain_name, roll-RestrictedExpr, set_value, text_cmp, text_value, tree_of, tree_step, trees_of, truth_value, uid_document, uid_of, uid_value, value_document, value_flaws, value_items, value_keys, value_members, values_flaws}
+use Rattle.cedar_json_writer.specs.declared.fault.WriteFault.TheVariants as fault
 use Rattle.json.specs.Json.{boolean, number, object, string, no_members, member}
 use Rattle.json.specs.Token.{Token, begin_array, begin_object, end_array, end_object, key}
 use Rattle.json.specs.Tree.{items_tokens, json_tokens}
-use Rattle.cedar_below.proofs.NameReading.{ids_are_identifiers}
-use Rattle.cedar_below.proofs.Ordered.{IsStrictlySortedBy-map}
-use Rattle.cedar_json_writer.specs.Words.{AddsField, AddsValue, Arguments, EntityUID, Entries, Flaw, IsFlawOf, IsFree, IsPlain, Name, PlainUid, RestrictedExpr, SoundEntries, SoundValue, SoundValues, Text, Tree, Unwritable, WriteFault, arguments, arity_flaws, call_opening, call_value, count, entries_flaws, entries_from, entries_of, entry_names, flaw_of, fold-roll-RestrictedExpr, is_among, is_long, key_flaws, lone_key, map_value, name_text, number_value, optional_member, plain_name, roll-RestrictedExpr, set_value, text_cmp, text_value, tree_of, tree_step, trees_of, truth_value, uid_document, uid_of, uid_value, value_document, value_flaws, value_items, value_keys, value_members, values_flaws}
-use Rattle.cedar_below.specs.declared.value.RestrictedExpr.TheOpen as layer
-use Rattle.cedar_below.specs.declared.value.RestrictedExpr.TheVariants as expr
-use Rattle.cedar_json_writer.proofs.WritingLemmas.{MembersShape, field_added, fields_after, flaw_left, flaw_right, none_both, object_added}
-use Rattle.cedar_json_writer.specs.declared.fault.WriteFault.TheVariants as fault
 
 -- a name that isn't reserved is plain
 pub name_plain : (name : Name) → IsPlain (plain_name name)

@@ -1,13 +1,13 @@
 -- The JSON values that entities and requests are written as, and what can't be written of them.
 use Rattle.std.specs.Prelude.{List, [], ◌∷◌, ◌++◌, Option, Some, None, codes, map}
-use Rattle.json.specs.Json.{Json, string, array, object, no_members, member}
-use Rattle.json.specs.Value.{items_of}
-use Rattle.cedar_below.specs.Words.{PlainUid, uid_text}
+use Rattle.cedar_ast.specs.Words.{PlainUid, uid_text}
 use Rattle.cedar_json.specs.ValueFormat.{Pairs}
 use Rattle.cedar_json_writer.specs.Flaws.{Flaw, pairs_flaws}
 use Rattle.cedar_json_writer.specs.FragmentDocument.{pairs_document}
 use Rattle.cedar_json_writer.specs.ValueDocument.{uid_document}
 use Rattle.cedar_json_writer.specs.WrittenFields.{optional_member}
+use Rattle.json.specs.Json.{Json, string, array, object, no_members, member}
+use Rattle.json.specs.Value.{items_of}
 
 -- what is written in a field for tags: nothing where there are none
 abbrev pub tags_held : Pairs → Option Json

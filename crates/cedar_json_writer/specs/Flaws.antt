@@ -1,16 +1,16 @@
 -- What can't be written of fragments.
-use Rattle.std.specs.Prelude.{◌≡◌, ℕ, ◌+◌, List, [], ◌∷◌, ◌++◌, Option, Some, None, cond, codes, nat_lt}
 use Rattle.std.specs.List.{flat_map}
-use Rattle.json.specs.Json.{max_depth}
-use Rattle.json.specs.Tree.{depth}
-use Rattle.cedar_below.specs.Words.{Entries, Text, Tree, Trees, call_value, entries_from, entry, map_value, no_entry, no_tree, number_value, set_value, text_value, tree, truth_value, uid_value}
-use Rattle.cedar_names.specs.Words.{EntityBody, Expr, Requests, elsewhere, enumerated, extension_expr, external, long_expr, named, record_expr, requests, set_expr, standard, text_expr, truth_expr}
-use Rattle.cedar_names.specs.Expr.{Members as AttributeList, no_member as no_attribute, member as attribute}
-use Rattle.cedar_names.specs.declared.json_schema.reference_type.ReferenceType.{ReferenceType}
-use Rattle.cedar_names.specs.declared.json_schema.reference_type.ReferenceType.TheVariants.{Common, Entity, CommonOrEntity}
+use Rattle.std.specs.Prelude.{◌≡◌, ℕ, ◌+◌, List, [], ◌∷◌, ◌++◌, Option, Some, None, cond, codes, nat_lt}
+use Rattle.cedar_ast.specs.Words.{Entries, Text, Tree, Trees, call_value, entries_from, entry, map_value, no_entry, no_tree, number_value, set_value, text_value, tree, truth_value, uid_value}
 use Rattle.cedar_json.specs.Words.{Pairs, WrittenAction, WrittenDefinition, WrittenFragment, is_among}
 use Rattle.cedar_json_writer.specs.FragmentDocument.{fragment_document}
 use Rattle.cedar_json_writer.specs.TypeDocument.{reference_text}
+use Rattle.cedar_schema_ast.specs.Expr.{Members as AttributeList, no_member as no_attribute, member as attribute}
+use Rattle.cedar_schema_ast.specs.Words.{EntityBody, Expr, Requests, elsewhere, enumerated, extension_expr, external, long_expr, named, record_expr, requests, set_expr, standard, text_expr, truth_expr}
+use Rattle.cedar_schema_ast.specs.declared.json_schema.reference_type.ReferenceType.{ReferenceType}
+use Rattle.cedar_schema_ast.specs.declared.json_schema.reference_type.ReferenceType.TheVariants.{Common, Entity, CommonOrEntity}
+use Rattle.json.specs.Json.{max_depth}
+use Rattle.json.specs.Tree.{depth}
 
 -- what can't be written: a reference to a common type by a word that says of which form a type is,
 -- a call with the number of its arguments, which isn't one, a record whose one key says that it is

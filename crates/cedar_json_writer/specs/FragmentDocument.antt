@@ -1,13 +1,13 @@
 -- The JSON values that declarations, definitions and fragments are written as.
 use Rattle.std.specs.Prelude.{List, [], ◌∷◌, false, Option, Some, None, option_map, codes, map}
-use Rattle.json.specs.Json.{Json, string, array, object, Members, no_members, member}
-use Rattle.json.specs.Value.{items_of}
-use Rattle.cedar_below.specs.Words.{PlainName, Text, entries_from, name_text}
-use Rattle.cedar_names.specs.Words.{EntityBody, Expr, Reference, Requests, elsewhere, enumerated, external, requests, standard}
+use Rattle.cedar_ast.specs.Words.{PlainName, Text, entries_from, name_text}
 use Rattle.cedar_json.specs.Words.{Pairs, WrittenAction, WrittenDefinition, WrittenEntity, WrittenFragment, WrittenParent}
 use Rattle.cedar_json_writer.specs.TypeDocument.{reference_text, shape_held, type_document}
 use Rattle.cedar_json_writer.specs.ValueDocument.{value_members}
 use Rattle.cedar_json_writer.specs.WrittenFields.{flag_held, keyed_members, optional_member, text_array}
+use Rattle.cedar_schema_ast.specs.Words.{EntityBody, Expr, Reference, Requests, elsewhere, enumerated, external, requests, standard}
+use Rattle.json.specs.Json.{Json, string, array, object, Members, no_members, member}
+use Rattle.json.specs.Value.{items_of}
 
 -- the array of some references
 abbrev pub reference_array : List Reference → Json

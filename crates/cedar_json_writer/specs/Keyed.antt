@@ -1,9 +1,9 @@
 -- Entries that stand under keys.
-use Rattle.std.specs.Prelude.{List, map}
 use Rattle.std.specs.List.Sorted.{IsStrictlySortedBy}
+use Rattle.std.specs.Prelude.{List, map}
 use Rattle.std.specs.declared.cmp.Ordering.{Ordering}
-use Rattle.json.specs.Json.{Json, object}
 use Rattle.cedar_json_writer.specs.Words.{Each, Text, keyed_members}
+use Rattle.json.specs.Json.{Json, object}
 
 -- the object of entries, each under the text of its key
 abbrev pub keyed_document : {K A : Type 0} → (K → Text) → (A → Json) → List (K × A) → Json

@@ -1,12 +1,12 @@
 -- What the plain data of each fragment of the library holds to.
-use Rattle.std.specs.Prelude.{◌≡◌, ◌≢◌, true, List, [], ◌∷◌, Option, Some, None, ⊤, map}
 use Rattle.std.specs.List.Sorted.{IsStrictlySortedBy}
 use Rattle.std.specs.Option.{option_cmp}
-use Rattle.cedar_below.specs.Words.{Entries, IsOfIdentifiers, IsReserved, PlainName, Text, Tree, Trees, call_value, entries_from, entry, entry_names, map_value, name_cmp, no_entry, no_tree, number_value, set_value, text_cmp, text_value, tree, truth_value, uid_value}
-use Rattle.cedar_names.specs.Words.{EntityBody, Expr, Reference, Requests, elsewhere, enumerated, extension_expr, external, long_expr, named, record_expr, reference_to, requests, set_expr, standard, text_expr, truth_expr}
-use Rattle.cedar_names.specs.Expr.{Members as AttributeList, no_member as no_attribute, member as attribute}
-use Rattle.cedar_names.specs.declared.json_schema.reference_type.ReferenceType.TheVariants.{Entity}
+use Rattle.std.specs.Prelude.{◌≡◌, ◌≢◌, true, List, [], ◌∷◌, Option, Some, None, ⊤, map}
+use Rattle.cedar_ast.specs.Words.{Entries, IsOfIdentifiers, IsReserved, PlainName, Text, Tree, Trees, call_value, entries_from, entry, entry_names, map_value, name_cmp, no_entry, no_tree, number_value, set_value, text_cmp, text_value, tree, truth_value, uid_value}
 use Rattle.cedar_json.specs.Words.{Pairs, WrittenAction, WrittenDefinition, WrittenFragment, WrittenParent, common_key, id_key, is_long, is_unreserved}
+use Rattle.cedar_schema_ast.specs.Expr.{Members as AttributeList, no_member as no_attribute, member as attribute}
+use Rattle.cedar_schema_ast.specs.Words.{EntityBody, Expr, Reference, Requests, elsewhere, enumerated, extension_expr, external, long_expr, named, record_expr, reference_to, requests, set_expr, standard, text_expr, truth_expr}
+use Rattle.cedar_schema_ast.specs.declared.json_schema.reference_type.ReferenceType.TheVariants.{Entity}
 
 -- the reference is a name as it was written
 abbrev pub IsWrittenReference : Reference → Type 0

@@ -1,13 +1,13 @@
 -- The JSON values that types are written as.
 use Rattle.std.specs.Prelude.{List, [], ◌∷◌, Bool, true, false, Option, Some, None, cond, codes}
+use Rattle.cedar_ast.specs.Words.{PlainName, Text, name_text}
+use Rattle.cedar_json_writer.specs.WrittenFields.{flag_held, optional_member}
+use Rattle.cedar_schema_ast.specs.Expr.{Members as AttributeList, no_member as no_attribute, member as attribute}
+use Rattle.cedar_schema_ast.specs.Words.{Expr, Reference, extension_expr, long_expr, named, record_expr, set_expr, text_expr, truth_expr}
+use Rattle.cedar_schema_ast.specs.declared.json_schema.reference_type.ReferenceType.{ReferenceType}
+use Rattle.cedar_schema_ast.specs.declared.json_schema.reference_type.ReferenceType.TheVariants.{Common, Entity, CommonOrEntity}
 use Rattle.json.specs.Json.{Json, string, object, Members, no_members, member}
 use Rattle.json.specs.Token.{Token, key}
-use Rattle.cedar_below.specs.Words.{PlainName, Text, name_text}
-use Rattle.cedar_names.specs.Words.{Expr, Reference, extension_expr, long_expr, named, record_expr, set_expr, text_expr, truth_expr}
-use Rattle.cedar_names.specs.Expr.{Members as AttributeList, no_member as no_attribute, member as attribute}
-use Rattle.cedar_names.specs.declared.json_schema.reference_type.ReferenceType.{ReferenceType}
-use Rattle.cedar_names.specs.declared.json_schema.reference_type.ReferenceType.TheVariants.{Common, Entity, CommonOrEntity}
-use Rattle.cedar_json_writer.specs.WrittenFields.{flag_held, optional_member}
 
 -- the text of the first of some names
 abbrev pub first_text : List PlainName → Text

@@ -1,9 +1,9 @@
 -- The JSON values that Cedar's values are written as.
-use Rattle.std.specs.Prelude.{List, [], ◌∷◌, codes}
 use Rattle.std.specs.Fmt.{signed_decimal}
+use Rattle.std.specs.Prelude.{List, [], ◌∷◌, codes}
+use Rattle.cedar_ast.specs.Words.{Entries, PlainUid, Text, Tree, Trees, call_value, entry, map_value, name_text, no_entry, no_tree, number_value, set_value, text_value, tree, truth_value, uid_value}
 use Rattle.json.specs.Json.{Json, boolean, number, string, array, object, Items, no_items, item, Members, no_members, member}
 use Rattle.json.specs.Token.{Token, begin_object, key}
-use Rattle.cedar_below.specs.Words.{Entries, PlainUid, Text, Tree, Trees, call_value, entry, map_value, name_text, no_entry, no_tree, number_value, set_value, text_value, tree, truth_value, uid_value}
 
 -- the object of a uid
 abbrev pub uid_document : PlainUid → Json

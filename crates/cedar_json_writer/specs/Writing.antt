@@ -1,15 +1,15 @@
 -- What the parts of a writer do, over the tokens that are written.
 use Rattle.std.specs.Prelude.{◌≡◌, List, [], ◌++◌, Option, Result, MatchResult, Contains, ⊤}
-use Rattle.json.specs.Json.{Json, Members}
-use Rattle.json.specs.Token.{Token}
-use Rattle.json.specs.Tree.{json_tokens, members_tokens}
-use Rattle.cedar_below.specs.Text.{Text}
+use Rattle.cedar_ast.specs.Text.{Text}
 use Rattle.cedar_json_writer.specs.Flaws.{Flaw, arguments, lone_key, nesting, type_word}
 use Rattle.cedar_json_writer.specs.WrittenFields.{optional_member}
 use Rattle.cedar_json_writer.specs.declared.fault.Unwritable.{Unwritable}
 use Rattle.cedar_json_writer.specs.declared.fault.Unwritable.TheVariants.{TypeWord, Arguments, LoneKey, TooDeep}
 use Rattle.cedar_json_writer.specs.declared.fault.WriteFault.{WriteFault}
 use Rattle.cedar_json_writer.specs.declared.fault.WriteFault.TheVariants as fault
+use Rattle.json.specs.Json.{Json, Members}
+use Rattle.json.specs.Token.{Token}
+use Rattle.json.specs.Tree.{json_tokens, members_tokens}
 
 -- what a refusal says that can't be written
 abbrev pub flaw_of : Unwritable → Flaw

@@ -1,8 +1,8 @@
 -- The fields that are written of an object, and the members and items that lists give.
 use Rattle.std.specs.Prelude.{List, [], ◌∷◌, Bool, true, false, Option, Some, None, map}
+use Rattle.cedar_ast.specs.Text.{Text}
 use Rattle.json.specs.Json.{Json, boolean, string, array, Members, no_members, member}
 use Rattle.json.specs.Value.{items_of}
-use Rattle.cedar_below.specs.Text.{Text}
 
 -- a field that stands only where there is something to write in it, before other fields
 abbrev pub optional_member : Text → Option Json → Members → Members

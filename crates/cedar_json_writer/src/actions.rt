@@ -12,8 +12,8 @@ use crate::fields::{
 };
 use crate::values::write_attribute_values;
 use crate::written::Written;
-use cedar_below::Value;
-use cedar_names::json_schema::{ActionEntityUID, ActionType, ApplySpec, RawName};
+use cedar_ast::Value;
+use cedar_schema_ast::json_schema::{ActionEntityUID, ActionType, ApplySpec, RawName};
 use json::{Pretty, Token};
 use std::alloc::{AllocError, Global};
 use std::collections::BTreeMap;

@@ -7,7 +7,7 @@ use crate::fault::WriteFault;
 use crate::fields::close_object;
 use crate::text::text_of;
 use crate::values::{open_with_uid, write_attribute_values, write_uid};
-use cedar_below::{Entity, Value};
+use cedar_ast::{Entity, Value};
 use json::{Pretty, Token};
 use std::alloc::{AllocError, Global};
 use std::collections::BTreeMap;

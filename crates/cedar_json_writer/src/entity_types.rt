@@ -2,13 +2,13 @@
 
 ghost use Rattle.std.specs.Prelude.{◌≡◌, None, OnOk, codes, map, option_map};
 ghost use Rattle.cedar_json_writer.specs.Words.{AddsField, AddsFields, Entity, IfThere, IsChecked, SoundBody, SoundType, WrittenEntity, body_flaws, body_members, entity_type_document, flaws_in, is_empty_record, parents_held, raw_expr, raw_reference, raw_variant, shape_held, type_document, type_flaws, written_entity, written_kind};
-ghost use Rattle.cedar_names.specs.declared.json_schema.entity_type.EntityTypeKind.TheVariants as kind;
+ghost use Rattle.cedar_schema_ast.specs.declared.json_schema.entity_type.EntityTypeKind.TheVariants as kind;
 
 use crate::fault::WriteFault;
 use crate::fields::{close_with_flag, write_ids, write_names_field};
 use crate::types::write_type;
 use crate::written::Written;
-use cedar_names::json_schema::{
+use cedar_schema_ast::json_schema::{
     EntityType, EntityTypeKind, RawName, StandardEntityType, Type, TypeVariant,
 };
 use json::{Pretty, Token};

@@ -1,6 +1,6 @@
 //! Refusals to write.
 
-use cedar_below::Memory;
+use cedar_ast::Memory;
 use std::alloc::{AllocError, AllocFailed};
 
 /// What can't be written of a fragment in Cedar's JSON schema format.

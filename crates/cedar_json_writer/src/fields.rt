@@ -8,8 +8,8 @@ ghost use Rattle.json.specs.Value.{items_of as spec_items};
 ghost use Rattle.cedar_json_writer.specs.Words.{AddsField, AddsMembers, AddsValue, Entity, eid_text, flag_held, items_of, name_of, name_text, optional_member, raw_reference, reference_array, text_array};
 
 use crate::fault::WriteFault;
-use cedar_below::{Eid, InternalName, NonEmpty};
-use cedar_names::json_schema::RawName;
+use cedar_ast::{Eid, InternalName, NonEmpty};
+use cedar_schema_ast::json_schema::RawName;
 use json::{Pretty, Token};
 use std::alloc::{AllocError, Global};
 

@@ -8,7 +8,7 @@ use crate::fault::WriteFault;
 use crate::fields::{close_object, write_text_field};
 use crate::text::text_of;
 use crate::values::write_attribute_values;
-use cedar_below::{EntityUID, Value};
+use cedar_ast::{EntityUID, Value};
 use json::{Pretty, Token};
 use std::alloc::{AllocError, Global};
 use std::collections::BTreeMap;

@@ -7,7 +7,7 @@ ghost use Rattle.cedar_json_writer.specs.Words.{Describes, IsFlawOf, IsWritable,
 
 use crate::fault::{Unwritable, WriteFault};
 use crate::written::Written;
-use cedar_names::json_schema::{Fragment, RawName};
+use cedar_schema_ast::json_schema::{Fragment, RawName};
 use json::{Pretty, Scratch, is_valid};
 use std::alloc::Global;
 

@@ -1,7 +1,7 @@
 //! What is written is read back.
 
 ghost use Rattle.std.specs.Prelude.{◌≡◌, ◌≢◌, ◌<◌, ℕ, List, Some, length, IfErr, IfOk, MatchResult, Result};
-ghost use Rattle.cedar_names.specs.declared.json_schema.fragment.Fragment.{Fragment as Written};
+ghost use Rattle.cedar_schema_ast.specs.declared.json_schema.fragment.Fragment.{Fragment as Written};
 ghost use Rattle.cedar_json_writer.specs.Words.{Describes, IsWritable, RawName, SoundFragment, WrittenFragment, fragment_document, fragment_of, too_long, written_fragment};
 ghost use Rattle.cedar_json.specs.declared.text_reading.JsonSchemaFault.{JsonSchemaFault as ReadFault};
 

@@ -9,8 +9,8 @@ use crate::fault::{Unwritable, WriteFault};
 use crate::fields::{
     close_object, close_with_flag, open_object, write_flag, write_name_field, write_text_field,
 };
-use cedar_below::UnreservedId;
-use cedar_names::json_schema::{RawName, RecordType, Type, TypeOfAttribute, TypeVariant};
+use cedar_ast::UnreservedId;
+use cedar_schema_ast::json_schema::{RawName, RecordType, Type, TypeOfAttribute, TypeVariant};
 use json::{Pretty, Token};
 use std::alloc::{AllocError, Global};
 

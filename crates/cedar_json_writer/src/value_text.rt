@@ -6,7 +6,7 @@ ghost use Rattle.cedar_json_writer.specs.Words.{IsFlawOf, json_tokens, pretty, t
 use crate::fault::WriteFault;
 use crate::text::text_of;
 use crate::values::write_value;
-use cedar_below::Value;
+use cedar_ast::Value;
 use json::Pretty;
 use std::alloc::Global;
 

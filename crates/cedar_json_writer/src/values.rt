@@ -9,7 +9,7 @@ ghost use Rattle.cedar_json_writer.specs.Words.{AddsField, AddsValue, IsChecked,
 use crate::fault::{Unwritable, WriteFault};
 use crate::fields::{close_object, open_object, write_name, write_name_field, write_text_field};
 use crate::written::{Written, write_field};
-use cedar_below::{EntityUID, Name, RestrictedExpr, Value};
+use cedar_ast::{EntityUID, Name, RestrictedExpr, Value};
 use json::{Pretty, Token};
 use std::alloc::{AllocError, Global};
 use std::collections::BTreeMap;

@@ -17,8 +17,8 @@ use Rattle.std.specs.declared.alloc.Global.{Global}
 use Rattle.std.specs.declared.cmp.Ordering.{Ordering}
 use Rattle.std.specs.declared.cmp.Ordering.TheVariants.{Equal}
 use Rattle.std.specs.declared.string.String.{String}
-use Rattle.cedar_below.proofs.Ordered.{IsStrictlySortedBy-map}
-use Rattle.cedar_below.proofs.Texts.{text_cmp-total}
+use Rattle.cedar_ast.proofs.Ordered.{IsStrictlySortedBy-map}
+use Rattle.cedar_ast.proofs.Texts.{text_cmp-total}
 use Rattle.cedar_name_map.specs.Words.{AreSortedByName, Text, last_named, text_cmp, value_at, with_texts}
 
 -- one of two, in both spellings

@@ -1,4 +1,5 @@
--- Lists that rise by what is seen of their items: places in them, walks over two of them, and inclusion by number.
+-- Lists that rise by what is seen of their items: places in them, walks over two of them, and
+-- inclusion by number.
 use Rattle.std.proofs.Common.{Bool, true, false, ◌≡◌, ◌≢◌, ◌<◌, ◌≤◌, ◌+◌, ℕ, zero, suc, inl, inr, ⊎_elim, refl, sym, ap, subst, ◌∙◌, List, [], ◌∷◌, length, map, Contains, get_or, take, drop, arith}
 use Rattle.std.proofs.lemmas.Bool.{cases_lt, false≢true}
 use Rattle.std.proofs.lemmas.List.{get_or_default, get_or-map, length-map}
@@ -10,10 +11,10 @@ use Rattle.std.specs.List.Sorted.{IsStrictlySortedBy}
 use Rattle.std.specs.Ordering.{ordering_reverse}
 use Rattle.std.specs.declared.cmp.Ordering.{Ordering}
 use Rattle.std.specs.declared.cmp.Ordering.TheVariants.{Less, Equal, Greater}
-use Rattle.cedar_below.proofs.Inclusion.{Included-head, Included-in_none, Included-none}
-use Rattle.cedar_below.proofs.Lists.{Contains-cons, Contains-cons_cases, Contains-preimage}
-use Rattle.cedar_below.proofs.Ordered.{not_itself}
-use Rattle.cedar_below.specs.Lists.{Included}
+use Rattle.cedar_ast.proofs.Inclusion.{Included-head, Included-in_none, Included-none}
+use Rattle.cedar_ast.proofs.Lists.{Contains-cons, Contains-cons_cases, Contains-preimage}
+use Rattle.cedar_ast.proofs.Ordered.{not_itself}
+use Rattle.cedar_ast.specs.Lists.{Included}
 
 -- what is seen of the item at a place
 abbrev pub seen_at : {E K : Type 0} → (E → K) → List E → ℕ → E → K
@@ -23,7 +24,8 @@ seen_at see all i d = see (get_or all i d)
 abbrev pub AllBelow : {E K : Type 0} → (E → K) → (K → K → Ordering) → List E → ℕ → K → Type 0
 AllBelow {E = E} see R own place k = (i : ℕ) (d : E) → i < place → R (seen_at see own i d) k ≡ Less
 
--- a walk that has come to a place: what is seen before it is below all that is left of the other list
+-- a walk that has come to a place: what is seen before it is below all that is left of the other
+-- list
 pub record Ahead {E F K : Type 0} (see : E → K) (other : F → K) (R : K → K → Ordering) (own : List E) (at : ℕ)
     (rest : List F) : Type 0 where
   pub up : IsStrictlySortedBy R (map other rest)
@@ -54,7 +56,8 @@ module _ {K : Type 0} (R : K → K → Ordering) (total : IsTotalOrder R) where
   Included-rests x xs y ys below same all z among =
       elim (Contains-cons_cases y ys z (all z (Contains-cons x xs z (inr among)))) [ inl e ↦ absurd (not_itself R total x z (sym same ∙ e) (first_below x xs z below among)) | inr there ↦ there ]
 
-  -- a sorted list without duplicates and begins above another's first is included in that one's rest
+  -- a sorted list without duplicates and begins above another's first is included in that one's
+  -- rest
   Included-past : (x : K) (xs : List K) (y : K) (ys : List K) → AllByRecursion (λ z. R x z ≡ Less) xs
       → AllByRecursion (λ z. R y z ≡ Less) ys → Contains ys x → Included (x ∷ xs) (y ∷ ys) → Included (x ∷ xs) ys
   Included-past x xs y ys first second there all z among =

@@ -1,4 +1,5 @@
--- A search by halving among pairs whose names are sorted without duplicates, and what a place tells of a name.
+-- A search by halving among pairs whose names are sorted without duplicates, and what a place tells
+-- of a name.
 use Rattle.std.proofs.Common.{◌≡◌, ◌≢◌, ◌↔◌, ◌<◌, ◌≤◌, ◌+◌, ◌-◌, ◌*◌, ◌/◌, ◌^◌, ℕ, zero, suc, true, false, refl, sym, ap, subst, ◌∙◌, List, [], ◌∷◌, length, string_bytes, get_or, arith, None, Some, if◌then◌else◌, inl, inr}
 use Rattle.std.proofs.lemmas.Bool.{cases_lt, false_from_ne_true}
 use Rattle.std.proofs.lemmas.List.{get_or_default}
@@ -9,10 +10,10 @@ use Rattle.std.specs.Str.{bytes_eq}
 use Rattle.std.specs.declared.alloc.Global.{Global}
 use Rattle.std.specs.declared.cmp.Ordering.TheVariants.{Less, Equal, Greater}
 use Rattle.std.specs.declared.string.String.{String}
-use Rattle.cedar_below.proofs.Texts.{text_cmp-total, text_cmp-Equal}
-use Rattle.cedar_name_map.specs.Words.{AreSortedByName, Text, text_cmp, value_at}
+use Rattle.cedar_ast.proofs.Texts.{text_cmp-total, text_cmp-Equal}
 use Rattle.cedar_name_map.proofs.MadeLemmas.{value_at-cons}
 use Rattle.cedar_name_map.proofs.RisingLemmas.{AllBelow, turned, of_seen_at, seen_at-rises, missed_at}
+use Rattle.cedar_name_map.specs.Words.{AreSortedByName, Text, text_cmp, value_at}
 
 -- a text above another isn't the other
 pub above-apart : (name other : Text) → text_cmp other name ≡ Less → bytes_eq name other ≡ false
@@ -73,8 +74,9 @@ pub power_before : (n left : ℕ) → 0 < n → n < 2 ^ left → (before : ℕ) 
 power_before n zero some below = absurd (omega (arith, some, below))
 power_before n (suc before) some below = (before, refl, omega (arith, below))
 
--- what a search by halving knows: the names before the range are below, those after it are above, and for each power
--- of two above the length there are comparisons left as long as the range is below what is left of it
+-- what a search by halving knows: the names before the range are below, those after it are above,
+-- and for each power of two above the length there are comparisons left as long as the range is
+-- below what is left of it
 pub record Halves {V : Type 0} (all : List (String Global × V)) (name : Text) (low high compared : ℕ) : Type 0 where
   pub ordered : low ≤ high
   pub within : high ≤ length all
@@ -153,7 +155,8 @@ module _ {V : Type 0} (all : List (String Global × V)) (name : Text) (up : AreS
       elim (cases_lt i low) [ inl low' ↦ let less = known.before i d low' in absurd cc | inr high' ↦ let greater = known.after i d (omega (arith, empty, high')) within in absurd cc ] in
       false_from_ne_true (bytes_eq name (text_at all i d)) differs))
 
--- a name that isn't at the place where the names before it are below, and that one isn't, has no value
+-- a name that isn't at the place where the names before it are below, and that one isn't, has no
+-- value
 pub value_at-missed : {V : Type 0} (own : List (String Global × V)) → AreSortedByName own → (name : Text) (place : ℕ)
     → AllBelow text_of text_cmp own place name
     → ((d : String Global × V) → place < length own → text_cmp (text_at own place d) name ≢ Less)

@@ -1,10 +1,10 @@
-use Rattle.std.specs.Prelude.{List, map, Option, string_bytes}
 use Rattle.std.specs.BTreeMap.{is_at}
 use Rattle.std.specs.List.Sorted.{IsStrictlySortedBy, IsStrictlySortedBy-prop}
 use Rattle.std.specs.Map.{lookup}
+use Rattle.std.specs.Prelude.{List, map, Option, string_bytes}
 use Rattle.std.specs.declared.alloc.Global.{Global}
 use Rattle.std.specs.declared.string.String.{String}
-use Rattle.cedar_below.specs.Text.{Text, text_cmp}
+use Rattle.cedar_ast.specs.Text.{Text, text_cmp}
 
 -- the names of some pairs of a name and a value
 abbrev pub entry_texts : {V : Type 0} → List (String Global × V) → List Text

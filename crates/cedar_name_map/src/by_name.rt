@@ -6,7 +6,7 @@ ghost use Rattle.std.specs.Hash as fed;
 ghost use Rattle.std.proofs.Common.{rules};
 ghost use Rattle.cedar_name_map.specs.ByName.{AreSortedByName, AreSortedByName-prop as one_order};
 
-use cedar_below::M;
+use cedar_ast::M;
 use std::cmp::Ordering;
 use std::hash::{Hash, Hasher};
 

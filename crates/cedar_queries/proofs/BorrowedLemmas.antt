@@ -23,8 +23,8 @@ borrowed_more shows old added new values is same =
 
 module _ {A B C : Type 0} (shows : A → B) (reads : C → B) (all : List B) (items : List (Bor A)) (left : List C)
     (so_far : map (borrowed shows) items ++ map reads left ≡ all) where
-  -- where a reference that shows what the first of what is left reads as is put behind references, these show the same with what is
-  -- then left
+  -- where a reference that shows what the first of what is left reads as is put behind references,
+  -- these show the same with what is then left
   pub borrowed_push : (new : List (Bor A)) (one : Bor A) (first : C) (rest : List C) → new ≡ items ++ one ∷ [] → left ≡ first ∷ rest
       → shows one.now ≡ reads first → map (borrowed shows) new ++ map reads rest ≡ all
   borrowed_push new one first rest is begins alike =

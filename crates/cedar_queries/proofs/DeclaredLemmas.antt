@@ -1,10 +1,10 @@
 -- What an entity type that is found declares.
 use Rattle.std.proofs.Common.{◌≡◌, ◌↔◌, Bool, IsTrue, Bor, Option, None, Some, is_some, map, ap, sym, ◌∙◌}
 use Rattle.std.proofs.lemmas.Bool.{false≢true}
-use Rattle.cedar_queries.specs.Words.{EntityType, Entries, OpenAttributes, SchemaEntityType, ValidatorEntityType, declared_fields, end, get_by, kind_fields, kind_openness, kind_tags, plain_entry, type_at, type_name}
 use Rattle.std.specs.Option.{option_and_then, option_copied, option_map, option_map_or}
-use Rattle.cedar_below.specs.contracts.entity_type.EntityTypeOrd.TheImpl as type_ord
+use Rattle.cedar_ast.specs.contracts.entity_type.EntityTypeOrd.TheImpl as type_ord
 use Rattle.cedar_queries.proofs.LookupLemmas.{plain_type, type_found}
+use Rattle.cedar_queries.specs.Words.{EntityType, Entries, OpenAttributes, SchemaEntityType, ValidatorEntityType, declared_fields, end, get_by, kind_fields, kind_openness, kind_tags, plain_entry, type_at, type_name}
 
 module _ (types : Entries EntityType ValidatorEntityType) (name : EntityType) (o : Option ValidatorEntityType)
     (is : get_by ((type_ord.ghosts).cmp name) types ≡ o) where

@@ -1,4 +1,5 @@
--- Open records that are folded by joins, in permissive mode: there always is a join, an open record.
+-- Open records that are folded by joins, in permissive mode: there always is a join, an open
+-- record.
 use Rattle.std.proofs.Common.{◌≡◌, ◌≢◌, List, [], ◌∷◌, Some, Ok, Err, map, ap, inl, inr, refl}
 use Rattle.cedar_queries.specs.Words.{AreKnownOfAll, Below, ClosedAttributes, Fields, HaveOwnBound, IsReduceAnswer, IsWellFormed, JoinAnswer, OpenAttributes, Permissive, PlainName, SchemaEntityType, Ty, declared_fields, end, never, only_name, open_record, record_of}
 use Rattle.cedar_type_rules.proofs.JoinLemmas.{upper_is_join}

@@ -1,10 +1,11 @@
--- What is known of the attributes of a union of clean types: what the least clean bound of open records has.
+-- What is known of the attributes of a union of clean types: what the least clean bound of open
+-- records has.
 use Rattle.std.proofs.Common.{◌≡◌, Bool, true, false, IsTrue, List, [], ◌∷◌, Option, None, Some, Ok, map, ap, refl, sym, ◌∙◌, inl, inr, Contains, arith}
 use Rattle.std.proofs.lemmas.Bool.{false≢true}
 use Rattle.std.specs.List.{AllByRecursion}
-use Rattle.cedar_below.proofs.Lists.{Contains-cons, Contains-cons_cases}
-use Rattle.cedar_queries.specs.Words.{AreCleanTypes, AreExactlyKnown, AreKnownOfAll, AttributesAreUnique, Below, Fields, FieldsBelow, HasField, IsBound, IsClean, IsCleanBound, IsCommonBound, IsLeast, IsSortedByName, KnownAttributesAreCommon, LargerUnionsKnowLess, OpenAttributes, Permissive, PlainName, SchemaEntityType, Text, Ty, declared_fields, end, field, open_record, record_of, union_of}
+use Rattle.cedar_ast.proofs.Lists.{Contains-cons, Contains-cons_cases}
 use Rattle.cedar_queries.proofs.JoinedLemmas.{known_formed, known_once}
+use Rattle.cedar_queries.specs.Words.{AreCleanTypes, AreExactlyKnown, AreKnownOfAll, AttributesAreUnique, Below, Fields, FieldsBelow, HasField, IsBound, IsClean, IsCleanBound, IsCommonBound, IsLeast, IsSortedByName, KnownAttributesAreCommon, LargerUnionsKnowLess, OpenAttributes, Permissive, PlainName, SchemaEntityType, Text, Ty, declared_fields, end, field, open_record, record_of, union_of}
 use Rattle.cedar_type_rules.proofs.OwnBoundLemmas.{AreClean-of}
 use Rattle.cedar_type_rules.proofs.ReduceLemmas.{reduce_least_clean}
 use Rattle.cedar_type_rules.proofs.SubtypeLaws.{HasBelow-of, HasField-name, HasField-named}

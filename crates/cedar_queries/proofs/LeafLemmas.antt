@@ -68,7 +68,8 @@ pub shown-push : (all before : List (Bor «Type»)) (one : Bor «Type») → all
 shown-push all before one is = ap shown_types is ∙ map-append (λ ty. ty_of ty.now) before (one ∷ [])
 
 module _ (all before after : List (Bor «Type»)) (one : Bor «Type») (is : all ≡ before ++ one ∷ []) where
-  -- a type that isn't a leaf, which was the last, is replaced by the types right inside it: no leaf is lost
+  -- a type that isn't a leaf, which was the last, is replaced by the types right inside it: no leaf
+  -- is lost
   pub leaves-opened : ¬ IsLeaf (ty_of one.now) → shown_types after ≡ shown_types before ++ inner_types (ty_of one.now)
       → leaves_of (shown_types after) ≡ leaves_of (shown_types all)
   leaves-opened parted made =

@@ -1,17 +1,17 @@
 -- What is found by name or by uid, as plain data.
 use Rattle.std.proofs.Common.{◌≡◌, Bool, true, false, cond, List, [], ◌∷◌, Option, Some, None, is_some, map, ap, refl, sym, ◌∙◌, Contains}
 use Rattle.std.proofs.lemmas.Map.Made.{is_some-lookup}
-use Rattle.cedar_queries.specs.Words.{EntityType, EntityUID, Entries, SchemaAction, SchemaEntityType, ValidatorActionId, ValidatorEntityType, action_at, action_descendants, action_of, descendant_names, descendants_of, entity_type_of, get_by, name_cmp, plain_action_entry, plain_entry, type_name, uid_cmp, uid_of}
 use Rattle.std.specs.Bool.{Decides}
 use Rattle.std.specs.Map.{lookup}
 use Rattle.std.specs.Option.{option_map, unwrap_or}
 use Rattle.std.specs.Ordering.{is_eq}
 use Rattle.std.specs.declared.cmp.Ordering.{Ordering}
-use Rattle.cedar_below.proofs.Names.{entity_type_ord-name_cmp}
-use Rattle.cedar_below.proofs.Uids.{entity_uid_ord-uid_cmp}
-use Rattle.cedar_below.specs.contracts.entity_type.EntityTypeOrd.TheImpl as type_ord
-use Rattle.cedar_below.specs.contracts.entity_uid.EntityUIDOrd.TheImpl as uid_ord
-use Rattle.cedar_declarations.proofs.OccurrenceLemmas.{any_of, name_test, some_of, uid_test}
+use Rattle.cedar_ast.proofs.Names.{entity_type_ord-name_cmp}
+use Rattle.cedar_ast.proofs.Uids.{entity_uid_ord-uid_cmp}
+use Rattle.cedar_ast.specs.contracts.entity_type.EntityTypeOrd.TheImpl as type_ord
+use Rattle.cedar_ast.specs.contracts.entity_uid.EntityUIDOrd.TheImpl as uid_ord
+use Rattle.cedar_queries.specs.Words.{EntityType, EntityUID, Entries, SchemaAction, SchemaEntityType, ValidatorActionId, ValidatorEntityType, action_at, action_descendants, action_of, descendant_names, descendants_of, entity_type_of, get_by, name_cmp, plain_action_entry, plain_entry, type_name, uid_cmp, uid_of}
+use Rattle.cedar_schema_semantics.proofs.OccurrenceLemmas.{any_of, name_test, some_of, uid_test}
 
 -- an entity type as plain data
 abbrev pub plain_type : ValidatorEntityType → SchemaEntityType

@@ -3,7 +3,7 @@ use Rattle.std.proofs.Common.{◌≡◌, ◌↔◌, Bool, IsTrue, List, refl, Co
 use Rattle.std.specs.Bool.{Decides, one_answer}
 use Rattle.std.specs.Ordering.{is_eq}
 use Rattle.cedar_queries.specs.Words.{PlainName, has_name, name_cmp}
-use Rattle.cedar_declarations.proofs.OccurrenceLemmas.{any_of, name_test, some_of}
+use Rattle.cedar_schema_semantics.proofs.OccurrenceLemmas.{any_of, name_test, some_of}
 
 -- a name is one of some exactly where they contain it
 pub has_name-Decides : (names : List PlainName) (name : PlainName) → Decides (has_name names name) (Contains names name)

@@ -1,7 +1,7 @@
-use Rattle.std.specs.Prelude.{◌≡◌, List, [], ◌∷◌, Option, None, Some, Result, Ok, Err}
 use Rattle.std.specs.Borrow.{Bor}
 use Rattle.std.specs.List.Sorted.{IsPermutation}
-use Rattle.cedar_below.specs.declared.memory.Memory.{Memory}
+use Rattle.std.specs.Prelude.{◌≡◌, List, [], ◌∷◌, Option, None, Some, Result, Ok, Err}
+use Rattle.cedar_ast.specs.declared.memory.Memory.{Memory}
 use Rattle.cedar_queries.specs.Leaves.{leaves_of, shown_types}
 use Rattle.cedar_queries.specs.declared.leaves.TypeIterator.{TypeIterator}
 use Rattle.cedar_type_rules.specs.Ty.{Ty}

@@ -1,12 +1,12 @@
 -- What stands above and below entity types and actions of a schema.
-use Rattle.std.specs.Prelude.{◌≡◌, ◌⊎◌, Any, Bool, true, false, List, [], ◌∷◌, Contains, map}
 use Rattle.std.specs.List.{list_any}
 use Rattle.std.specs.Map.{lookup}
 use Rattle.std.specs.Option.{option_map, unwrap_or}
 use Rattle.std.specs.Ordering.{is_eq}
-use Rattle.cedar_below.specs.Words.{IsActionType, PlainName, PlainUid, name_cmp, uid_cmp}
-use Rattle.cedar_declarations.specs.PlainSchema.{SchemaAction, SchemaEntityType}
+use Rattle.std.specs.Prelude.{◌≡◌, ◌⊎◌, Any, Bool, true, false, List, [], ◌∷◌, Contains, map}
+use Rattle.cedar_ast.specs.Words.{IsActionType, PlainName, PlainUid, name_cmp, uid_cmp}
 use Rattle.cedar_queries.specs.Selected.{keys_where}
+use Rattle.cedar_schema_semantics.specs.PlainSchema.{SchemaAction, SchemaEntityType}
 
 -- whether the name is one of some
 abbrev pub has_name : List PlainName → PlainName → Bool

@@ -1,16 +1,16 @@
 -- Why a schema isn't found complete.
-use Rattle.std.specs.Prelude.{◌≡◌, ◌≢◌, List, [], map}
 use Rattle.std.specs.List.Sorted.{IsPermutation, IsSorted}
-use Rattle.cedar_below.specs.Words.{name_cmp, type_name, uid_cmp, uid_of}
-use Rattle.cedar_below.specs.declared.entity_type.EntityType.{EntityType}
-use Rattle.cedar_below.specs.declared.entity_uid.EntityUID.{EntityUID}
-use Rattle.cedar_schema_elements.specs.Words.{action_of, entity_type_of}
-use Rattle.cedar_schema_elements.specs.declared.action_id.ValidatorActionId.{ValidatorActionId}
-use Rattle.cedar_schema_elements.specs.declared.entity_type.ValidatorEntityType.{ValidatorEntityType}
+use Rattle.std.specs.Prelude.{◌≡◌, ◌≢◌, List, [], map}
+use Rattle.cedar_ast.specs.Words.{name_cmp, type_name, uid_cmp, uid_of}
+use Rattle.cedar_ast.specs.declared.entity_type.EntityType.{EntityType}
+use Rattle.cedar_ast.specs.declared.entity_uid.EntityUID.{EntityUID}
 use Rattle.cedar_queries.specs.Unresolved.{external_actions, external_types, loc_of_first, unresolved}
 use Rattle.cedar_queries.specs.declared.completeness.CompleteError.{CompleteError}
 use Rattle.cedar_queries.specs.declared.completeness.CompleteError.TheVariants as variant
 use Rattle.cedar_queries.specs.declared.completeness.IncompleteSchemaError.{IncompleteSchemaError}
+use Rattle.cedar_schema_elements.specs.Words.{action_of, entity_type_of}
+use Rattle.cedar_schema_elements.specs.declared.action_id.ValidatorActionId.{ValidatorActionId}
+use Rattle.cedar_schema_elements.specs.declared.entity_type.ValidatorEntityType.{ValidatorEntityType}
 
 -- something is external, and the error carries just the names of the external entity types and the
 -- uids of the external actions, each list in order, and where the first of the declarations was

@@ -1,6 +1,6 @@
 use Rattle.std.specs.List.{flat_map}
 use Rattle.std.specs.Prelude.{List, ◌++◌, codes, map}
-use Rattle.cedar_below.specs.Words.{PlainName, PlainUid, Text, name_text, type_name, uid_of, uid_text}
+use Rattle.cedar_ast.specs.Words.{PlainName, PlainUid, Text, name_text, type_name, uid_of, uid_text}
 use Rattle.cedar_queries.specs.declared.completeness.CompleteError.{CompleteError}
 use Rattle.cedar_queries.specs.declared.completeness.CompleteError.TheVariants as error
 

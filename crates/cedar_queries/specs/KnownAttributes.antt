@@ -1,11 +1,11 @@
 -- What is known of the attributes of entities, over the entity types of a schema.
-use Rattle.std.specs.Prelude.{◌≡◌, Ok, List, Option, map}
 use Rattle.std.specs.Map.{lookup}
 use Rattle.std.specs.Option.{option_map_or}
 use Rattle.std.specs.Ordering.{is_eq}
-use Rattle.cedar_below.specs.PlainName.{PlainName, name_cmp}
-use Rattle.cedar_below.specs.declared.validation_mode.ValidationMode.TheVariants.{Permissive}
-use Rattle.cedar_declarations.specs.Words.{SchemaEntityType, kind_fields}
+use Rattle.std.specs.Prelude.{◌≡◌, Ok, List, Option, map}
+use Rattle.cedar_ast.specs.PlainName.{PlainName, name_cmp}
+use Rattle.cedar_ast.specs.declared.validation_mode.ValidationMode.TheVariants.{Permissive}
+use Rattle.cedar_schema_semantics.specs.Words.{SchemaEntityType, kind_fields}
 use Rattle.cedar_type_rules.specs.Words.{Fields, IsReduceAnswer, Ty, end, never, record_of, union_of}
 use Rattle.cedar_type_rules.specs.declared.open_tag.OpenTag.TheVariants.{OpenAttributes}
 

@@ -1,10 +1,10 @@
 -- What is known of the attributes of a union, where the types of what its members declare are
 -- clean.
 use Rattle.std.specs.Prelude.{◌≡◌, ◌↔◌, Bool, Contains, IsTrue, List}
-use Rattle.cedar_below.specs.Words.{Included, PlainName, Text}
-use Rattle.cedar_below.specs.declared.validation_mode.ValidationMode.TheVariants.{Permissive}
-use Rattle.cedar_declarations.specs.PlainSchema.{SchemaEntityType}
+use Rattle.cedar_ast.specs.Words.{Included, PlainName, Text}
+use Rattle.cedar_ast.specs.declared.validation_mode.ValidationMode.TheVariants.{Permissive}
 use Rattle.cedar_queries.specs.KnownAttributes.{AreAttributesOf, AreKnownOfAll, declared_fields}
+use Rattle.cedar_schema_semantics.specs.PlainSchema.{SchemaEntityType}
 use Rattle.cedar_type_rules.specs.Words.{AreClean, Below, Fields, FieldsBelow, HasField, IsClean, IsLeast, IsSortedByName, Ty, field_names}
 
 -- each of the entity types declares the attribute, with a type that is below the bound in

@@ -1,10 +1,10 @@
-use Rattle.std.specs.Prelude.{ℕ, ◌+◌, List, [], ◌∷◌, ◌++◌, map}
 use Rattle.std.specs.Borrow.{Bor}
 use Rattle.std.specs.List.{flat_map}
 use Rattle.std.specs.Option.{option_to_list}
+use Rattle.std.specs.Prelude.{ℕ, ◌+◌, List, [], ◌∷◌, ◌++◌, map}
+use Rattle.cedar_ast.specs.Words.{PlainName, PlainUid}
 use Rattle.cedar_schema_elements.specs.ActionKind.{kind_context}
-use Rattle.cedar_below.specs.Words.{PlainName, PlainUid}
-use Rattle.cedar_declarations.specs.Words.{SchemaAction, SchemaEntityType, kind_fields, kind_tags}
+use Rattle.cedar_schema_semantics.specs.Words.{SchemaAction, SchemaEntityType, kind_fields, kind_tags}
 use Rattle.cedar_type_rules.specs.Ty.{Ty, set_of, record_of, Fields, end, field}
 use Rattle.cedar_types.specs.Meaning.{ty_of}
 use Rattle.cedar_types.specs.declared.types.Type.{«Type»}

@@ -1,9 +1,9 @@
 -- What types may have, over the entity types and actions of a schema.
-use Rattle.std.specs.Prelude.{◌≡◌, ◌⊎◌, All, Any, Contains, List, Some, map}
 use Rattle.std.specs.Option.{option_and_then, option_map_or}
-use Rattle.cedar_below.specs.Words.{IsActionType, PlainName, PlainUid, Text}
-use Rattle.cedar_declarations.specs.Words.{SchemaAction, SchemaEntityType, kind_openness, kind_tags}
+use Rattle.std.specs.Prelude.{◌≡◌, ◌⊎◌, All, Any, Contains, List, Some, map}
+use Rattle.cedar_ast.specs.Words.{IsActionType, PlainName, PlainUid, Text}
 use Rattle.cedar_queries.specs.KnownAttributes.{declared_fields, type_at}
+use Rattle.cedar_schema_semantics.specs.Words.{SchemaAction, SchemaEntityType, kind_openness, kind_tags}
 use Rattle.cedar_type_rules.specs.Words.{Ty, any_entity, field_names, never, record_of, union_of}
 use Rattle.cedar_type_rules.specs.declared.open_tag.OpenTag.TheVariants.{OpenAttributes}
 

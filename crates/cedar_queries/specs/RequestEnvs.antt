@@ -1,9 +1,9 @@
 -- The environments of requests, one after another.
 use Rattle.std.specs.Prelude.{List, map}
 use Rattle.std.specs.Slice.Iter.{iter_rest}
-use Rattle.cedar_declarations.specs.Environments.{Environment}
-use Rattle.cedar_schema_elements.specs.RequestEnv.{owned_environment}
 use Rattle.cedar_queries.specs.declared.environments.RequestEnvs.{RequestEnvs}
+use Rattle.cedar_schema_elements.specs.RequestEnv.{owned_environment}
+use Rattle.cedar_schema_semantics.specs.Environments.{Environment}
 
 -- what an iterator over environments has left
 abbrev pub environments_left : RequestEnvs → List Environment

@@ -1,15 +1,15 @@
 -- The types of the requests that the actions of a schema are for.
-use Rattle.std.specs.Prelude.{◌&&◌, List, Option}
 use Rattle.std.specs.List.{flat_map}
 use Rattle.std.specs.Map.{lookup}
 use Rattle.std.specs.Option.{option_and_then}
 use Rattle.std.specs.Ordering.{is_eq}
-use Rattle.cedar_schema_elements.specs.ActionKind.{kind_context, kind_principals, kind_resources}
-use Rattle.cedar_below.specs.Words.{PlainName, PlainUid, uid_cmp}
-use Rattle.cedar_declarations.specs.PlainSchema.{SchemaAction}
-use Rattle.cedar_type_rules.specs.Ty.{Ty}
+use Rattle.std.specs.Prelude.{◌&&◌, List, Option}
+use Rattle.cedar_ast.specs.Words.{PlainName, PlainUid, uid_cmp}
 use Rattle.cedar_queries.specs.Hierarchy.{has_name}
 use Rattle.cedar_queries.specs.Selected.{keys_where}
+use Rattle.cedar_schema_elements.specs.ActionKind.{kind_context, kind_principals, kind_resources}
+use Rattle.cedar_schema_semantics.specs.PlainSchema.{SchemaAction}
+use Rattle.cedar_type_rules.specs.Ty.{Ty}
 
 -- the action of a uid
 abbrev pub action_at : PlainUid → List (PlainUid × SchemaAction) → Option SchemaAction

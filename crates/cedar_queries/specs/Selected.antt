@@ -1,6 +1,6 @@
 -- The keys, or the values, of entries whose values pass a test.
-use Rattle.std.specs.Prelude.{Bool, List, map}
 use Rattle.std.specs.List.{filter}
+use Rattle.std.specs.Prelude.{Bool, List, map}
 
 -- the keys of those entries whose values pass, in order
 abbrev pub keys_where : {K V : Type 0} → (V → Bool) → List (K × V) → List K

@@ -1,16 +1,16 @@
 -- The declarations of a schema that are made elsewhere.
 use Rattle.std.specs.Prelude.{Bool, true, false, List, [], ◌++◌, ◌∷◌, Option, None, map}
-use Rattle.cedar_below.specs.declared.entity_type.EntityType.{EntityType}
-use Rattle.cedar_below.specs.declared.entity_uid.EntityUID.{EntityUID}
-use Rattle.cedar_below.specs.declared.loc.Loc.{Loc}
-use Rattle.cedar_declarations.specs.Words.{ActionKind, EntityTypeKind, defined_action, enumerated_kind, external_action, external_kind, standard_kind}
-use Rattle.cedar_schema_elements.specs.Words.{action_loc, action_of, entity_type_of}
-use Rattle.cedar_schema_elements.specs.declared.action_id.ValidatorActionId.{ValidatorActionId}
-use Rattle.cedar_schema_elements.specs.declared.entity_type.ValidatorEntityType.{ValidatorEntityType}
+use Rattle.cedar_ast.specs.declared.entity_type.EntityType.{EntityType}
+use Rattle.cedar_ast.specs.declared.entity_uid.EntityUID.{EntityUID}
+use Rattle.cedar_ast.specs.declared.loc.Loc.{Loc}
 use Rattle.cedar_queries.specs.Selected.{values_where}
 use Rattle.cedar_queries.specs.declared.unresolved.UnresolvedDeclaration.{UnresolvedDeclaration}
 use Rattle.cedar_queries.specs.declared.unresolved.UnresolvedDeclaration.TheVariants as variant
 use Rattle.cedar_queries.specs.declared.unresolved.UnresolvedDeclarations.{UnresolvedDeclarations}
+use Rattle.cedar_schema_elements.specs.Words.{action_loc, action_of, entity_type_of}
+use Rattle.cedar_schema_elements.specs.declared.action_id.ValidatorActionId.{ValidatorActionId}
+use Rattle.cedar_schema_elements.specs.declared.entity_type.ValidatorEntityType.{ValidatorEntityType}
+use Rattle.cedar_schema_semantics.specs.Words.{ActionKind, EntityTypeKind, defined_action, enumerated_kind, external_action, external_kind, standard_kind}
 
 -- whether entity types of the kind are external
 abbrev pub is_external_type : EntityTypeKind → Bool

@@ -1,20 +1,43 @@
 -- The words of clauses, from one place.
-pub use Rattle.cedar_below.specs.Words.{IsActionType, PlainName, PlainUid, Text, name_cmp, type_name, uid_cmp, uid_of}
-pub use Rattle.cedar_below.specs.declared.entity_type.EntityType.{EntityType}
-pub use Rattle.cedar_below.specs.declared.entity_uid.EntityUID.{EntityUID}
-pub use Rattle.cedar_below.specs.declared.validation_mode.ValidationMode.TheVariants.{Permissive}
-pub use Rattle.cedar_type_rules.specs.Words.{Below, Fields, FieldsBelow, HasField, HaveOwnBound, IsBound, IsClean, IsCleanBound, IsLeast, IsReduceAnswer, IsSortedByName, IsWellFormed, JoinAnswer, Ty, end, field, field_at, fields_from, never, only_name, record_of, set_of, union_of}
+pub use Rattle.cedar_ast.specs.EntityType.{type_name}
+pub use Rattle.cedar_ast.specs.EntityUID.{uid_of}
+pub use Rattle.cedar_ast.specs.PlainName.{IsActionType, PlainName, name_cmp}
+pub use Rattle.cedar_ast.specs.PlainUid.{PlainUid, uid_cmp}
+pub use Rattle.cedar_ast.specs.Text.{Text}
+pub use Rattle.cedar_ast.specs.declared.entity_type.EntityType.{EntityType}
+pub use Rattle.cedar_ast.specs.declared.entity_uid.EntityUID.{EntityUID}
+pub use Rattle.cedar_ast.specs.declared.validation_mode.ValidationMode.TheVariants.{Permissive}
+pub use Rattle.cedar_schema_elements.specs.ActionKind.{kind_context, kind_principals, kind_resources}
+pub use Rattle.cedar_schema_elements.specs.RequestEnv.{environment_of, owned_environment}
+pub use Rattle.cedar_schema_elements.specs.ValidatorActionId.{action_of, plain_action_entry}
+pub use Rattle.cedar_schema_elements.specs.ValidatorEntityType.{descendant_names, entity_type_of, plain_entry}
+pub use Rattle.cedar_schema_elements.specs.declared.action_id.ValidatorActionId.{ValidatorActionId}
+pub use Rattle.cedar_schema_elements.specs.declared.entity_type.ValidatorEntityType.{ValidatorEntityType}
+pub use Rattle.cedar_schema_semantics.specs.ElaboratesTo.{IsRecordType}
+pub use Rattle.cedar_schema_semantics.specs.EntityTypeKind.{kind_fields, kind_openness, kind_tags}
+pub use Rattle.cedar_schema_semantics.specs.PlainSchema.{PlainSchema, SchemaAction, SchemaEntityType}
+pub use Rattle.cedar_schema_semantics.specs.ValidSchema.{ListsDescendant}
+pub use Rattle.cedar_table.specs.Entries.{Entries, get_by}
+pub use Rattle.cedar_type_rules.specs.Below.{Below, FieldsBelow, HasField}
+pub use Rattle.cedar_type_rules.specs.Bound.{IsBound, IsCleanBound, IsLeast}
+pub use Rattle.cedar_type_rules.specs.Clean.{IsClean}
+pub use Rattle.cedar_type_rules.specs.EntityUnion.{only_name}
+pub use Rattle.cedar_type_rules.specs.Fields.{IsSortedByName}
+pub use Rattle.cedar_type_rules.specs.JoinAnswer.{IsReduceAnswer, JoinAnswer}
+pub use Rattle.cedar_type_rules.specs.OwnBound.{HaveOwnBound}
+pub use Rattle.cedar_type_rules.specs.Ty.{Fields, Ty, end, field, field_at, fields_from, never, record_of, set_of, union_of}
+pub use Rattle.cedar_type_rules.specs.WellFormed.{IsWellFormed}
 pub use Rattle.cedar_type_rules.specs.declared.open_tag.OpenTag.TheVariants.{ClosedAttributes, OpenAttributes}
-pub use Rattle.cedar_table.specs.Words.{Entries, get_by}
-pub use Rattle.cedar_types.specs.Words.{AreTexts-fields, AreWellFormed-fields, IsSortedByName-fields, attribute_of, fields_of, kind_ty, lub_names, plain_attributes, ty_of}
+pub use Rattle.cedar_types.specs.Attributes.{plain_attributes}
+pub use Rattle.cedar_types.specs.EntityKind.{kind_ty}
+pub use Rattle.cedar_types.specs.EntityLUB.{lub_names}
+pub use Rattle.cedar_types.specs.Layers.{IsSortedByName-fields}
+pub use Rattle.cedar_types.specs.Meaning.{attribute_of, fields_of, ty_of}
+pub use Rattle.cedar_types.specs.WellFormedTypes.{AreTexts-fields, AreWellFormed-fields}
 pub use Rattle.cedar_types.specs.declared.attributes.AttributeType.{AttributeType}
 pub use Rattle.cedar_types.specs.declared.attributes.Attributes.{Attributes}
 pub use Rattle.cedar_types.specs.declared.entity_kind.EntityKind.{EntityKind}
 pub use Rattle.cedar_types.specs.declared.types.«Type».{«Type»}
-pub use Rattle.cedar_declarations.specs.Words.{IsRecordType, ListsDescendant, PlainSchema, SchemaAction, SchemaEntityType, kind_fields, kind_openness, kind_tags}
-pub use Rattle.cedar_schema_elements.specs.Words.{action_of, descendant_names, entity_type_of, environment_of, kind_context, kind_principals, kind_resources, owned_environment, plain_action_entry, plain_entry}
-pub use Rattle.cedar_schema_elements.specs.declared.action_id.ValidatorActionId.{ValidatorActionId}
-pub use Rattle.cedar_schema_elements.specs.declared.entity_type.ValidatorEntityType.{ValidatorEntityType}
 pub use Rattle.cedar_queries.specs.GivesLeaf.{GivesLeaf, pending_types}
 pub use Rattle.cedar_queries.specs.Hierarchy.{HasActionBelow, HasBelow, IsKnownType, MayBeIn, action_descendants, descendants_of, groups, has_name, is_nonempty, types_above}
 pub use Rattle.cedar_queries.specs.Incomplete.{IsIncomplete}

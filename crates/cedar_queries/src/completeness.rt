@@ -10,7 +10,7 @@ use crate::descent::{Actions, EntityTypes};
 use crate::selected::Test;
 use crate::tests_of_values::IsExternal;
 use crate::unresolved::{UnresolvedDeclaration, is_complete, unresolved_declarations};
-use cedar_below::{EntityType, EntityUID, Loc, M, Memory, QuickHash};
+use cedar_ast::{EntityType, EntityUID, Loc, M, Memory, QuickHash};
 use cedar_schema_elements::SchemaNode;
 use cedar_table::Table;
 use itertools::Itertools;

@@ -6,7 +6,7 @@ ghost use Rattle.cedar_queries.specs.Words.{HasActionBelow, IsKnownType, MayBeIn
 
 use crate::selected::Selected;
 use crate::tests_of_values::{HasDescendant, IsGroup};
-use cedar_below::{EntityType, EntityUID, M};
+use cedar_ast::{EntityType, EntityUID, M};
 use cedar_schema_elements::{ValidatorActionId, ValidatorEntityType};
 use cedar_table::Table;
 use std::alloc::Global;
@@ -186,13 +186,13 @@ fn may_be_in_any(
     types: &EntityTypes,
     actions: &Actions,
     lower: &EntityType,
-    uppers: &[EntityType],
+    ancestors: &[EntityType],
 ) -> bool
     ensures { IsTrue result ↔ Any (λ upper. MayBeIn (map plain_entry types.now.entries)
         (map plain_action_entry actions.now.entries) (type_name lower.now)
-        (type_name upper)) uppers.now }
+        (type_name upper)) ancestors.now }
 {
-    for upper in uppers {
+    for upper in ancestors {
         if may_be_in(types, actions, lower, upper) {
             return true;
         }
@@ -207,15 +207,15 @@ pub fn any_descendent_of(
     types: &EntityTypes,
     actions: &Actions,
     lowers: &[EntityType],
-    uppers: &[EntityType],
+    ancestors: &[EntityType],
 ) -> bool
     ensures { IsTrue result ↔ Any (λ lower.
         Any (λ upper. MayBeIn (map plain_entry types.now.entries)
         (map plain_action_entry actions.now.entries) (type_name lower)
-        (type_name upper)) uppers.now) lowers.now }
+        (type_name upper)) ancestors.now) lowers.now }
 {
     for lower in lowers {
-        if may_be_in_any(types, actions, lower, uppers) {
+        if may_be_in_any(types, actions, lower, ancestors) {
             return true;
         }
     }

@@ -4,7 +4,7 @@ ghost use Rattle.std.specs.Prelude.{◌≡◌, ◌≢◌, [], IfOk, OnOk, map};
 ghost use Rattle.cedar_queries.specs.Words.{AreAttributesOf, AreKnownOfAll, IsRecordType, declared_fields, fields_of, kind_ty, lub_names, open_record, plain_entry, record_of, ty_of, type_name};
 ghost use Rattle.cedar_type_rules.specs.declared.open_tag.OpenTag.{OpenTag as Openness};
 
-use cedar_below::{EntityType, M, Memory, ValidationMode};
+use cedar_ast::{EntityType, M, Memory, ValidationMode};
 use cedar_schema_elements::ValidatorEntityType;
 use cedar_table::Table;
 use cedar_types::{AttributeType, Attributes, EntityKind, EntityLUB, JoinError, OpenTag, Type};

@@ -7,7 +7,7 @@ ghost use Rattle.std.specs.Iterator.{at_most};
 ghost use Rattle.std.specs.List.Sorted.{IsPermutation};
 ghost use Rattle.cedar_queries.specs.Words.{GivesLeaf, IsLeaf, context_types, entity_type_types, field_types, fields_of, inner_types, leaves_of, part_count, pending_types, plain_action_entry, plain_entry, schema_leaves, shown_types, ty_of};
 
-use cedar_below::{EntityType, EntityUID, M};
+use cedar_ast::{EntityType, EntityUID, M};
 use cedar_schema_elements::{ValidatorActionId, ValidatorEntityType};
 use cedar_table::Table;
 use cedar_types::{Attributes, Type};

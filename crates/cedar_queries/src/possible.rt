@@ -5,7 +5,7 @@ ghost use Rattle.std.specs.Option.{option_map};
 ghost use Rattle.cedar_queries.specs.Words.{AreAttributesOf, AreDeclaredTypes, Fields, HasTags, IsActionType, IsDeclared, IsKnownUid, MayHaveAttribute, MayHaveTags, MemberMayHave, OpenAttributes, attribute_of, field_at, kind_ty, lub_names, plain_action_entry, plain_entry, ty_of, type_name, uid_of};
 
 use crate::known::all_attributes;
-use cedar_below::{EntityType, EntityUID, M};
+use cedar_ast::{EntityType, EntityUID, M};
 use cedar_schema_elements::{ValidatorActionId, ValidatorEntityType};
 use cedar_table::Table;
 use cedar_types::{AttributeType, EntityKind, EntityLUB, OpenTag, Type};

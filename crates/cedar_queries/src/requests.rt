@@ -10,7 +10,7 @@ ghost use Rattle.cedar_queries.specs.Words.{action_at, action_of, actions_for, a
 use crate::descent::Actions;
 use crate::selected::Selected;
 use crate::tests_of_values::ForRequest;
-use cedar_below::{EntityType, EntityUID};
+use cedar_ast::{EntityType, EntityUID};
 use cedar_schema_elements::{RequestTypes, ValidatorActionId};
 use cedar_table::Values;
 use cedar_types::Type;

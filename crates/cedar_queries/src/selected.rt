@@ -4,7 +4,7 @@ ghost use Rattle.std.specs.Prelude.{◌≡◌, Bool, length};
 ghost use Rattle.std.specs.Iterator.{at_most};
 ghost use Rattle.std.specs.Map.Iter.{TakesFirst, deref};
 
-use cedar_below::QuickHash;
+use cedar_ast::QuickHash;
 use cedar_table::{Iter, Table, Values};
 use std::iter::FusedIterator;
 use std::marker::Model;

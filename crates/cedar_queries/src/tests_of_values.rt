@@ -4,7 +4,7 @@ ghost use Rattle.std.specs.Prelude.{◌&&◌};
 ghost use Rattle.cedar_queries.specs.Words.{action_of, descendant_names, has_name, is_nonempty, kind_principals, kind_resources, type_name};
 
 use crate::selected::Test;
-use cedar_below::EntityType;
+use cedar_ast::EntityType;
 use cedar_schema_elements::{ValidatorActionId, ValidatorEntityType};
 
 /// That an entity type is among the descendants.

@@ -7,7 +7,7 @@ ghost use Rattle.cedar_queries.specs.Unresolved.{lent_declaration, unresolved, u
 use crate::descent::{Actions, EntityTypes};
 use crate::selected::SelectedValues;
 use crate::tests_of_values::IsExternal;
-use cedar_below::{EntityType, EntityUID};
+use cedar_ast::{EntityType, EntityUID};
 use cedar_schema_elements::{ValidatorActionId, ValidatorEntityType};
 use std::iter::FusedIterator;
 

@@ -3,8 +3,8 @@ use Rattle.std.proofs.Common.{◌≡◌, List, [], ◌∷◌, ◌++◌, Option, 
 use Rattle.std.proofs.lemmas.Grind.{flat_map-append}
 use Rattle.std.proofs.lemmas.List.{append-nil}
 use Rattle.std.specs.List.{flat_map}
-use Rattle.cedar_resolution.specs.Words.{ActionsDef, Bag, CollectsAlso, CommonTypeDefs, Declaration, Declarations, EntityTypesDef, PlainName, Reference, ReferenceType, action_fragment_declarations, common_type_declarations, declared_actions, declared_common, declared_entities, entity_type_declarations, written_actions, written_common, written_entities}
 use Rattle.cedar_fragments.proofs.DeclaredParts.{common_of_three, entities_of_three, actions_of_three}
+use Rattle.cedar_resolution.specs.Words.{ActionsDef, Bag, CollectsAlso, CommonTypeDefs, Declaration, Declarations, EntityTypesDef, PlainName, Reference, ReferenceType, action_fragment_declarations, common_type_declarations, declared_actions, declared_common, declared_entities, entity_type_declarations, written_actions, written_common, written_entities}
 
 -- what is read of a bag after a list is read of its two parts in turn
 next_read : {P : Type 0} (read : Declaration → List P) (made after others : List P) (bag rest : Bag) → after ≡ made ++ flat_map read bag
@@ -12,10 +12,11 @@ next_read : {P : Type 0} (read : Declaration → List P) (made after others : Li
 next_read read made after others bag rest is so_far =
     cc (is, append_assoc made (flat_map read bag) (flat_map read rest), flat_map-append read bag rest, so_far)
 
--- over names of some form, where it is given what a name refers to in a namespace at a place of each kind
+-- over names of some form, where it is given what a name refers to in a namespace at a place of
+-- each kind
 module _ (N : Type 0) (refer : Option PlainName → ReferenceType → N → Reference) where
-  -- what was collected so far and what a bag declares that is left are together what was collected before and what a
-  -- whole bag declares
+  -- what was collected so far and what a bag declares that is left are together what was collected
+  -- before and what a whole bag declares
   pub record CollectsTogether (before : Declarations N) (whole : Bag) (made : Declarations N) (left : Bag) : Type 0 where
     pub common : written_common N refer made.common_types.items ++ declared_common left
         ≡ written_common N refer before.common_types.items ++ declared_common whole

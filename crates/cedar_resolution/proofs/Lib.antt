@@ -1,6 +1,6 @@
 pub mod Adding
+pub mod CollectedMore
 pub mod CollectedTogether
-pub mod GatheredMore
 pub mod Items
 pub mod KeptSoFar
 pub mod NamesDefined

@@ -3,11 +3,11 @@ use Rattle.std.proofs.Common.{◌≡◌, List, Option, ◌++◌, not, map, ap, s
 use Rattle.std.proofs.lemmas.List.{map-append}
 use Rattle.std.proofs.lemmas.List.Elements.{Contains-append_left, Contains-append_right, Contains-append_cases}
 use Rattle.std.specs.List.{filter}
-use Rattle.cedar_below.proofs.Lists.{Contains-preimage}
+use Rattle.cedar_ast.proofs.Lists.{Contains-preimage}
 use Rattle.cedar_fragments.proofs.DeclaredNames.{written_names_are_declared}
-use Rattle.cedar_resolution.specs.Words.{AllDefs, AreTheDeclaredNames, Bag, DeclaresJust, Expr, Extensions, Fault, HasAlso, HoldsJust, IsFault, IsShadowing, Names, NoActionShadows, NoTypeShadows, PlainName, PlainUid, Reference, ReferenceType, SameItems, Text, ValidatorSchemaFragment, action_shadowing, action_uids, alias_name, aliases, built_in_types, built_ins, declared_common, declared_names, declared_types, defined_names, held_names, free_aliases, names_given, type_names, type_shadowing, written_bag}
-use Rattle.cedar_declarations.proofs.OccurrenceLemmas.{Contains-image}
 use Rattle.cedar_resolution.proofs.TakenNames.{taken_same}
+use Rattle.cedar_resolution.specs.Words.{AllDefs, AreTheDeclaredNames, Bag, DeclaresJust, Expr, Extensions, Fault, HasAlso, HoldsJust, IsFault, IsShadowing, Names, NoActionShadows, NoTypeShadows, PlainName, PlainUid, Reference, ReferenceType, SameItems, Text, ValidatorSchemaFragment, action_shadowing, action_uids, alias_name, aliases, built_in_types, built_ins, declared_common, declared_names, declared_types, defined_names, held_names, free_aliases, names_given, type_names, type_shadowing, written_bag}
+use Rattle.cedar_schema_semantics.proofs.OccurrenceLemmas.{Contains-image}
 
 -- lists with the same items, after one another
 SameItems-append : {A : Type 0} (xs ys xs' ys' : List A) → SameItems xs ys → SameItems xs' ys'
@@ -96,7 +96,8 @@ module _ (bag : Bag) (extensions : Extensions) (held : Names) (just : HoldsJust 
   no_action_fault none plain qualified fault =
       none plain qualified ((just.actions plain).1 fault.0) ((just.actions qualified).1 fault.1) fault.2
 
-  -- the names of common types that are held, with those of the built-in types and aliases, are those that are defined
+  -- the names of common types that are held, with those of the built-in types and aliases, are
+  -- those that are defined
   pub same_common : (types : List (PlainName × Expr)) (common : List PlainName) → types ≡ built_ins extensions ++ aliases bag extensions
       → HasAlso common held.common (map (λ it. it.0) types) → SameItems common (defined_names bag extensions).common
   same_common types common are also =
@@ -106,7 +107,8 @@ module _ (bag : Bag) (extensions : Extensions) (held : Names) (just : HoldsJust 
       (also_appended common held.common (map key types) (names_given bag).common (map key types) also just.common
       (λ name. (λ among. among, λ among. among)))
 
-  -- the names of entity types that are held, with those of the types of actions, are those that are defined
+  -- the names of entity types that are held, with those of the types of actions, are those that are
+  -- defined
   pub same_entities : (entities : List PlainName) → HasAlso entities held.entities (map (λ uid. uid.ty) held.actions)
       → SameItems entities (defined_names bag extensions).entities
   same_entities entities also =

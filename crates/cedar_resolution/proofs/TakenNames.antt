@@ -3,7 +3,7 @@ use Rattle.std.proofs.Common.{◌≡◌, ◌↔◌, Bool, true, List, IsTrue, Co
 use Rattle.std.specs.Cmp.{both_ways}
 use Rattle.std.specs.Ordering.{is_eq}
 use Rattle.cedar_resolution.specs.Words.{PlainName, SameItems, Text, alias_name, is_taken, name_cmp}
-use Rattle.cedar_declarations.proofs.OccurrenceLemmas.{any_of, name_test, some_of}
+use Rattle.cedar_schema_semantics.proofs.OccurrenceLemmas.{any_of, name_test, some_of}
 
 -- a base name is taken where it is among the names alone
 pub taken_is : (names : List PlainName) (word : Text) (answer : Bool) → IsTrue answer ↔ Contains names (alias_name word)

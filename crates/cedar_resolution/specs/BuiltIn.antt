@@ -1,13 +1,13 @@
 -- Built-in types and aliases as lists of types under names.
-use Rattle.std.specs.Prelude.{Bool, not, List, map}
 use Rattle.std.specs.List.{filter, list_any}
 use Rattle.std.specs.Ordering.{is_eq}
-use Rattle.cedar_below.specs.Words.{PlainName, Text, id_text, name_cmp}
-use Rattle.cedar_below.specs.declared.id.Id.{Id}
-use Rattle.cedar_declarations.specs.Words.{alias_name}
-use Rattle.cedar_names.specs.Words.{Expr, Reference, type_expr}
-use Rattle.cedar_names.specs.declared.json_schema.reference_type.ReferenceType.{ReferenceType}
-use Rattle.cedar_names.specs.declared.json_schema.type_of.Type.{«Type»}
+use Rattle.std.specs.Prelude.{Bool, not, List, map}
+use Rattle.cedar_ast.specs.Words.{PlainName, Text, id_text, name_cmp}
+use Rattle.cedar_ast.specs.declared.id.Id.{Id}
+use Rattle.cedar_schema_ast.specs.Words.{Expr, Reference, type_expr}
+use Rattle.cedar_schema_ast.specs.declared.json_schema.reference_type.ReferenceType.{ReferenceType}
+use Rattle.cedar_schema_ast.specs.declared.json_schema.type_of.Type.{«Type»}
+use Rattle.cedar_schema_semantics.specs.Words.{alias_name}
 
 -- types under base names, with what each stands for over names of some form, where it is given what
 -- a name refers to at a place of each kind

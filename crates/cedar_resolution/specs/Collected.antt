@@ -1,15 +1,15 @@
-use Rattle.std.specs.Prelude.{◌≡◌, ◌++◌, List, Option}
 use Rattle.std.specs.List.{flat_map}
-use Rattle.cedar_below.specs.Words.{PlainName}
-use Rattle.cedar_below.specs.declared.entity_type.EntityType.{EntityType}
-use Rattle.cedar_below.specs.declared.internal_name.InternalName.{InternalName}
-use Rattle.cedar_declarations.specs.Words.{Bag, declared_actions, declared_common, declared_entities}
+use Rattle.std.specs.Prelude.{◌≡◌, ◌++◌, List, Option}
+use Rattle.cedar_ast.specs.Words.{PlainName}
+use Rattle.cedar_ast.specs.declared.entity_type.EntityType.{EntityType}
+use Rattle.cedar_ast.specs.declared.internal_name.InternalName.{InternalName}
 use Rattle.cedar_fragments.specs.Words.{resolved_fragment}
 use Rattle.cedar_fragments.specs.WrittenDeclarations.{written_actions, written_common, written_entities}
 use Rattle.cedar_fragments.specs.declared.namespace.fragment.ValidatorSchemaFragment.{ValidatorSchemaFragment}
-use Rattle.cedar_names.specs.Words.{Reference}
-use Rattle.cedar_names.specs.declared.json_schema.reference_type.ReferenceType.{ReferenceType}
 use Rattle.cedar_resolution.specs.declared.declarations.Declarations.{Declarations}
+use Rattle.cedar_schema_ast.specs.Words.{Reference}
+use Rattle.cedar_schema_ast.specs.declared.json_schema.reference_type.ReferenceType.{ReferenceType}
+use Rattle.cedar_schema_semantics.specs.Words.{Bag, declared_actions, declared_common, declared_entities}
 
 -- the bag of declarations of some fragments over full names
 abbrev pub resolved_bag : List (ValidatorSchemaFragment InternalName EntityType) → Bag

@@ -1,6 +1,6 @@
-use Rattle.cedar_declarations.specs.Words.{Bag}
 use Rattle.cedar_fragments.specs.Words.{HoldsJust, held_names, names_given}
 use Rattle.cedar_fragments.specs.declared.defs.all_defs.AllDefs.{AllDefs}
+use Rattle.cedar_schema_semantics.specs.Words.{Bag}
 
 -- the names are just those that the declarations of the bag give
 abbrev pub DeclaresJust : Bag → AllDefs → Type 0

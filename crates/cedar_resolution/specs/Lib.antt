@@ -1,5 +1,5 @@
 pub mod BuiltIn
 pub mod Collected
+pub mod CollectedDeclarations
 pub mod DeclaredJust
-pub mod Gathered
 pub mod Words

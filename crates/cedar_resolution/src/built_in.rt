@@ -4,10 +4,10 @@ ghost use Rattle.std.specs.Prelude.{if◌then◌else◌, ◌≡◌, ◌↔◌, �
 ghost use Rattle.cedar_resolution.specs.Words.{None, built_in_name, built_in_types, built_ins, extension_expr, free_aliases, held_names, id_text, name_of, named_types, plain_name, type_expr, type_names, variant_expr, written_common};
 
 use crate::declarations::DeclaredCommonType;
-use cedar_below::{Extensions, Id, InternalName, M, Name, UnreservedId, identifier};
+use cedar_ast::{Extensions, Id, InternalName, M, Name, UnreservedId, identifier};
 use cedar_fragments::defs::{AllDefs, WrittenName};
 use cedar_fragments::namespace::Written;
-use cedar_names::json_schema::{Type, TypeVariant};
+use cedar_schema_ast::json_schema::{Type, TypeVariant};
 use std::alloc::Global;
 
 /// A built-in type: its base name, and its type.

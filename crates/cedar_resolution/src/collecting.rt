@@ -5,7 +5,7 @@ ghost use Rattle.std.specs.Option.{option_map};
 ghost use Rattle.cedar_resolution.specs.Words.{CollectsAlso, action_fragment_declarations, common_type_declarations, declared_actions, declared_common, declared_entities, entity_type_declarations, name_of, namespace_name, written_actions, written_bag, written_common, written_definition, written_entities, written_fragment, written_namespace};
 
 use crate::declarations::{Declarations, DeclaredAction, DeclaredCommonType, DeclaredEntityType};
-use cedar_below::{InternalName, M};
+use cedar_ast::{InternalName, M};
 use cedar_fragments::defs::WrittenName;
 use cedar_fragments::namespace::{
     ActionDef, ActionsDef, CommonTypeDef, CommonTypeDefs, EntityTypeDef, EntityTypesDef,

@@ -1,8 +1,8 @@
 //! The declarations of fragments, kind by kind.
 
-use cedar_below::{EntityType, EntityUID, InternalName};
+use cedar_ast::{EntityType, EntityUID, InternalName};
 use cedar_fragments::namespace::{ActionFragment, EntityTypeFragment, Written};
-use cedar_names::json_schema::Type;
+use cedar_schema_ast::json_schema::Type;
 
 /// A common type that is declared: its full name, and its type with the namespace that the names
 /// in it are written in.

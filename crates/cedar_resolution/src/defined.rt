@@ -5,9 +5,9 @@ ghost use Rattle.cedar_resolution.specs.Words.{Bag, DeclaresJust, HasAlso, Holds
 
 use crate::built_in::built_in_common_types;
 use crate::declarations::DeclaredCommonType;
-use cedar_below::{Extensions, M};
-use cedar_declarations::SchemaError;
+use cedar_ast::{Extensions, M};
 use cedar_fragments::defs::{AllDefs, WrittenName};
+use cedar_schema_semantics::SchemaError;
 use std::alloc::Global;
 
 /// The same names, and among those of common types also those of some types.

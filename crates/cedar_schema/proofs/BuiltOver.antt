@@ -2,11 +2,11 @@
 use Rattle.std.proofs.Common.{◌≡◌, ◌⊎◌, IfErr, IfOk, List, OnOk, Result}
 use Rattle.std.proofs.lemmas.Result.{IfErr-weaker, IfOk-weaker, on_ok_weaker}
 use Rattle.std.specs.Result.{result_map_both}
-use Rattle.cedar_declarations.specs.declared.schema_error.SchemaError.{SchemaError}
-use Rattle.cedar_declaration_laws.proofs.BuiltFrom.{built_from}
 use Rattle.cedar_schema.proofs.Mapped.{IfErr-mapped, IfOk-mapped, OnOk-mapped}
-use Rattle.cedar_schema.specs.declared.building.SchemaParts.{SchemaParts}
 use Rattle.cedar_schema.specs.Words.{Bag, Expr, Extensions, IsBuiltFrom, IsDeclaredSchema, IsFault, IsIllFormed, IsNamedOver, Names, PlainName, fault_of, out_of_memory, parts_schema}
+use Rattle.cedar_schema.specs.declared.building.SchemaParts.{SchemaParts}
+use Rattle.cedar_schema_laws.proofs.BuiltFrom.{built_from}
+use Rattle.cedar_schema_semantics.specs.declared.schema_error.SchemaError.{SchemaError}
 
 module _ (bag : Bag) (given : Extensions) (held : Names) (built_in : List (PlainName × Expr)) (over : IsNamedOver bag given held built_in) where
   -- an answer that is right over these names is built from the bag

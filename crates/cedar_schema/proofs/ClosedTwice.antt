@@ -1,8 +1,8 @@
 -- What closes the same schema is the same schema.
 use Rattle.std.proofs.Common.{List, refl, sym, subst, ◌∙◌}
 use Rattle.cedar_schema.specs.Words.{ActionKind, ClosesAction, ClosesSchema, ClosesType, HoldsPairwise, PlainName, PlainSchema, PlainUid, SameAction, SameActionKind, SameEntityType, SameSchema, SchemaAction, SchemaEntityType, defined_action, external_action}
-use Rattle.cedar_declaration_laws.proofs.SameEntities.{same_entities}
-use Rattle.cedar_declarations.proofs.TurnLemmas.{turn_back}
+use Rattle.cedar_schema_laws.proofs.SameEntities.{same_entities}
+use Rattle.cedar_schema_semantics.proofs.TurnLemmas.{turn_back}
 use Rattle.cedar_validation.proofs.Pairwise.{pairwise_joined}
 
 -- what holds between the items of two pairs of lists gives what holds between the last of both

@@ -1,10 +1,10 @@
 -- The bag of which these common types, entity types and actions are collected.
-use Rattle.std.specs.Global.{Box}
 use Rattle.std.proofs.Common.{◌≡◌, List, Option, map, ap, sym, subst, ◌∙◌, Contains, inl, inr}
 use Rattle.std.proofs.lemmas.List.Elements.{Contains-append_cases}
 use Rattle.std.proofs.lemmas.Simd.{map-map}
-use Rattle.cedar_below.proofs.Lists.{Contains-preimage}
-use Rattle.cedar_below.proofs.ValueLemmas.{IsName-type_name}
+use Rattle.std.specs.Global.{Box}
+use Rattle.cedar_ast.proofs.Lists.{Contains-preimage}
+use Rattle.cedar_ast.proofs.ValueLemmas.{IsName-type_name}
 use Rattle.cedar_schema.specs.Words.{ActionBody, ActionFragment, Bag, EntityBody, EntityType, EntityTypeFragment, EntityUID, Extensions, IsReserved, PlainName, PlainUid, Reference, ReferenceType, Written, action_uids, declared_actions, declared_entities, definitions, type_name, uid_of, written_actions, written_entities}
 
 -- the name of an entity type isn't reserved

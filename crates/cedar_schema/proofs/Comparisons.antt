@@ -3,10 +3,10 @@ use Rattle.std.proofs.Common.{◌≡◌, Option, Some, None, refl, ap, string_by
 use Rattle.std.proofs.lemmas.Bool.Decides.{Decides-and, Decides-eqb, Decides-like}
 use Rattle.std.specs.Bool.{Decides}
 use Rattle.std.specs.Option.{option_eq}
-use Rattle.cedar_below.proofs.Names.{internal_name_eq-same}
-use Rattle.cedar_below.proofs.Texts.{text_eq-Decides}
+use Rattle.cedar_ast.proofs.Names.{internal_name_eq-same}
+use Rattle.cedar_ast.proofs.Texts.{text_eq-Decides}
+use Rattle.cedar_ast.specs.contracts.loc.LocPartialEq.TheImpl as loc_eq
 use Rattle.cedar_schema.specs.Words.{Loc, LocatedCommonType, LocatedNamespace, LocatedType, loc_at, name_of, ty_of, type_at}
-use Rattle.cedar_below.specs.contracts.loc.LocPartialEq.TheImpl as loc_eq
 use Rattle.cedar_schema.specs.contracts.located_common_type.LocatedCommonTypeHash.TheImpl as common_type_hash
 use Rattle.cedar_schema.specs.contracts.located_common_type.LocatedCommonTypePartialEq.TheImpl as common_type_eq
 use Rattle.cedar_schema.specs.contracts.located_namespace.LocatedNamespaceHash.TheImpl as namespace_hash
@@ -30,7 +30,8 @@ type_locations-Decides None (Some b) = none (λ e. cc)
 type_locations-Decides (Some a) None = none (λ e. cc)
 type_locations-Decides (Some a) (Some b) = Decides-like _ (ap Some) (λ e. cc) (loc-Decides a b)
 
--- types with a location are equal exactly where they stand for the same type and have the same location
+-- types with a location are equal exactly where they stand for the same type and have the same
+-- location
 pub located_types-Decides : (a b : LocatedType) → Decides ((located_type_eq.ghosts).eq a b)
     ((ty_of (type_at a) ≡ ty_of (type_at b)) × (loc_at a ≡ loc_at b))
 located_types-Decides a b = Decides-and _ _ (types-Decides a.ty b.ty) (type_locations-Decides a.loc b.loc)

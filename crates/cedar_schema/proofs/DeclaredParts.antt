@@ -1,10 +1,11 @@
--- Entity types and actions that are the declared ones, with the entities of these actions, are the declared schema.
+-- Entity types and actions that are the declared ones, with the entities of these actions, are the
+-- declared schema.
 use Rattle.std.proofs.Common.{List, map, sym, subst, ◌∙◌, Contains}
 use Rattle.std.proofs.lemmas.Simd.{map-map}
 use Rattle.std.specs.List.Sorted.{IsStrictlySortedBy}
 use Rattle.std.specs.Map.{keys_of}
+use Rattle.cedar_ast.proofs.Lists.{Contains-preimage}
 use Rattle.cedar_schema.specs.Words.{AreActionEntities, AreDeclaredActions, AreDeclaredEntityTypes, Bag, ActionEntity, EntityType, EntityUID, Extensions, IsDeclaredAction, IsDeclaredEntityType, IsDeclaredSchema, PlainName, PlainUid, SchemaAction, SchemaEntityType, ValidatorActionId, ValidatorEntityType, name_cmp, plain_action_entry, plain_entry, schema_with, type_name, uid_cmp, uid_of}
-use Rattle.cedar_below.proofs.Lists.{Contains-preimage}
 
 -- the declared schema
 pub declared_parts : (bag : Bag) (extensions : Extensions) (types : List (EntityType × ValidatorEntityType))

@@ -1,4 +1,5 @@
--- Where the common types of a bag are elaborated, enough is known to write out whatever counts in it.
+-- Where the common types of a bag are elaborated, enough is known to write out whatever counts in
+-- it.
 use Rattle.cedar_schema.specs.Words.{AreElaborated, Bag, Covers, Expr, Extensions, HoldsJust, TypeScope, defined_names, definitions, elaborated_types, held_names}
 
 -- enough is known of what the bag defines

@@ -3,18 +3,19 @@ use Rattle.std.proofs.Common.{◌∷◌, [], true, false, cond, Contains, List, 
 use Rattle.std.specs.List.Sorted.{IsStrictlySortedBy}
 use Rattle.std.specs.Option.{option_map_or}
 use Rattle.std.specs.Ordering.{is_eq}
-use Rattle.cedar_below.proofs.Lists.{Contains-cons, Contains-preimage}
+use Rattle.cedar_ast.proofs.Lists.{Contains-cons, Contains-preimage}
+use Rattle.cedar_queries.specs.KnownAttributes.{type_at}
 use Rattle.cedar_schema.specs.Words.{AreClean, AreCleanTypes, Bag, EntityType, EntityTypeKind, Extensions, Fields, IsClean, IsDeclaredSchema, IsSortedByName, IsSortedByName-fields, IsTypeOfKind, PlainName, SchemaEntityType, Ty, ValidatorEntityType, ValidatorEntityTypeKind, ValidatorSchema, declared_fields, end, kind_fields, name_cmp, plain_entry, plain_kind, record_of, schema_of, standard_kind}
 use Rattle.cedar_schema_elements.specs.declared.entity_type_kind.ValidatorEntityTypeKind.TheVariants as variant
-use Rattle.cedar_declaration_laws.proofs.CleanSchemas.{declared_clean}
-use Rattle.cedar_queries.specs.KnownAttributes.{type_at}
+use Rattle.cedar_schema_laws.proofs.CleanSchemas.{declared_clean}
 
 -- no attributes are in order
 none_ascend : IsSortedByName end
 unfolding IsStrictlySortedBy
 none_ascend = tt
 
--- what holds of no attributes, and of those of the kind of each entity type, holds of those that are declared of a name
+-- what holds of no attributes, and of those of the kind of each entity type, holds of those that
+-- are declared of a name
 declared_of : (P : Fields → Type 0) → P end → (types : List (PlainName × SchemaEntityType))
     → ((it : PlainName × SchemaEntityType) → Contains types it → P (kind_fields it.1.kind))
     → (name : PlainName) → P (declared_fields types name)

@@ -4,10 +4,10 @@ use Rattle.std.specs.BTreeMap.{BTreeMap, get, get_by, is_at}
 use Rattle.std.specs.Bool.{one_answer}
 use Rattle.std.specs.Option.{option_map, option_or}
 use Rattle.std.specs.Ordering.{is_eq}
-use Rattle.cedar_below.proofs.Names.{internal_name_ord-name_cmp}
+use Rattle.cedar_ast.proofs.Names.{internal_name_ord-name_cmp}
+use Rattle.cedar_ast.specs.contracts.internal_name.InternalNameOrd.TheImpl as order
 use Rattle.cedar_schema.specs.Words.{DefinedNamespace, HoldsNamespaces, InternalName, LocatedNamespace, PlainName, last_defined, name_cmp, name_of, printed_namespace, shown_namespace}
-use Rattle.cedar_below.specs.contracts.internal_name.InternalNameOrd.TheImpl as order
-use Rattle.cedar_declarations.proofs.OccurrenceLemmas.{name_test}
+use Rattle.cedar_schema_semantics.proofs.OccurrenceLemmas.{name_test}
 
 -- a definition behind the others is the last, if it has the name
 last_defined-more : (name : PlainName) (defined : List DefinedNamespace) (at : DefinedNamespace)

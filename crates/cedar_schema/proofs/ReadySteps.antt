@@ -1,10 +1,10 @@
 -- What each step is handed is what it asks for.
 use Rattle.std.proofs.Common.{◌≡◌, List, map, ap, sym, subst, Contains}
-use Rattle.cedar_schema.specs.Words.{ActionBody, AreActionsOf, AreDeclaredEntityTypes, AreElaborated, AreTypesOf, Bag, CommonTypesAreSound, EntityBody, EntityType, Entries, Expr, Extensions, HoldsJust, IsNamedOver, IsReady, IsReserved, Names, PlainName, PlainUid, TypeScope, ValidatorEntityType, declared_actions, declared_common, declared_entities, defined_names, definitions, elaborated_types, extension_types, held_names, type_name}
-use Rattle.cedar_below.proofs.Lists.{Contains-preimage}
-use Rattle.cedar_declarations.proofs.BuiltInLemmas.{one_definition}
-use Rattle.cedar_declarations.proofs.TogetherLemmas.{said_is_declared}
+use Rattle.cedar_ast.proofs.Lists.{Contains-preimage}
 use Rattle.cedar_schema.proofs.KnownBags.{knows_all}
+use Rattle.cedar_schema.specs.Words.{ActionBody, AreActionsOf, AreDeclaredEntityTypes, AreElaborated, AreTypesOf, Bag, CommonTypesAreSound, EntityBody, EntityType, Entries, Expr, Extensions, HoldsJust, IsNamedOver, IsReady, IsReserved, Names, PlainName, PlainUid, TypeScope, ValidatorEntityType, declared_actions, declared_common, declared_entities, defined_names, definitions, elaborated_types, extension_types, held_names, type_name}
+use Rattle.cedar_schema_semantics.proofs.BuiltInLemmas.{one_definition}
+use Rattle.cedar_schema_semantics.proofs.TogetherLemmas.{said_is_declared}
 
 module _ (bag : Bag) (given : Extensions) (held : Names) (built_in : List (PlainName × Expr)) (over : IsNamedOver bag given held built_in)
     (common : List (PlainName × Expr)) (entity_types : List (PlainName × EntityBody)) (actions : List (PlainUid × ActionBody))

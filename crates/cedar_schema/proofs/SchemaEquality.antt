@@ -4,18 +4,18 @@ use Rattle.std.proofs.lemmas.Bool.Decides.{Decides-and, Decides-like}
 use Rattle.std.specs.Bool.{Decides}
 use Rattle.std.specs.Cmp.Lexicographic.{pointwise}
 use Rattle.std.specs.Map.{keys_of, values_of}
-use Rattle.cedar_schema_elements.proofs.ActionEquality.{actions-Same}
-use Rattle.cedar_schema.specs.Words.{EntityType, EntityUID, HoldsPairwise, PlainEntityType, SameAction, SameEntityType, SameSchema, ValidatorActionId, ValidatorEntityType, ValidatorSchema, plain_action_entry, plain_entry, schema_of}
-use Rattle.cedar_schema_elements.specs.contracts.action_id.ValidatorActionIdPartialEq.TheImpl as action_eq
-use Rattle.cedar_below.proofs.Names.{entity_type_eq-same}
-use Rattle.cedar_below.proofs.Uids.{entity_uid_eq-same}
-use Rattle.cedar_below.specs.contracts.entity_type.EntityTypePartialEq.TheImpl as name_eq
-use Rattle.cedar_below.specs.contracts.entity_uid.EntityUIDPartialEq.TheImpl as uid_eq
-use Rattle.cedar_schema_elements.proofs.EntityTypeEquality.{entity_types-Same}
-use Rattle.cedar_schema_elements.specs.contracts.entity_type.ValidatorEntityTypePartialEq.TheImpl as entity_type_eq
-use Rattle.cedar_declaration_laws.proofs.SameEntities.{same_entities}
-use Rattle.cedar_schema.specs.contracts.schema.ValidatorSchemaPartialEq.TheImpl as schema_eq
+use Rattle.cedar_ast.proofs.Names.{entity_type_eq-same}
+use Rattle.cedar_ast.proofs.Uids.{entity_uid_eq-same}
+use Rattle.cedar_ast.specs.contracts.entity_type.EntityTypePartialEq.TheImpl as name_eq
+use Rattle.cedar_ast.specs.contracts.entity_uid.EntityUIDPartialEq.TheImpl as uid_eq
 use Rattle.cedar_schema.proofs.SchemaNames.{entities_known}
+use Rattle.cedar_schema.specs.Words.{EntityType, EntityUID, HoldsPairwise, PlainEntityType, SameAction, SameEntityType, SameSchema, ValidatorActionId, ValidatorEntityType, ValidatorSchema, plain_action_entry, plain_entry, schema_of}
+use Rattle.cedar_schema.specs.contracts.schema.ValidatorSchemaPartialEq.TheImpl as schema_eq
+use Rattle.cedar_schema_elements.proofs.ActionEquality.{actions-Same}
+use Rattle.cedar_schema_elements.proofs.EntityTypeEquality.{entity_types-Same}
+use Rattle.cedar_schema_elements.specs.contracts.action_id.ValidatorActionIdPartialEq.TheImpl as action_eq
+use Rattle.cedar_schema_elements.specs.contracts.entity_type.ValidatorEntityTypePartialEq.TheImpl as entity_type_eq
+use Rattle.cedar_schema_laws.proofs.SameEntities.{same_entities}
 use Rattle.cedar_types.proofs.EqualityLaws.{none}
 
 -- the test of two entries of the map of entity types
@@ -49,8 +49,8 @@ action_entry-Same p q =
     (λ same. (same.key, (same.uid, same.kind, same.descendants)))
     (Decides-and _ _ (entity_uid_eq-same p.0 q.0) (actions-Same p.1 q.1))
 
--- lists are equal by a test exactly where what they stand for is pairwise the same, if the test decides that of each
--- two items
+-- lists are equal by a test exactly where what they stand for is pairwise the same, if the test
+-- decides that of each two items
 pairwise-Same : {A P : Type 0} (test : A → A → Bool) (plain : A → P) (Same : P → P → Type 0)
     → ((p q : A) → Decides (test p q) (Same (plain p) (plain q))) → (xs ys : List A)
     → Decides (pointwise test xs ys) (HoldsPairwise Same (map plain xs) (map plain ys))

@@ -1,23 +1,23 @@
--- What is known of the names of every schema: they are sorted, entity types and actions stand under their own, and none
--- is reserved.
+-- What is known of the names of every schema: they are sorted, entity types and actions stand under
+-- their own, and none is reserved.
 use Rattle.std.proofs.Common.{◌≡◌, ◌∙◌, ◌∷◌, [], Contains, List, inl, inr, map, refl, subst, sym}
 use Rattle.std.proofs.Math.Logic.{∥∥₁_elim}
 use Rattle.std.proofs.Props.{props}
 use Rattle.std.specs.List.Sorted.{IsStrictlySortedBy}
 use Rattle.std.specs.Map.{keys_of}
-use Rattle.cedar_schema_elements.proofs.ListedEntities.{listed_are}
+use Rattle.cedar_ast.proofs.Lists.{Contains-cons, Contains-preimage}
+use Rattle.cedar_ast.proofs.Names.{entity_type_ord-name_cmp}
+use Rattle.cedar_ast.proofs.Ordered.{IsStrictlySortedBy-map}
+use Rattle.cedar_ast.proofs.PlainNames.{name_cmp-Equal, uid_cmp-Equal}
+use Rattle.cedar_ast.proofs.Uids.{entity_uid_ord-uid_cmp}
+use Rattle.cedar_ast.specs.contracts.entity_type.EntityTypeOrd.TheImpl as entity_type_ord
+use Rattle.cedar_ast.specs.contracts.entity_uid.EntityUIDOrd.TheImpl as entity_uid_ord
 use Rattle.cedar_schema.specs.Words.{ActionEntity, AreActionEntities, ClosesAction, ClosesSchema, ClosesType, EntityType, EntityUID, HasNoReservedName, HoldsPairwise, IsInOrder, PlainName, PlainSchema, PlainUid, SameAction, SameEntityType, SchemaAction, SchemaEntityType, StandsUnderItsNames, ValidatorActionId, ValidatorEntityType, ValidatorSchema, action_of, entity_type_of, name_cmp, plain_action_entry, plain_entry, reserved_word, schema_listing, schema_of, schema_with, type_name, uid_cmp, uid_of}
-use Rattle.cedar_below.proofs.Lists.{Contains-cons, Contains-preimage}
-use Rattle.cedar_below.proofs.Names.{entity_type_ord-name_cmp}
-use Rattle.cedar_below.proofs.Ordered.{IsStrictlySortedBy-map}
-use Rattle.cedar_below.proofs.PlainNames.{name_cmp-Equal, uid_cmp-Equal}
-use Rattle.cedar_below.proofs.Uids.{entity_uid_ord-uid_cmp}
-use Rattle.cedar_below.specs.contracts.entity_type.EntityTypeOrd.TheImpl as entity_type_ord
-use Rattle.cedar_below.specs.contracts.entity_uid.EntityUIDOrd.TheImpl as entity_uid_ord
-use Rattle.cedar_declarations.proofs.OccurrenceLemmas.{Contains-image}
-use Rattle.cedar_declarations.proofs.TurnLemmas.{turn_forth}
-use Rattle.cedar_validation.proofs.Pairwise.{pairwise_back}
+use Rattle.cedar_schema_elements.proofs.ListedEntities.{listed_are}
+use Rattle.cedar_schema_semantics.proofs.OccurrenceLemmas.{Contains-image}
+use Rattle.cedar_schema_semantics.proofs.TurnLemmas.{turn_forth}
 use Rattle.cedar_validation.proofs.Keyed.{key_of_uid, named_key, names_of_keys}
+use Rattle.cedar_validation.proofs.Pairwise.{pairwise_back}
 
 abbrev Types : Type 0
 Types = List (EntityType × ValidatorEntityType)

@@ -4,8 +4,8 @@ use Rattle.std.proofs.lemmas.List.{flat_map_more, map-append}
 use Rattle.std.proofs.lemmas.List.Elements.{filter-append}
 use Rattle.std.proofs.lemmas.Simd.{map-map}
 use Rattle.std.specs.List.{filter, flat_map}
-use Rattle.cedar_schema.specs.Words.{CommonTypeDef, LocatedCommonType, LocatedName, ShownCommonType, Text, ValidatorSchemaFragment, common_types_to_show, declared_common_type, definition_common_types, fragment_common_names, fragment_common_types, fragment_definitions, is_shown, located_name, shown_common_type, shown_name, with_base}
 use Rattle.cedar_schema.proofs.InOrder.{map-flat_map}
+use Rattle.cedar_schema.specs.Words.{CommonTypeDef, LocatedCommonType, LocatedName, ShownCommonType, Text, ValidatorSchemaFragment, common_types_to_show, declared_common_type, definition_common_types, fragment_common_names, fragment_common_types, fragment_definitions, is_shown, located_name, shown_common_type, shown_name, with_base}
 
 -- a test of what a function shows keeps just what it keeps of what is shown
 map-filter : {A B : Type 0} (f : A → B) (test : B → Bool) (xs : List A) → map f (filter (λ x. test (f x)) xs) ≡ filter test (map f xs)

@@ -1,9 +1,9 @@
 -- What the steps make sure of, together, is that the bag isn't ill-formed.
 use Rattle.std.proofs.Common.{List, inl, inr, subst, map, Contains}
-use Rattle.cedar_below.proofs.Lists.{Contains-preimage}
+use Rattle.cedar_ast.proofs.Lists.{Contains-preimage}
 use Rattle.cedar_schema.specs.Words.{ActionsAreSound, Bag, CommonTypesAreSound, EntityBody, EntityTypesAreSound, Expr, Extensions, HasNoDefinitionFault, HasOpenRecord, IsActionType, IsIllFormed, IsNamedOver, Names, PlainName, Reference, Refers, ResolvesTo, action_attributes, action_entity_type, declared_entities, defined_names, reserved_name}
-use Rattle.cedar_declaration_laws.proofs.MentionLemmas.{HasKnownExtensions}
-use Rattle.cedar_declaration_laws.proofs.SureBags.{of_counted, of_placed, sure_is_well}
+use Rattle.cedar_schema_laws.proofs.MentionLemmas.{HasKnownExtensions}
+use Rattle.cedar_schema_laws.proofs.SureBags.{of_counted, of_placed, sure_is_well}
 
 module _ (bag : Bag) (extensions : Extensions) (names : Names) (built_in : List (PlainName × Expr))
     (over : IsNamedOver bag extensions names built_in) (definitions_sound : HasNoDefinitionFault bag) (common : CommonTypesAreSound bag extensions)

@@ -4,8 +4,8 @@ use Rattle.std.proofs.lemmas.List.Elements.{Contains-append_right}
 use Rattle.std.specs.List.{AllByRecursion}
 use Rattle.cedar_fragments.proofs.ListedSoFar.{ListedSoFar}
 use Rattle.cedar_fragments.specs.Words.{IsSound, written_fragment}
-use Rattle.cedar_names.specs.Words.{raw_fragment, raw_reference}
 use Rattle.cedar_schema.specs.Words.{Fragment, RawName, ValidatorSchemaFragment}
+use Rattle.cedar_schema_ast.specs.Words.{raw_fragment, raw_reference}
 
 -- some fragments have given others that declare the same, soundly, and more are left
 abbrev pub WrittenSoFar : List (Fragment RawName) → List (ValidatorSchemaFragment RawName RawName) → List (Fragment RawName) → Type 0

@@ -1,3 +1,4 @@
+pub mod CollectedFragments
 pub mod Located
 pub mod LocatedType
 pub mod NamedOver
@@ -6,7 +7,6 @@ pub mod SchemaParts
 pub mod Shared
 pub mod ShownCommonTypes
 pub mod ShownNamespaces
-pub mod TakenOver
 pub mod TypeLocations
 pub mod ValidatorSchema
 pub mod Words

@@ -1,6 +1,6 @@
-use Rattle.std.specs.Prelude.{◌≡◌, ◌∷◌, List, map}
 use Rattle.std.specs.List.{filter, flat_map}
-use Rattle.cedar_below.specs.declared.internal_name.InternalName.{InternalName}
+use Rattle.std.specs.Prelude.{◌≡◌, ◌∷◌, List, map}
+use Rattle.cedar_ast.specs.declared.internal_name.InternalName.{InternalName}
 use Rattle.cedar_fragments.specs.Located.{DefinedNamespace, LocatedName, fragment_common_names, named_namespaces, raw_common_names, raw_namespaces}
 use Rattle.cedar_fragments.specs.declared.namespace.fragment.ValidatorSchemaFragment.{ValidatorSchemaFragment}
 use Rattle.cedar_schema.specs.ShownCommonTypes.{common_types_to_show, fragment_common_types, is_shown, shown_common_type, shown_name, with_base}
@@ -8,9 +8,9 @@ use Rattle.cedar_schema.specs.ShownNamespaces.{HoldsNamespaces, built_in_namespa
 use Rattle.cedar_schema.specs.declared.collecting.Located.{Located}
 use Rattle.cedar_schema.specs.declared.located_common_type.LocatedCommonType.{LocatedCommonType}
 use Rattle.cedar_schema.specs.declared.located_namespace.LocatedNamespace.{LocatedNamespace}
-use Rattle.cedar_names.specs.declared.json_schema.conditional_name.ConditionalName.{ConditionalName}
-use Rattle.cedar_names.specs.declared.json_schema.fragment.Fragment.{Fragment}
-use Rattle.cedar_names.specs.declared.json_schema.raw_name.RawName.{RawName}
+use Rattle.cedar_schema_ast.specs.declared.json_schema.conditional_name.ConditionalName.{ConditionalName}
+use Rattle.cedar_schema_ast.specs.declared.json_schema.fragment.Fragment.{Fragment}
+use Rattle.cedar_schema_ast.specs.declared.json_schema.raw_name.RawName.{RawName}
 
 -- the common types that are shown, in order
 abbrev pub common_entries : Located → List LocatedCommonType

@@ -1,5 +1,5 @@
 use Rattle.std.specs.Prelude.{Option}
-use Rattle.cedar_below.specs.declared.loc.Loc.{Loc}
+use Rattle.cedar_ast.specs.declared.loc.Loc.{Loc}
 use Rattle.cedar_schema.specs.declared.located_type.LocatedType.{LocatedType}
 use Rattle.cedar_types.specs.declared.types.Type.{«Type»}
 

@@ -1,9 +1,9 @@
 use Rattle.std.specs.Prelude.{◌≡◌, ◌++◌, List}
-use Rattle.cedar_below.specs.Words.{PlainName, PlainUid, TypeNamesFit, extension_types}
-use Rattle.cedar_below.specs.declared.extension.Extensions.{Extensions}
-use Rattle.cedar_declarations.specs.Words.{Bag, IsFault, Names, action_shadowing, aliases, built_ins, defined_names, type_shadowing}
+use Rattle.cedar_ast.specs.Words.{PlainName, PlainUid, TypeNamesFit, extension_types}
+use Rattle.cedar_ast.specs.declared.extension.Extensions.{Extensions}
 use Rattle.cedar_fragments.specs.Words.{HoldsJust}
-use Rattle.cedar_names.specs.Words.{Expr}
+use Rattle.cedar_schema_ast.specs.Words.{Expr}
+use Rattle.cedar_schema_semantics.specs.Words.{Bag, IsFault, Names, action_shadowing, aliases, built_ins, defined_names, type_shadowing}
 
 -- the names are those that the bag defines, nothing in it shadows another, these are the built-in
 -- types and its aliases, and names of extension types fit

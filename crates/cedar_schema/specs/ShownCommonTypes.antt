@@ -1,10 +1,10 @@
-use Rattle.std.specs.Prelude.{Bool, ◌&&◌, not, List, map, Option}
 use Rattle.std.specs.List.{filter, flat_map, list_any}
 use Rattle.std.specs.Option.{is_some}
-use Rattle.std.specs.Str.{bytes_eq}
+use Rattle.std.specs.Prelude.{Bool, ◌&&◌, not, List, map, Option}
 use Rattle.std.specs.Prelude.{string_bytes}
-use Rattle.cedar_below.specs.Words.{Text, name_of, primitive_words}
-use Rattle.cedar_below.specs.declared.loc.Loc.{Loc}
+use Rattle.std.specs.Str.{bytes_eq}
+use Rattle.cedar_ast.specs.Words.{Text, name_of, primitive_words}
+use Rattle.cedar_ast.specs.declared.loc.Loc.{Loc}
 use Rattle.cedar_fragments.specs.Located.{LocatedName, definition_common_types, fragment_definitions, located_name}
 use Rattle.cedar_fragments.specs.declared.namespace.common_types.CommonTypeDef.{CommonTypeDef}
 use Rattle.cedar_fragments.specs.declared.namespace.fragment.ValidatorSchemaFragment.{ValidatorSchemaFragment}

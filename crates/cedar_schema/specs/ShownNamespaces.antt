@@ -1,10 +1,10 @@
-use Rattle.std.specs.Prelude.{◌≡◌, List, [], ◌∷◌, cond, Option, None, Some, string_bytes}
 use Rattle.std.specs.BTreeMap.{BTreeMap, get_by}
 use Rattle.std.specs.Option.{option_map, option_or}
 use Rattle.std.specs.Ordering.{is_eq}
-use Rattle.cedar_below.specs.Words.{PlainName, Text, name_cmp, name_of, name_text, reserved_word}
-use Rattle.cedar_below.specs.declared.internal_name.InternalName.{InternalName}
-use Rattle.cedar_below.specs.declared.loc.Loc.{Loc}
+use Rattle.std.specs.Prelude.{◌≡◌, List, [], ◌∷◌, cond, Option, None, Some, string_bytes}
+use Rattle.cedar_ast.specs.Words.{PlainName, Text, name_cmp, name_of, name_text, reserved_word}
+use Rattle.cedar_ast.specs.declared.internal_name.InternalName.{InternalName}
+use Rattle.cedar_ast.specs.declared.loc.Loc.{Loc}
 use Rattle.cedar_fragments.specs.Located.{DefinedNamespace}
 use Rattle.cedar_schema.specs.declared.located_namespace.LocatedNamespace.{LocatedNamespace}
 

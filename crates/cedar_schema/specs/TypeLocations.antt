@@ -1,8 +1,8 @@
 use Rattle.std.specs.Prelude.{Option}
-use Rattle.cedar_below.specs.declared.loc.Loc.{Loc}
-use Rattle.cedar_names.specs.declared.json_schema.type_of.Type.{«Type», fold-Type}
-use Rattle.cedar_names.specs.declared.json_schema.type_of.Type.TheOpen as layer
-use Rattle.cedar_names.specs.declared.json_schema.type_of.TypeVariant.{TypeVariant, fold-TypeVariant}
+use Rattle.cedar_ast.specs.declared.loc.Loc.{Loc}
+use Rattle.cedar_schema_ast.specs.declared.json_schema.type_of.Type.{«Type», fold-Type}
+use Rattle.cedar_schema_ast.specs.declared.json_schema.type_of.Type.TheOpen as layer
+use Rattle.cedar_schema_ast.specs.declared.json_schema.type_of.TypeVariant.{TypeVariant, fold-TypeVariant}
 
 -- types over names of some form, whose records and attributes aren't looked into
 module _ (N : Type 0) where

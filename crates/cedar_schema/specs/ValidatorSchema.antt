@@ -1,14 +1,14 @@
 use Rattle.std.specs.Prelude.{List, Option, map}
-use Rattle.cedar_schema_elements.specs.declared.action_id.ValidatorActionId.{ValidatorActionId}
-use Rattle.cedar_below.specs.Words.{PlainName, PlainUid, name_cmp, type_name, uid_cmp, uid_of}
-use Rattle.cedar_below.specs.declared.entity_type.EntityType.{EntityType}
-use Rattle.cedar_below.specs.declared.entity_uid.EntityUID.{EntityUID}
-use Rattle.cedar_declarations.specs.PlainSchema.{PlainSchema}
-use Rattle.cedar_schema_elements.specs.Words.{plain_entry, schema_listing}
-use Rattle.cedar_table.specs.Entries.{get_by}
-use Rattle.cedar_schema_elements.specs.declared.entity_type.ValidatorEntityType.{ValidatorEntityType}
+use Rattle.cedar_ast.specs.Words.{PlainName, PlainUid, name_cmp, type_name, uid_cmp, uid_of}
+use Rattle.cedar_ast.specs.declared.entity_type.EntityType.{EntityType}
+use Rattle.cedar_ast.specs.declared.entity_uid.EntityUID.{EntityUID}
 use Rattle.cedar_schema.specs.declared.collecting.Located.{Located}
 use Rattle.cedar_schema.specs.declared.schema.ValidatorSchema.{ValidatorSchema}
+use Rattle.cedar_schema_elements.specs.Words.{plain_entry, schema_listing}
+use Rattle.cedar_schema_elements.specs.declared.action_id.ValidatorActionId.{ValidatorActionId}
+use Rattle.cedar_schema_elements.specs.declared.entity_type.ValidatorEntityType.{ValidatorEntityType}
+use Rattle.cedar_schema_semantics.specs.PlainSchema.{PlainSchema}
+use Rattle.cedar_table.specs.Entries.{get_by}
 
 -- the entity types of a schema, each under its name, in the order of the names
 abbrev pub schema_entries : ValidatorSchema → List (EntityType × ValidatorEntityType)

@@ -2,19 +2,21 @@
 
 ghost use Rattle.std.specs.Prelude.{◌≡◌, ◌⊎◌, IfErr, IfOk, List, OnOk};
 ghost use Rattle.std.specs.Result.{result_map_both};
-ghost use Rattle.cedar_schema.specs.Words.{AreKeysLocated, AreShown, AreTakenOver, Collects, IsBuiltFrom, IsDeclaredSchema, IsFault, IsIllFormed, IsNamedOver, TypeNamesFit, ValidatorSchemaFragment as Fragment, extension_types, fault_of, held_names, out_of_memory, parts_schema, written_bag, written_common};
+ghost use Rattle.cedar_schema.specs.Words.{AreKeysLocated, AreShown, AreCollectedFragments, Collects, IsBuiltFrom, IsDeclaredSchema, IsFault, IsIllFormed, IsNamedOver, TypeNamesFit, ValidatorSchemaFragment as Fragment, extension_types, fault_of, held_names, out_of_memory, parts_schema, written_bag, written_common};
 
+use crate::collected_fragments::CollectedFragments;
 use crate::collecting::Located;
 use crate::shared::Shared;
-use crate::taking_over::TakenOver;
-use cedar_below::{EntityType, EntityUID, Extensions};
+use cedar_ast::{EntityType, EntityUID, Extensions};
 use cedar_builder::{actions, entity_types};
-use cedar_declarations::SchemaError;
 use cedar_elaboration::{SharedTypes, TypeScope, defined_common_types};
 use cedar_fragments::defs::{AllDefs, WrittenName};
 use cedar_fragments::namespace::ValidatorSchemaFragment;
-use cedar_resolution::{Declarations, DeclaredCommonType, DefinedNames, Gathered, defined_names};
+use cedar_resolution::{
+    CollectedDeclarations, Declarations, DeclaredCommonType, DefinedNames, defined_names,
+};
 use cedar_schema_elements::{ValidatorActionId, ValidatorEntityType};
+use cedar_schema_semantics::SchemaError;
 use cedar_table::Table;
 use std::alloc::Global;
 
@@ -90,22 +92,23 @@ fn build_named<N: WrittenName + Drop>(
 ///
 /// It is refused exactly where the bag of their declarations is ill-formed, with a fault of it by
 /// name, or where memory runs out.
-pub(crate) fn build_taken_over<N: WrittenName + Drop>(
+pub(crate) fn build_collected<N: WrittenName + Drop>(
     alloc: Global,
-    taken: TakenOver<N>,
+    taken: CollectedFragments<N>,
     extensions: &Extensions,
 ) -> Result<SchemaParts, SchemaError>
     requires { TypeNamesFit (extension_types extensions.now) }
-    ensures built { (fragments : List (Fragment N N)) → AreTakenOver N N.refer fragments taken
+    ensures built { (fragments : List (Fragment N N))
+        → AreCollectedFragments N N.refer fragments taken
         → IsBuiltFrom (written_bag N N.refer fragments) extensions.now
         (result_map_both parts_schema fault_of result) }
     ensures located { IfOk result (λ parts. (fragments : List (Fragment N N))
-        → AreTakenOver N N.refer fragments taken → AreShown N N fragments parts.located) }
+        → AreCollectedFragments N N.refer fragments taken → AreShown N N fragments parts.located) }
     ensures keys { IfOk result (λ parts.
         AreKeysLocated parts.entity_types.entries parts.actions.entries) }
 {
-    let TakenOver { located, gathered } = taken;
-    let Gathered {
+    let CollectedFragments { located, gathered } = taken;
+    let CollectedDeclarations {
         names,
         declarations,
     } = gathered;
@@ -133,9 +136,9 @@ pub(crate) fn build<N: WrittenName + Drop>(
     ensures keys { IfOk result (λ parts.
         AreKeysLocated parts.entity_types.entries parts.actions.entries) }
 {
-    let mut taken = TakenOver::with_room(alloc, fragments.len())?;
+    let mut taken = CollectedFragments::with_room(alloc, fragments.len())?;
     for fragment in fragments {
         taken = taken.with(alloc, fragment)?;
     }
-    build_taken_over(alloc, taken, extensions)
+    build_collected(alloc, taken, extensions)
 }

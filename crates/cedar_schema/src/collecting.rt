@@ -9,7 +9,7 @@ use crate::located_common_type::LocatedCommonType;
 use crate::located_namespace::LocatedNamespace;
 use crate::namespaces::{NamespacesByName, built_in_namespaces};
 use crate::{common_types, namespaces};
-use cedar_below::{InternalName, M, copied_entries, copied_items};
+use cedar_ast::{InternalName, M, copied_entries, copied_items};
 use cedar_fragments::namespace::ValidatorSchemaFragment;
 use std::alloc::Global;
 use std::collections::BTreeMap;

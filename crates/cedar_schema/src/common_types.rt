@@ -7,7 +7,7 @@ ghost use Rattle.cedar_schema.specs.Words.{common_types_to_show, definition_comm
 
 use crate::located_common_type::LocatedCommonType;
 use crate::type_locations::type_loc;
-use cedar_below::{InternalName, M};
+use cedar_ast::{InternalName, M};
 use cedar_fragments::namespace::{CommonTypeDef, ValidatorNamespaceDef};
 use std::alloc::Global;
 

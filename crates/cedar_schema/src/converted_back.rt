@@ -1,7 +1,7 @@
 //! A schema converted back as a fragment.
 
 use crate::schema::ValidatorSchema;
-use cedar_names::json_schema::{Fragment, RawName};
+use cedar_schema_ast::json_schema::{Fragment, RawName};
 use cedar_schema_writer::{WriteBackFault, json_schema};
 use std::alloc::Global;
 

@@ -5,7 +5,7 @@ ghost use Rattle.std.specs.Iterator.{at_most};
 ghost use Rattle.std.specs.Map.Iter.{TakesFirst, TakesLast, deref};
 
 use crate::located_namespace::LocatedNamespace;
-use cedar_below::{EntityType, EntityUID, InternalName};
+use cedar_ast::{EntityType, EntityUID, InternalName};
 use cedar_schema_elements::{ValidatorActionId, ValidatorEntityType};
 use cedar_table::{Keys, Values};
 use std::collections::btree_map;

@@ -25,18 +25,18 @@
 #![tactic(auto)]
 
 pub use cedar_counterexample as member;
-pub use cedar_declarations::{ContextOrShape, SchemaError, UnsupportedFeature};
 pub use cedar_fragments::{defs, namespace};
 pub use cedar_graph::{TCNode, TcError, compute_tc, compute_tc_counted};
-pub use cedar_names::{below, json_schema};
 pub use cedar_queries::{
     ActionGroups, ActionsFor, Ancestors, ApplicableTypes, CompleteError, IncompleteSchemaError,
     RequestEnvs, TypeIterator, UnresolvedDeclaration, UnresolvedDeclarations,
 };
+pub use cedar_schema_ast::{below, json_schema};
 pub use cedar_schema_elements::{
     RequestEnv, RequestTypes, StandardValidatorEntityType, TypeSet, UnlinkedRequestEnv,
     ValidatorActionId, ValidatorApplySpec, ValidatorEntityType, ValidatorEntityTypeKind,
 };
+pub use cedar_schema_semantics::{ContextOrShape, SchemaError, UnsupportedFeature};
 pub use cedar_schema_writer::WriteBackFault;
 pub use cedar_types::{
     AttributeType, Attributes, BoolType, CoreTypeFault, EntityKind, EntityLUB, Entries, JoinError,
@@ -50,6 +50,7 @@ pub use schema::ValidatorSchema;
 
 pub mod action;
 mod building;
+mod collected_fragments;
 mod collecting;
 mod common_types;
 mod converted_back;
@@ -67,7 +68,6 @@ mod raw;
 pub mod schema;
 mod shared;
 pub mod show;
-mod taking_over;
 pub mod theorems;
 mod type_locations;
 pub mod types;

@@ -4,7 +4,7 @@ ghost use Rattle.std.specs.Prelude.{◌≡◌, IfOk, string_bytes};
 ghost use Rattle.cedar_schema.specs.Words.{loc_at, name_loc, name_of};
 
 use crate::located_type::LocatedType;
-use cedar_below::{InternalName, Loc, M};
+use cedar_ast::{InternalName, Loc, M};
 use std::alloc::Global;
 
 /// A common type that a schema declares, and where. Equality and hash ignore the locations.

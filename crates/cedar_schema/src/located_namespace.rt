@@ -3,7 +3,7 @@
 ghost use Rattle.std.specs.Prelude.{◌≡◌, IfOk};
 ghost use Rattle.cedar_schema.specs.ShownNamespaces.{shown_namespace};
 
-use cedar_below::{Loc, M};
+use cedar_ast::{Loc, M};
 
 /// A namespace that a schema has, and where it was defined. Equality and hash ignore the locations.
 #[derive(Drop)]

@@ -3,7 +3,7 @@
 ghost use Rattle.std.specs.Prelude.{◌≡◌, IfOk, None};
 ghost use Rattle.cedar_schema.specs.Words.{loc_at, ty_of, type_at};
 
-use cedar_below::{Loc, M};
+use cedar_ast::{Loc, M};
 use cedar_types::Type;
 
 /// A type with where it was written, if that is known. Equality compares the location too.

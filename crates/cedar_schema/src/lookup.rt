@@ -5,7 +5,7 @@ ghost use Rattle.std.specs.Option.{option_map};
 ghost use Rattle.cedar_schema.specs.Words.{AreAttributesOf, AreDeclaredTypes, Fields, IsKnownUid, MayHaveAttribute, MayHaveTags, Ty, attribute_of, field_at, fields_of, kind_ty, schema_of, ty_of, uid_of, union_of};
 
 use crate::schema::ValidatorSchema;
-use cedar_below::{EntityUID, M};
+use cedar_ast::{EntityUID, M};
 use cedar_types::{AttributeType, Attributes, EntityKind, Type};
 use std::alloc::Global;
 

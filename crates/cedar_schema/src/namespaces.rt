@@ -5,7 +5,7 @@ ghost use Rattle.std.specs.List.{flat_map};
 ghost use Rattle.cedar_schema.specs.Words.{DefinedNamespace, HoldsNamespaces, built_in_namespace, definition_namespaces, name_loc, name_of, name_text, reserved_word, shown_namespace};
 
 use crate::located_namespace::LocatedNamespace;
-use cedar_below::{Id, InternalName, Loc, M};
+use cedar_ast::{Id, InternalName, Loc, M};
 use cedar_fragments::namespace::ValidatorNamespaceDef;
 use std::alloc::Global;
 use std::collections::BTreeMap;

@@ -2,7 +2,7 @@
 
 use crate::iterators::{ActionIds, Actions, EntityTypeNames, EntityTypes};
 use crate::schema::ValidatorSchema;
-use cedar_below::{Entities, EntityType, EntityUID, Extensions, M, ValidationMode};
+use cedar_ast::{Entities, EntityType, EntityUID, Extensions, M, ValidationMode};
 use cedar_queries::{
     ActionGroups, ActionsFor, Ancestors, ApplicableTypes, CompleteError, RequestEnvs, TypeIterator,
     UnresolvedDeclarations,
@@ -239,14 +239,19 @@ impl ValidatorSchema {
     /// Whether entities of some of the one types may be among or below those of some of the others:
     /// one of the first is one of the second, or a descendant of it, or the type of a descendant of
     /// an action of it.
-    pub fn any_descendent_of(&self, lowers: &[EntityType], uppers: &[EntityType]) -> bool
+    pub fn any_descendent_of(&self, lowers: &[EntityType], ancestors: &[EntityType]) -> bool
         ensures { IsTrue result ↔ Any (λ lower.
             Any (λ upper. MayBeIn (schema_of self.now).entity_types
             (schema_of self.now).actions (type_name lower)
-            (type_name upper)) uppers.now) lowers.now }
+            (type_name upper)) ancestors.now) lowers.now }
     {
         let content = self.content();
-        cedar_queries::any_descendent_of(&content.entity_types, &content.action_ids, lowers, uppers)
+        cedar_queries::any_descendent_of(
+            &content.entity_types,
+            &content.action_ids,
+            lowers,
+            ancestors,
+        )
     }
 
     /// What is declared to be elsewhere (RFC 116): the external entity types in order, and then the

@@ -4,12 +4,12 @@ ghost use Rattle.std.specs.Prelude.{IfErr, IfOk};
 ghost use Rattle.std.specs.Result.{result_map_both};
 ghost use Rattle.cedar_schema.specs.Words.{AreKeysLocated, IsBuiltFrom, NamesAllOfADefinition, ShowsWritten, TypeNamesFit, extension_types, fault_of, parts_schema, raw_bag};
 
-use crate::building::{SchemaParts, build_taken_over};
-use crate::taking_over::TakenOver;
-use cedar_below::Extensions;
-use cedar_declarations::SchemaError;
+use crate::building::{SchemaParts, build_collected};
+use crate::collected_fragments::CollectedFragments;
+use cedar_ast::Extensions;
 use cedar_fragments::namespace::{UnqualifiedActionType, ValidatorSchemaFragment};
-use cedar_names::json_schema::{Fragment, RawName};
+use cedar_schema_ast::json_schema::{Fragment, RawName};
+use cedar_schema_semantics::SchemaError;
 use std::alloc::Global;
 
 /// What fragments declare over some extensions, whose names of extension types have to fit, as
@@ -33,10 +33,10 @@ pub(crate) fn build_raw(
         AreKeysLocated parts.entity_types.entries parts.actions.entries) }
 {
     let unqualified = UnqualifiedActionType::new(alloc)?;
-    let mut taken = TakenOver::with_room(alloc, fragments.len())?;
+    let mut taken = CollectedFragments::with_room(alloc, fragments.len())?;
     for fragment in fragments {
         let written = ValidatorSchemaFragment::as_written(alloc, fragment, &unqualified)?;
         taken = taken.with(alloc, written)?;
     }
-    build_taken_over(alloc, taken, extensions)
+    build_collected(alloc, taken, extensions)
 }

@@ -2,11 +2,11 @@
 
 ghost use Rattle.std.specs.Prelude.{◌≡◌, ◌⊎◌, IfErr, IfOk, List, OnOk, map};
 ghost use Rattle.cedar_schema_elements.specs.ValidatorActionId as action;
-ghost use Rattle.cedar_declarations.specs.Words.{ActionEntity, AreEnvironmentsOf, ClosesSchema, IsSchemaFault, IsValidSchema, fault_of, out_of_memory};
+ghost use Rattle.cedar_schema_semantics.specs.Words.{ActionEntity, AreEnvironmentsOf, ClosesSchema, IsSchemaFault, IsValidSchema, fault_of, out_of_memory};
 ghost use Rattle.cedar_validation.specs.Words.{plain_schema, whole_schema};
 ghost use Rattle.cedar_schema_elements.specs.Words.{owned_environment, plain_entry, schema_listing};
 ghost use Rattle.cedar_schema_elements.specs.ValidatorEntityType as types;
-ghost use Rattle.cedar_declaration_laws.specs.EndToEnd.{IsInOrder, StandsUnderItsNames};
+ghost use Rattle.cedar_schema_laws.specs.EndToEnd.{IsInOrder, StandsUnderItsNames};
 
 use crate::building::{SchemaParts, build};
 use crate::collecting::Located;
@@ -15,16 +15,16 @@ pub use crate::located_namespace::LocatedNamespace;
 pub use crate::located_type::LocatedType;
 use crate::raw::build_raw;
 use crate::shared::Shared;
-use cedar_below::{EntityType, EntityUID, Extensions, M};
-pub use cedar_declarations::{ContextOrShape, SchemaError, UnsupportedFeature};
+use cedar_ast::{EntityType, EntityUID, Extensions, M};
 use cedar_fragments::namespace::ValidatorSchemaFragment;
-use cedar_names::json_schema::{ConditionalName, Fragment, NamespaceDefinition, RawName};
 pub use cedar_queries::{
     CompleteError, IncompleteSchemaError, TypeIterator, UnresolvedDeclaration,
 };
+use cedar_schema_ast::json_schema::{ConditionalName, Fragment, NamespaceDefinition, RawName};
 use cedar_schema_elements::{
     UnlinkedRequestEnv, ValidatorActionId, ValidatorEntityType, environments,
 };
+pub use cedar_schema_semantics::{ContextOrShape, SchemaError, UnsupportedFeature};
 pub use cedar_schema_writer::WriteBackFault;
 use cedar_table::Table;
 use cedar_validation::{
@@ -114,8 +114,8 @@ impl ValidatorSchema {
     ghost use Rattle.std.specs.Iterator.{IsFiniteIterable};
     ghost use Rattle.std.specs.Result.{result_map_both};
     ghost use Rattle.cedar_schema.specs.Words.{AreKeysLocated, ClosesSchema, HoldsOfAll, HoldsPairwise, IsActionCopied, IsBuiltFrom, IsSchemaFault, IsTypeCopied, IsValidSchema, NamesAllOfADefinition, NamesAllWithAttributes, SameSchema, Shows, ShowsFragments, ShowsWritten, TypeNamesFit, action_entries, action_of_uid, common_entries, conditional_bag, entity_type_named, extension_types, fault_of, last_named, last_of_uid, located_of, namespace_entries, out_of_memory, parts_schema, raw_bag, raw_declarations, raw_fragment, schema_entries, schema_of, shown_common_type, shown_entry, type_name, uid_of, written_common_names};
-    ghost use Rattle.cedar_below.specs.declared.entity_type.EntityType.{EntityType as Name};
-    ghost use Rattle.cedar_below.specs.declared.entity_uid.EntityUID.{EntityUID as Uid};
+    ghost use Rattle.cedar_ast.specs.declared.entity_type.EntityType.{EntityType as Name};
+    ghost use Rattle.cedar_ast.specs.declared.entity_uid.EntityUID.{EntityUID as Uid};
 
     /// The schema that declares nothing.
     pub fn empty(alloc: Global) -> Self

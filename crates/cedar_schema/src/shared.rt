@@ -2,7 +2,7 @@
 
 ghost use Rattle.std.specs.Prelude.{◌≡◌, IfErr, IfOk, IfSome};
 
-use cedar_below::M;
+use cedar_ast::M;
 use std::alloc::Global;
 use std::fmt;
 use std::marker::Model;

@@ -3,8 +3,8 @@
 ghost use Rattle.std.specs.Prelude.{◌≡◌};
 ghost use Rattle.cedar_schema.specs.TypeLocations.{location_of_type, location_of_variant};
 
-use cedar_below::Loc;
-use cedar_names::json_schema::{Type, TypeVariant};
+use cedar_ast::Loc;
+use cedar_schema_ast::json_schema::{Type, TypeVariant};
 
 /// Where a type was written, if that is known: a set where its element was, all else where it was
 /// itself.

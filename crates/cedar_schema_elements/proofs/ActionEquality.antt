@@ -3,23 +3,23 @@ use Rattle.std.proofs.Common.{◌≡◌, ◌&&◌, refl}
 use Rattle.std.proofs.lemmas.Bool.Decides.{Decides-and, Decides-like}
 use Rattle.std.specs.Bool.{Decides}
 use Rattle.std.specs.HashSet.{hash_set_eq}
-use Rattle.cedar_below.proofs.Names.{entity_type_eq-same}
-use Rattle.cedar_below.proofs.Uids.{entity_uid_eq-same}
-use Rattle.cedar_schema_elements.specs.Words.{ActionKind, ConditionalName, EntityType, SameActionKind, SameItems, ValidatorActionId, ValidatorActionKind, ValidatorApplySpec, action_of, conditional_reference, defined_action, external_action, principal_names, principal_references, resource_names, resource_references, type_name, uid_of}
-use Rattle.cedar_below.specs.contracts.entity_type.EntityTypeEq.TheImpl as entity_type_equal
-use Rattle.cedar_below.specs.contracts.entity_type.EntityTypePartialEq.TheImpl as entity_type_eq
-use Rattle.cedar_below.specs.contracts.entity_uid.EntityUIDEq.TheImpl as uid_equal
-use Rattle.cedar_below.specs.contracts.entity_uid.EntityUIDPartialEq.TheImpl as uid_eq
-use Rattle.cedar_names.specs.contracts.json_schema.conditional_name.ConditionalNameEq.TheImpl as reference_equal
-use Rattle.cedar_names.specs.contracts.json_schema.conditional_name.ConditionalNamePartialEq.TheImpl as reference_eq
-use Rattle.cedar_types.proofs.EqualityLaws.{none, types-Decides}
+use Rattle.cedar_ast.proofs.Names.{entity_type_eq-same}
+use Rattle.cedar_ast.proofs.Uids.{entity_uid_eq-same}
+use Rattle.cedar_ast.specs.contracts.entity_type.EntityTypeEq.TheImpl as entity_type_equal
+use Rattle.cedar_ast.specs.contracts.entity_type.EntityTypePartialEq.TheImpl as entity_type_eq
+use Rattle.cedar_ast.specs.contracts.entity_uid.EntityUIDEq.TheImpl as uid_equal
+use Rattle.cedar_ast.specs.contracts.entity_uid.EntityUIDPartialEq.TheImpl as uid_eq
+use Rattle.cedar_schema_ast.specs.contracts.json_schema.conditional_name.ConditionalNameEq.TheImpl as reference_equal
+use Rattle.cedar_schema_ast.specs.contracts.json_schema.conditional_name.ConditionalNamePartialEq.TheImpl as reference_eq
 use Rattle.cedar_schema_elements.proofs.SetLemmas.{reference-Decides, sets-Decides}
 use Rattle.cedar_schema_elements.proofs.TypeSetLemmas.{type_sets-Decides}
 use Rattle.cedar_schema_elements.specs.ActionKind.{plain_kind}
 use Rattle.cedar_schema_elements.specs.ValidatorActionId.{parts_of}
+use Rattle.cedar_schema_elements.specs.Words.{ActionKind, ConditionalName, EntityType, SameActionKind, SameItems, ValidatorActionId, ValidatorActionKind, ValidatorApplySpec, action_of, conditional_reference, defined_action, external_action, principal_names, principal_references, resource_names, resource_references, type_name, uid_of}
 use Rattle.cedar_schema_elements.specs.contracts.action_id.ValidatorActionIdPartialEq.TheImpl as action_eq
 use Rattle.cedar_schema_elements.specs.contracts.action_kind.ValidatorActionKindPartialEq.TheImpl as kind_eq
 use Rattle.cedar_schema_elements.specs.declared.action_kind.ValidatorActionKind.TheVariants as variant
+use Rattle.cedar_types.proofs.EqualityLaws.{none, types-Decides}
 
 -- apply specs are equal exactly where they have the same principals and resources
 pub apply_specs-Decides : (a b : ValidatorApplySpec EntityType)

@@ -10,12 +10,12 @@ use Rattle.std.specs.List.Sorted.{IsStrictlySortedBy}
 use Rattle.std.specs.Ordering.{is_eq}
 use Rattle.std.specs.declared.alloc.Global.{Global}
 use Rattle.std.specs.declared.string.String.{String}
-use Rattle.cedar_schema_elements.specs.Words.{ActionEntity, ActionKind, AreActionEntities, Entities, Entity, EntityUID, HasNode, IsDefinedKind, IsEntityOf, IsEntityOfAction, IsUpper, Lists, ListsBelow, PlainName, PlainUid, SchemaAction, SchemaEntityType, Twice, ValidatorActionId, Value, action_of, defined_action, entities_of, entity_at, entity_uid, entries_from, external_action, named_values, no_entry, plain_action_entity, plain_action_entry, schema_with, tree_of, uid_cmp, uid_of, upper_set, value_expr}
-use Rattle.cedar_below.proofs.Lists.{Contains-cons, Contains-cons_cases, Contains-preimage}
-use Rattle.cedar_below.proofs.PlainNames.{uid_cmp-total}
-use Rattle.cedar_declarations.proofs.OccurrenceLemmas.{Contains-image, Twice-sorted_by_name, uid_test}
+use Rattle.cedar_ast.proofs.Lists.{Contains-cons, Contains-cons_cases, Contains-preimage}
+use Rattle.cedar_ast.proofs.PlainNames.{uid_cmp-total}
+use Rattle.cedar_schema_elements.proofs.AncestorLemmas.{node_more, node_plain}
 use Rattle.cedar_schema_elements.proofs.KeyLemmas.{cmp, under}
-use Rattle.cedar_schema_elements.proofs.UpperLemmas.{node_more, node_plain}
+use Rattle.cedar_schema_elements.specs.Words.{ActionEntity, ActionKind, AreActionEntities, Entities, Entity, EntityUID, HasNode, IsDefinedKind, IsEntityOf, IsEntityOfAction, IsAncestor, Lists, ListsBelow, PlainName, PlainUid, SchemaAction, SchemaEntityType, Twice, ValidatorActionId, Value, action_of, defined_action, entities_of, entity_at, entity_uid, entries_from, external_action, named_values, no_entry, plain_action_entity, plain_action_entry, schema_with, tree_of, uid_cmp, uid_of, upper_set, value_expr}
+use Rattle.cedar_schema_semantics.proofs.OccurrenceLemmas.{Contains-image, Twice-sorted_by_name, uid_test}
 
 abbrev Item : Type 0
 Item = EntityUID × ValidatorActionId
@@ -44,19 +44,19 @@ plain_lists actions lower upper =
     (λ (it : SchemaAction). Contains it.descendants lower) (λ entry. refl) (λ entry. (λ is. is, λ is. is)) actions upper
 
 -- those above actions that are left are still there
-pub record UppersLeft (all : List Item) (uppers : BTreeMap EntityUID (BTreeSet EntityUID)) (left : List Item) : Type 0 where
+pub record AncestorsLeft (all : List Item) (ancestors : BTreeMap EntityUID (BTreeSet EntityUID)) (left : List Item) : Type 0 where
   pub distinct : (uid : PlainUid) → ¬ Twice (map under (map plain_action_entry left)) uid
   pub still : (key : EntityUID) → Contains (map under (map plain_action_entry left)) (uid_of key) → (above : PlainUid)
-      → IsUpper cmp uid_of uppers key above ↔ Lists all (uid_of key) above
+      → IsAncestor cmp uid_of ancestors key above ↔ Lists all (uid_of key) above
 
 module _ (all : List Item) where
   -- at first all are
-  pub left_all : (left : List Item) (uppers : BTreeMap EntityUID (BTreeSet EntityUID)) → left ≡ all
+  pub left_all : (left : List Item) (ancestors : BTreeMap EntityUID (BTreeSet EntityUID)) → left ≡ all
       → ((uid : PlainUid) → ¬ Twice (map under (map plain_action_entry all)) uid)
-      → ((key : EntityUID) (above : PlainUid) → IsUpper cmp uid_of uppers key above
+      → ((key : EntityUID) (above : PlainUid) → IsAncestor cmp uid_of ancestors key above
       ↔ ListsBelow uid_of (λ (it : ValidatorActionId). (action_of it).descendants) all (uid_of key) above)
-      → UppersLeft all uppers left
-  left_all left uppers same distinct stands = record {
+      → AncestorsLeft all ancestors left
+  left_all left ancestors same distinct stands = record {
     distinct = rw same distinct;
     still = λ key among above.
         let lists = plain_lists all (uid_of key) above in (
@@ -65,18 +65,18 @@ module _ (all : List Item) where
         );
   }
 
-  module _ (left rest : List Item) (uppers : BTreeMap EntityUID (BTreeSet EntityUID)) (key : EntityUID) (it : ValidatorActionId)
-      (is : left ≡ (key, it) ∷ rest) (so_far : UppersLeft all uppers left) where
+  module _ (left rest : List Item) (ancestors : BTreeMap EntityUID (BTreeSet EntityUID)) (key : EntityUID) (it : ValidatorActionId)
+      (is : left ≡ (key, it) ∷ rest) (so_far : AncestorsLeft all ancestors left) where
     -- those above the next one are
-    pub left_here : (above : PlainUid) → IsUpper cmp uid_of uppers key above ↔ Lists all (uid_of key) above
+    pub left_here : (above : PlainUid) → IsAncestor cmp uid_of ancestors key above ↔ Lists all (uid_of key) above
     left_here =
         so_far.still key
         (rw is (Contains-cons (uid_of key) (map under (map plain_action_entry rest)) (uid_of key) (inl refl)))
 
     -- where only these are taken out, the others are
     pub left_rest : (new : BTreeMap EntityUID (BTreeSet EntityUID))
-        → ((other : EntityUID) → uid_of other ≢ uid_of key → upper_set cmp new other ≡ upper_set cmp uppers other)
-        → UppersLeft all new rest
+        → ((other : EntityUID) → uid_of other ≢ uid_of key → upper_set cmp new other ≡ upper_set cmp ancestors other)
+        → AncestorsLeft all new rest
     left_rest new others = record {
       distinct = λ uid twice. distinct_here uid (inr twice);
       still = λ other among above.

@@ -4,18 +4,18 @@ use Rattle.std.proofs.lemmas.Bool.Decides.{Decides-and, Decides-like}
 use Rattle.std.specs.Bool.{Decides}
 use Rattle.std.specs.Cmp.Lexicographic.{pointwise}
 use Rattle.std.specs.Option.{option_eq, option_map}
-use Rattle.cedar_below.proofs.Names.{entity_type_eq-same}
-use Rattle.cedar_below.proofs.Texts.{text_eq-Decides}
-use Rattle.cedar_schema_elements.specs.Words.{Eid, PlainEntityType, SameItems, StandardValidatorEntityType, «Type», ValidatorEntityType, ValidatorEntityTypeKind, descendant_names, eid_text, entity_type_of, enumerated_kind, kind_fields, kind_openness, kind_tags, plain_kind, plain_standard, standard_kind, ty_of, type_name}
-use Rattle.cedar_below.specs.contracts.entity_type.EntityTypeEq.TheImpl as entity_type_equal
-use Rattle.cedar_below.specs.contracts.entity_type.EntityTypePartialEq.TheImpl as name_eq
-use Rattle.cedar_types.proofs.EqualityLaws.{none, types-Decides, attributes-Decides, open_tag-Decides}
+use Rattle.cedar_ast.proofs.Names.{entity_type_eq-same}
+use Rattle.cedar_ast.proofs.Texts.{text_eq-Decides}
+use Rattle.cedar_ast.specs.contracts.entity_type.EntityTypeEq.TheImpl as entity_type_equal
+use Rattle.cedar_ast.specs.contracts.entity_type.EntityTypePartialEq.TheImpl as name_eq
 use Rattle.cedar_schema_elements.proofs.SetLemmas.{sets-Decides}
+use Rattle.cedar_schema_elements.specs.Words.{Eid, PlainEntityType, SameItems, StandardValidatorEntityType, «Type», ValidatorEntityType, ValidatorEntityTypeKind, descendant_names, eid_text, entity_type_of, enumerated_kind, kind_fields, kind_openness, kind_tags, plain_kind, plain_standard, standard_kind, ty_of, type_name}
 use Rattle.cedar_schema_elements.specs.contracts.entity_type.ValidatorEntityTypePartialEq.TheImpl as entity_type_eq
 use Rattle.cedar_schema_elements.specs.contracts.entity_type_kind.StandardValidatorEntityTypePartialEq.TheImpl as standard_eq
 use Rattle.cedar_schema_elements.specs.contracts.entity_type_kind.ValidatorEntityTypeKindPartialEq.TheImpl as kind_eq
-use Rattle.cedar_types.specs.contracts.types.TypePartialEq.TheImpl as type_eq
 use Rattle.cedar_schema_elements.specs.declared.entity_type_kind.ValidatorEntityTypeKind.TheVariants as variant
+use Rattle.cedar_types.proofs.EqualityLaws.{none, types-Decides, attributes-Decides, open_tag-Decides}
+use Rattle.cedar_types.specs.contracts.types.TypePartialEq.TheImpl as type_eq
 
 -- types that may be missing are equal exactly where they stand for the same
 tags-Decides : (a b : Option «Type») → Decides (option_eq (type_eq.ghosts).eq a b) (option_map ty_of a ≡ option_map ty_of b)

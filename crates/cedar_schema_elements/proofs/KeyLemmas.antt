@@ -4,14 +4,14 @@ use Rattle.std.specs.Cmp.{IsTotalOrder}
 use Rattle.std.specs.List.Sorted.{IsStrictlySortedBy}
 use Rattle.std.specs.Map.{keys_of}
 use Rattle.std.specs.declared.cmp.Ordering.{Ordering}
-use Rattle.cedar_below.proofs.Names.{entity_type_ord-name_cmp}
-use Rattle.cedar_below.proofs.Ordered.{IsStrictlySortedBy-map}
-use Rattle.cedar_below.proofs.PlainNames.{name_cmp-total, uid_cmp-total}
-use Rattle.cedar_below.proofs.Uids.{entity_uid_ord-uid_cmp}
+use Rattle.cedar_ast.proofs.Names.{entity_type_ord-name_cmp}
+use Rattle.cedar_ast.proofs.Ordered.{IsStrictlySortedBy-map}
+use Rattle.cedar_ast.proofs.PlainNames.{name_cmp-total, uid_cmp-total}
+use Rattle.cedar_ast.proofs.Uids.{entity_uid_ord-uid_cmp}
+use Rattle.cedar_ast.specs.contracts.entity_type.EntityTypeOrd.TheImpl as type_ord
+use Rattle.cedar_ast.specs.contracts.entity_uid.EntityUIDOrd.TheImpl as uid_ord
 use Rattle.cedar_schema_elements.specs.Words.{EntityType, EntityUID, PlainName, PlainUid, SchemaAction, SchemaEntityType, Twice, ValidatorActionId, ValidatorEntityType, name_cmp, plain_action_entry, plain_entry, type_name, uid_cmp, uid_of}
-use Rattle.cedar_below.specs.contracts.entity_type.EntityTypeOrd.TheImpl as type_ord
-use Rattle.cedar_below.specs.contracts.entity_uid.EntityUIDOrd.TheImpl as uid_ord
-use Rattle.cedar_declarations.proofs.OccurrenceLemmas.{Twice-sorted_by_name}
+use Rattle.cedar_schema_semantics.proofs.OccurrenceLemmas.{Twice-sorted_by_name}
 
 -- the order of uids in sets and maps
 abbrev pub cmp : EntityUID → EntityUID → Ordering

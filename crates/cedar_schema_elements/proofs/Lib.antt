@@ -1,4 +1,5 @@
 pub mod ActionEquality
+pub mod AncestorLemmas
 mod EntityLemmas
 pub mod EntityTypeEquality
 mod EnvironmentLemmas
@@ -8,4 +9,3 @@ pub mod ListedEntities
 pub mod NamedTypes
 pub mod SetLemmas
 pub mod TypeSetLemmas
-pub mod UpperLemmas

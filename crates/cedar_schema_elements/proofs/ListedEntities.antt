@@ -7,12 +7,12 @@ use Rattle.std.specs.List.Sorted.{IsStrictlySortedBy}
 use Rattle.std.specs.Map.{keys_of}
 use Rattle.std.specs.Ordering.{is_eq}
 use Rattle.std.specs.declared.cmp.Ordering.TheVariants.{Less}
-use Rattle.cedar_schema_elements.specs.Words.{ActionEntity, ActionKind, AreActionEntities, EntityUID, IsDefinedKind, IsEntityOfAction, PlainName, PlainUid, SchemaAction, SchemaEntityType, ValidatorActionId, defined_action, external_action, listed_entities, no_entry, plain_action_entry, schema_listing, uid_cmp, uid_of}
-use Rattle.cedar_below.proofs.Ordered.{IsStrictlySortedBy-map}
-use Rattle.cedar_below.proofs.Uids.{entity_uid_ord-uid_cmp}
-use Rattle.cedar_declarations.proofs.OccurrenceLemmas.{Contains-flat_map, Contains-given, Contains-image, Contains-single, any_of, some_of, uid_test}
-use Rattle.cedar_schema_elements.specs.ActionEntities.{entity_if_defined, listed_uppers}
+use Rattle.cedar_ast.proofs.Ordered.{IsStrictlySortedBy-map}
+use Rattle.cedar_ast.proofs.Uids.{entity_uid_ord-uid_cmp}
 use Rattle.cedar_schema_elements.proofs.KeyLemmas.{cmp}
+use Rattle.cedar_schema_elements.specs.ActionEntities.{entity_if_defined, listed_ancestors}
+use Rattle.cedar_schema_elements.specs.Words.{ActionEntity, ActionKind, AreActionEntities, EntityUID, IsDefinedKind, IsEntityOfAction, PlainName, PlainUid, SchemaAction, SchemaEntityType, ValidatorActionId, defined_action, external_action, listed_entities, no_entry, plain_action_entry, schema_listing, uid_cmp, uid_of}
+use Rattle.cedar_schema_semantics.proofs.OccurrenceLemmas.{Contains-flat_map, Contains-given, Contains-image, Contains-single, any_of, some_of, uid_test}
 
 -- an action whose descendants are tested gives its uid where one passes
 given_if : (b : Bool) (uid upper : PlainUid) → Contains (if b then uid ∷ [] else []) upper → (b ≡ true) × (uid ≡ upper)
@@ -39,9 +39,9 @@ module _ (actions : List (PlainUid × SchemaAction)) where
   lists lower it = list_any (λ below. is_eq (uid_cmp below lower)) it.descendants
 
   -- those that list an action are just its listed uppers
-  uppers_are : (lower upper : PlainUid) → Contains (listed_uppers actions lower) upper
+  ancestors_are : (lower upper : PlainUid) → Contains (listed_ancestors actions lower) upper
       ↔ ((it : SchemaAction) × Contains actions (upper, it) × Contains it.descendants lower)
-  uppers_are lower upper = (
+  ancestors_are lower upper = (
     λ among.
         let from = Contains-flat_map (λ (it : PlainUid × SchemaAction). if lists lower it.1 then it.0 ∷ [] else []) actions upper among in
         let given = given_if (lists lower from.0.1) from.0.0 upper from.2 in
@@ -59,7 +59,7 @@ module _ (actions : List (PlainUid × SchemaAction)) where
 
   -- the entity of the action of a uid
   abbrev entity_of : PlainUid → ActionEntity
-  entity_of uid = record { uid = uid; attributes = no_entry; tags = no_entry; ancestors = listed_uppers actions uid }
+  entity_of uid = record { uid = uid; attributes = no_entry; tags = no_entry; ancestors = listed_ancestors actions uid }
 
   abbrev given_of : PlainUid × SchemaAction → List ActionEntity
   given_of it = entity_if_defined it.1.kind (entity_of it.0)
@@ -102,7 +102,7 @@ listed_are types actions sorted =
             defined = (from.0.1, from.1, given.0);
             attributes = refl;
             tags = refl;
-            ancestors = uppers_are plain from.0.0;
+            ancestors = ancestors_are plain from.0.0;
           } in
           subst (IsEntityOfAction (schema_listing types actions)) given.1 made;
       each = λ uid defines.

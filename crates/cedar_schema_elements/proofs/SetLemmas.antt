@@ -12,17 +12,17 @@ use Rattle.std.specs.Bool.{Decides}
 use Rattle.std.specs.Cmp.{IsEquivalence}
 use Rattle.std.specs.HashSet.{HashSet, hash_set_eq}
 use Rattle.std.specs.List.{list_any, IsDistinct, AllByRecursion}
-use Rattle.cedar_below.proofs.Lists.{list_any-Contains, Contains-preimage}
-use Rattle.cedar_below.proofs.Names.{entity_type_eq-same}
-use Rattle.cedar_below.proofs.Uids.{entity_uid_eq-same}
+use Rattle.cedar_ast.proofs.Lists.{list_any-Contains, Contains-preimage}
+use Rattle.cedar_ast.proofs.Names.{entity_type_eq-same}
+use Rattle.cedar_ast.proofs.Uids.{entity_uid_eq-same}
+use Rattle.cedar_ast.specs.contracts.entity_type.EntityTypeEq.TheImpl as entity_type_equal
+use Rattle.cedar_ast.specs.contracts.entity_type.EntityTypePartialEq.TheImpl as entity_type_eq
+use Rattle.cedar_ast.specs.contracts.entity_uid.EntityUIDEq.TheImpl as uid_equal
+use Rattle.cedar_ast.specs.contracts.entity_uid.EntityUIDPartialEq.TheImpl as uid_eq
+use Rattle.cedar_schema_ast.proofs.Equality.{conditional_name-Decides}
+use Rattle.cedar_schema_ast.specs.contracts.json_schema.conditional_name.ConditionalNameEq.TheImpl as conditional_name_equal
+use Rattle.cedar_schema_ast.specs.contracts.json_schema.conditional_name.ConditionalNamePartialEq.TheImpl as conditional_name_eq
 use Rattle.cedar_schema_elements.specs.Words.{ConditionalName, EntityType, EntityUID, Reference, SameItems, conditional_reference, possibilities_of, reference_type_of, type_name, uid_of}
-use Rattle.cedar_below.specs.contracts.entity_type.EntityTypeEq.TheImpl as entity_type_equal
-use Rattle.cedar_below.specs.contracts.entity_type.EntityTypePartialEq.TheImpl as entity_type_eq
-use Rattle.cedar_below.specs.contracts.entity_uid.EntityUIDEq.TheImpl as uid_equal
-use Rattle.cedar_below.specs.contracts.entity_uid.EntityUIDPartialEq.TheImpl as uid_eq
-use Rattle.cedar_names.proofs.Equality.{conditional_name-Decides}
-use Rattle.cedar_names.specs.contracts.json_schema.conditional_name.ConditionalNameEq.TheImpl as conditional_name_equal
-use Rattle.cedar_names.specs.contracts.json_schema.conditional_name.ConditionalNamePartialEq.TheImpl as conditional_name_eq
 
 -- where a set is asked for an item that was inserted or for another
 pub cond-first : (b c : Bool) → cond b true c ≡ (b || c)

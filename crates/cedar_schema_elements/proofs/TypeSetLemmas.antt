@@ -9,17 +9,17 @@ use Rattle.std.specs.Cmp.Lexicographic.{pointwise}
 use Rattle.std.specs.List.Retain.{DiffersFromLast, IsFiltered}
 use Rattle.std.specs.List.Sorted.{IsPermutation, IsSorted, IsStrictlySortedBy}
 use Rattle.std.specs.declared.cmp.Ordering.TheVariants.{Less}
-use Rattle.cedar_below.proofs.Names.{entity_type_eq-same}
-use Rattle.cedar_below.proofs.Ordered.{not_itself}
-use Rattle.cedar_below.proofs.PlainNames.{name_cmp-total}
-use Rattle.cedar_below.specs.contracts.entity_type.EntityTypeOrd.TheImpl as entity_type_ord
-use Rattle.cedar_below.specs.contracts.entity_type.EntityTypePartialEq.TheImpl as entity_type_eq
+use Rattle.cedar_ast.proofs.Names.{entity_type_eq-same}
+use Rattle.cedar_ast.proofs.Ordered.{not_itself}
+use Rattle.cedar_ast.proofs.PlainNames.{name_cmp-total}
+use Rattle.cedar_ast.specs.contracts.entity_type.EntityTypeOrd.TheImpl as entity_type_ord
+use Rattle.cedar_ast.specs.contracts.entity_type.EntityTypePartialEq.TheImpl as entity_type_eq
+use Rattle.cedar_schema_elements.proofs.NamedTypes.{same_type}
+use Rattle.cedar_schema_elements.specs.Words.{EntityType, PlainName, SameItems, TypeSet, name_cmp, set_names, type_name}
 use Rattle.cedar_type_rules.proofs.AntisymmetryLaws.{Included-same}
 use Rattle.cedar_type_rules.proofs.SubtypeLemmas.{pointwise-map_Decides}
 use Rattle.cedar_types.proofs.MergedLemmas.{same_names-distinct, sorted_names-distinct}
 use Rattle.cedar_types.specs.TypesInOrder.{AreInOrder}
-use Rattle.cedar_schema_elements.proofs.NamedTypes.{same_type}
-use Rattle.cedar_schema_elements.specs.Words.{EntityType, PlainName, SameItems, TypeSet, name_cmp, set_names, type_name}
 
 -- lists that are equal have the same items
 pub SameItems-equal : {A : Type 0} (items others : List A) → items ≡ others → SameItems items others

@@ -1,17 +1,17 @@
 -- The entities of the actions of a schema.
-use Rattle.std.specs.Prelude.{◌≡◌, ◌↔◌, ◌∷◌, [], List, Contains, if◌then◌else◌, map, string_bytes}
 use Rattle.std.specs.BTreeMap.{BTreeMap}
 use Rattle.std.specs.List.{flat_map, list_any}
 use Rattle.std.specs.Ordering.{is_eq}
+use Rattle.std.specs.Prelude.{◌≡◌, ◌↔◌, ◌∷◌, [], List, Contains, if◌then◌else◌, map, string_bytes}
 use Rattle.std.specs.declared.alloc.Global.{Global}
 use Rattle.std.specs.declared.string.String.{String}
+use Rattle.cedar_ast.specs.Words.{Entries, PlainName, PlainUid, entity_ancestors, entity_attrs, entity_tags, entity_uid, entries_from, no_entry, tree_of, uid_cmp, value_expr}
+use Rattle.cedar_ast.specs.declared.entity.Entity.{Entity}
+use Rattle.cedar_ast.specs.declared.entity_uid.EntityUID.{EntityUID}
+use Rattle.cedar_ast.specs.declared.value.Value.{Value}
 use Rattle.cedar_schema_elements.specs.ValidatorActionId.{plain_action_entry}
 use Rattle.cedar_schema_elements.specs.declared.action_id.ValidatorActionId.{ValidatorActionId}
-use Rattle.cedar_below.specs.Words.{Entries, PlainName, PlainUid, entity_ancestors, entity_attrs, entity_tags, entity_uid, entries_from, no_entry, tree_of, uid_cmp, value_expr}
-use Rattle.cedar_below.specs.declared.entity.Entity.{Entity}
-use Rattle.cedar_below.specs.declared.entity_uid.EntityUID.{EntityUID}
-use Rattle.cedar_below.specs.declared.value.Value.{Value}
-use Rattle.cedar_declarations.specs.PlainSchema.{ActionEntity, ActionKind, defined_action, external_action, PlainSchema, SchemaAction, SchemaEntityType}
+use Rattle.cedar_schema_semantics.specs.PlainSchema.{ActionEntity, ActionKind, defined_action, external_action, PlainSchema, SchemaAction, SchemaEntityType}
 
 -- the values of a map, each under its name
 abbrev pub named_values : BTreeMap (String Global) Value → Entries
@@ -37,8 +37,8 @@ schema_with types actions entities = record {
 }
 
 -- the uids of the actions that list the one among their descendants, in the order of the actions
-abbrev pub listed_uppers : List (PlainUid × SchemaAction) → PlainUid → List PlainUid
-listed_uppers actions lower = flat_map (λ it.
+abbrev pub listed_ancestors : List (PlainUid × SchemaAction) → PlainUid → List PlainUid
+listed_ancestors actions lower = flat_map (λ it.
     if list_any (λ below. is_eq (uid_cmp below lower)) it.1.descendants then it.0 ∷ [] else [])
     actions
 
@@ -54,7 +54,7 @@ listed_entities actions = flat_map (λ it. entity_if_defined it.1.kind (record {
   uid = it.0;
   attributes = no_entry;
   tags = no_entry;
-  ancestors = listed_uppers actions it.0;
+  ancestors = listed_ancestors actions it.0;
 })) actions
 
 -- a schema of some entity types and some actions, with the entities of these

@@ -1,9 +1,9 @@
 use Rattle.std.specs.Prelude.{List, [], Option, Some, None}
+use Rattle.cedar_ast.specs.PlainName.{PlainName}
 use Rattle.cedar_schema_elements.specs.Requests.{kind_of_requests}
 use Rattle.cedar_schema_elements.specs.declared.action_kind.ValidatorActionKind.{ValidatorActionKind}
 use Rattle.cedar_schema_elements.specs.declared.action_kind.ValidatorActionKind.TheVariants as variant
-use Rattle.cedar_below.specs.PlainName.{PlainName}
-use Rattle.cedar_declarations.specs.PlainSchema.{ActionKind, defined_action, external_action}
+use Rattle.cedar_schema_semantics.specs.PlainSchema.{ActionKind, defined_action, external_action}
 use Rattle.cedar_type_rules.specs.Ty.{Ty}
 
 -- a kind as plain data

@@ -1,11 +1,11 @@
-use Rattle.std.specs.Prelude.{◌∷◌, map, Option}
 use Rattle.std.specs.Option.{option_map}
-use Rattle.cedar_below.specs.Eid.{eid_text}
-use Rattle.cedar_declarations.specs.EntityTypeKind.{EntityTypeKind, standard_kind, enumerated_kind, external_kind}
-use Rattle.cedar_types.specs.Meaning.{ty_of, fields_of}
+use Rattle.std.specs.Prelude.{◌∷◌, map, Option}
+use Rattle.cedar_ast.specs.Eid.{eid_text}
 use Rattle.cedar_schema_elements.specs.declared.entity_type_kind.StandardValidatorEntityType.{StandardValidatorEntityType}
 use Rattle.cedar_schema_elements.specs.declared.entity_type_kind.ValidatorEntityTypeKind.{ValidatorEntityTypeKind}
 use Rattle.cedar_schema_elements.specs.declared.entity_type_kind.ValidatorEntityTypeKind.TheVariants as variant
+use Rattle.cedar_schema_semantics.specs.EntityTypeKind.{EntityTypeKind, standard_kind, enumerated_kind, external_kind}
+use Rattle.cedar_types.specs.Meaning.{ty_of, fields_of}
 use Rattle.cedar_types.specs.declared.attributes.Attributes.{Attributes}
 use Rattle.cedar_types.specs.declared.types.Type.{«Type»}
 

@@ -1,11 +1,11 @@
 pub mod ActionEntities
 pub mod ActionKind
+pub mod Ancestors
 pub mod EntityTypeKind
 pub mod RequestEnv
 pub mod RequestEnvironments
 pub mod Requests
 pub mod TypeSet
-pub mod Uppers
 pub mod ValidatorActionId
 pub mod ValidatorApplySpec
 pub mod ValidatorEntityType

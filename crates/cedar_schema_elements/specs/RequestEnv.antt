@@ -1,13 +1,13 @@
-use Rattle.std.specs.Prelude.{ℕ, Option, Some}
 use Rattle.std.specs.List.{slice_get}
-use Rattle.cedar_below.specs.Words.{type_name, uid_of}
-use Rattle.cedar_below.specs.declared.entity_type.EntityType.{EntityType}
-use Rattle.cedar_below.specs.declared.entity_uid.EntityUID.{EntityUID}
-use Rattle.cedar_declarations.specs.Environments.{Environment}
+use Rattle.std.specs.Prelude.{ℕ, Option, Some}
+use Rattle.cedar_ast.specs.Words.{type_name, uid_of}
+use Rattle.cedar_ast.specs.declared.entity_type.EntityType.{EntityType}
+use Rattle.cedar_ast.specs.declared.entity_uid.EntityUID.{EntityUID}
 use Rattle.cedar_schema_elements.specs.TypeSet.{set_name_at, set_types}
-use Rattle.cedar_schema_elements.specs.declared.request_env.RequestEnv.{RequestEnv}
 use Rattle.cedar_schema_elements.specs.declared.action_kind.Requests.{Requests}
+use Rattle.cedar_schema_elements.specs.declared.request_env.RequestEnv.{RequestEnv}
 use Rattle.cedar_schema_elements.specs.declared.request_env.UnlinkedRequestEnv.{UnlinkedRequestEnv}
+use Rattle.cedar_schema_semantics.specs.Environments.{Environment}
 use Rattle.cedar_types.specs.Meaning.{ty_of}
 use Rattle.cedar_types.specs.declared.types.Type.{«Type»}
 

@@ -1,8 +1,8 @@
 -- The environments of the requests that actions are for.
-use Rattle.std.specs.Prelude.{List, [], map}
 use Rattle.std.specs.List.{flat_map}
-use Rattle.cedar_below.specs.Words.{PlainName, PlainUid}
-use Rattle.cedar_declarations.specs.Words.{ActionKind, Environment, SchemaAction, defined_action, external_action}
+use Rattle.std.specs.Prelude.{List, [], map}
+use Rattle.cedar_ast.specs.Words.{PlainName, PlainUid}
+use Rattle.cedar_schema_semantics.specs.Words.{ActionKind, Environment, SchemaAction, defined_action, external_action}
 use Rattle.cedar_type_rules.specs.Ty.{Ty}
 
 -- the environments of one principal with each of some resources

@@ -1,10 +1,10 @@
 -- What an action is for, and its environments share.
 use Rattle.std.specs.Prelude.{List}
-use Rattle.cedar_below.specs.Words.{PlainName}
-use Rattle.cedar_declarations.specs.PlainSchema.{ActionKind, defined_action}
-use Rattle.cedar_types.specs.Meaning.{ty_of}
+use Rattle.cedar_ast.specs.Words.{PlainName}
 use Rattle.cedar_schema_elements.specs.TypeSet.{set_names}
 use Rattle.cedar_schema_elements.specs.declared.action_kind.Requests.{Requests}
+use Rattle.cedar_schema_semantics.specs.PlainSchema.{ActionKind, defined_action}
+use Rattle.cedar_types.specs.Meaning.{ty_of}
 
 -- the names of the principals of the requests
 abbrev pub requested_principals : Requests → List PlainName

@@ -1,6 +1,6 @@
 use Rattle.std.specs.Prelude.{List, [], ℕ, get_or, map}
-use Rattle.cedar_below.specs.Words.{PlainName, type_name}
-use Rattle.cedar_below.specs.declared.entity_type.EntityType.{EntityType}
+use Rattle.cedar_ast.specs.Words.{PlainName, type_name}
+use Rattle.cedar_ast.specs.declared.entity_type.EntityType.{EntityType}
 use Rattle.cedar_schema_elements.specs.declared.type_set.TypeSet.{TypeSet}
 
 -- the entity types of a set, in the order of their names

@@ -1,13 +1,13 @@
 use Rattle.std.specs.Prelude.{◌≡◌, List, Option, None, Some, Contains, map}
+use Rattle.cedar_ast.specs.Words.{PlainUid, uid_loc, uid_of, uid_type_loc}
+use Rattle.cedar_ast.specs.declared.entity_uid.EntityUID.{EntityUID}
+use Rattle.cedar_ast.specs.declared.loc.Loc.{Loc}
 use Rattle.cedar_schema_elements.specs.ActionKind.{plain_kind}
 use Rattle.cedar_schema_elements.specs.declared.action_id.ActionParts.{ActionParts}
 use Rattle.cedar_schema_elements.specs.declared.action_id.ValidatorActionId.{ValidatorActionId}
 use Rattle.cedar_schema_elements.specs.declared.action_kind.ValidatorActionKind.{ValidatorActionKind}
 use Rattle.cedar_schema_elements.specs.declared.action_kind.ValidatorActionKind.TheVariants as variant
-use Rattle.cedar_below.specs.Words.{PlainUid, uid_loc, uid_of, uid_type_loc}
-use Rattle.cedar_below.specs.declared.entity_uid.EntityUID.{EntityUID}
-use Rattle.cedar_below.specs.declared.loc.Loc.{Loc}
-use Rattle.cedar_declarations.specs.PlainSchema.{SchemaAction}
+use Rattle.cedar_schema_semantics.specs.PlainSchema.{SchemaAction}
 use Rattle.cedar_types.specs.declared.types.Type.{«Type»}
 
 -- the parts of an action

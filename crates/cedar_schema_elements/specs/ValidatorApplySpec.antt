@@ -1,8 +1,8 @@
 use Rattle.std.specs.Prelude.{List, map}
-use Rattle.cedar_below.specs.Words.{PlainName, type_name}
-use Rattle.cedar_below.specs.declared.entity_type.EntityType.{EntityType}
-use Rattle.cedar_names.specs.Words.{Reference, conditional_reference}
-use Rattle.cedar_names.specs.declared.json_schema.conditional_name.ConditionalName.{ConditionalName}
+use Rattle.cedar_ast.specs.Words.{PlainName, type_name}
+use Rattle.cedar_ast.specs.declared.entity_type.EntityType.{EntityType}
+use Rattle.cedar_schema_ast.specs.Words.{Reference, conditional_reference}
+use Rattle.cedar_schema_ast.specs.declared.json_schema.conditional_name.ConditionalName.{ConditionalName}
 use Rattle.cedar_schema_elements.specs.declared.apply_spec.ValidatorApplySpec.{ValidatorApplySpec}
 
 -- the types of the principals, in some order

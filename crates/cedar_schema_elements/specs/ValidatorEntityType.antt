@@ -1,12 +1,12 @@
 use Rattle.std.specs.Prelude.{◌≡◌, List, map, Option, None, Contains}
-use Rattle.cedar_below.specs.Words.{PlainName, type_loc, type_name}
-use Rattle.cedar_below.specs.declared.entity_type.EntityType.{EntityType}
-use Rattle.cedar_below.specs.declared.loc.Loc.{Loc}
-use Rattle.cedar_declarations.specs.Words.{EntityTypeKind, SchemaEntityType}
+use Rattle.cedar_ast.specs.Words.{PlainName, type_loc, type_name}
+use Rattle.cedar_ast.specs.declared.entity_type.EntityType.{EntityType}
+use Rattle.cedar_ast.specs.declared.loc.Loc.{Loc}
 use Rattle.cedar_schema_elements.specs.EntityTypeKind.{plain_kind, standard_attributes, standard_tags}
 use Rattle.cedar_schema_elements.specs.declared.entity_type.ValidatorEntityType.{ValidatorEntityType}
 use Rattle.cedar_schema_elements.specs.declared.entity_type_kind.ValidatorEntityTypeKind.{ValidatorEntityTypeKind}
 use Rattle.cedar_schema_elements.specs.declared.entity_type_kind.ValidatorEntityTypeKind.TheVariants as variant
+use Rattle.cedar_schema_semantics.specs.Words.{EntityTypeKind, SchemaEntityType}
 use Rattle.cedar_types.specs.declared.attributes.Attributes.{Attributes}
 use Rattle.cedar_types.specs.declared.types.Type.{«Type»}
 

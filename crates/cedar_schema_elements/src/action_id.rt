@@ -3,7 +3,7 @@
 use crate::action_kind::{Requests, ValidatorActionKind};
 use crate::sets::{copied, type_set, uid_set};
 use crate::type_set::{RequestTypes, TypeSet};
-use cedar_below::{EntityType, EntityUID, Loc, M};
+use cedar_ast::{EntityType, EntityUID, Loc, M};
 use cedar_types::Type;
 use std::alloc::Global;
 use std::collections::{HashSet, hash_set};

@@ -4,7 +4,7 @@ ghost use Rattle.std.specs.Prelude.{◌≡◌, IfOk};
 ghost use Rattle.cedar_schema_elements.specs.ActionKind.{plain_kind};
 
 use crate::type_set::TypeSet;
-use cedar_below::{EntityUID, M};
+use cedar_ast::{EntityUID, M};
 use cedar_types::Type;
 use std::rc::Rc;
 

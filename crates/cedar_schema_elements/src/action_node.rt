@@ -3,17 +3,17 @@
 ghost use Rattle.std.specs.Prelude.{◌≡◌};
 ghost use Rattle.cedar_schema_elements.specs.Words.{PlainUid, action_of, contains, duplicate_action, external_action, uid_cmp, uid_loc, uid_of, uid_type_loc};
 ghost use Rattle.std.proofs.Common.{refl, ◌∙◌, ap, sym};
-ghost use Rattle.cedar_below.proofs.Lists.{Contains-preimage, list_any-Contains};
-ghost use Rattle.cedar_below.proofs.PlainNames.{uid_cmp-total};
-ghost use Rattle.cedar_below.proofs.Uids.{entity_uid_eq-same, entity_uid_ord-Equal, entity_uid_ord-uid_cmp, entity_uid_searches-respect_eq};
+ghost use Rattle.cedar_ast.proofs.Lists.{Contains-preimage, list_any-Contains};
+ghost use Rattle.cedar_ast.proofs.PlainNames.{uid_cmp-total};
+ghost use Rattle.cedar_ast.proofs.Uids.{entity_uid_eq-same, entity_uid_ord-Equal, entity_uid_ord-uid_cmp, entity_uid_searches-respect_eq};
 ghost use Rattle.cedar_schema_elements.specs.ActionKind.{plain_kind};
 ghost use Rattle.cedar_schema_elements.specs.ValidatorActionId.{IsLocatedAsKey, parts_of};
 
 use crate::action_id::ValidatorActionId;
 use crate::schema_node::SchemaNode;
-use cedar_below::{EntityUID, M};
-use cedar_declarations::SchemaError;
+use cedar_ast::{EntityUID, M};
 use cedar_graph::TCNode;
+use cedar_schema_semantics::SchemaError;
 use std::collections::hash_set;
 
 impl TCNode<EntityUID> for ValidatorActionId {

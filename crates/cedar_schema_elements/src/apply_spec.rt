@@ -1,8 +1,8 @@
 //! The requests that an action is for.
 
 use crate::sets::copied;
-use cedar_below::{EntityType, M};
-use cedar_names::json_schema::ConditionalName;
+use cedar_ast::{EntityType, M};
+use cedar_schema_ast::json_schema::ConditionalName;
 use std::collections::{HashSet, hash_set};
 use std::hash::Hash;
 

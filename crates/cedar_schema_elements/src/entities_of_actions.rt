@@ -1,27 +1,28 @@
 //! The entities of the actions of a schema.
 
 ghost use Rattle.std.specs.Prelude.{◌≡◌, ◌≢◌, IfOk, List, OnOk, map};
-ghost use Rattle.cedar_schema_elements.specs.Words.{AreActionEntities, IsEntityOf, IsUpper, PlainName, SchemaEntityType, entities_of, plain_action_entity, schema_with, uid_of, upper_set};
-ghost use Rattle.cedar_below.specs.declared.entity_uid.EntityUID.{EntityUID as Key};
+ghost use Rattle.cedar_schema_elements.specs.Words.{AreActionEntities, IsEntityOf, IsAncestor, PlainName, SchemaEntityType, entities_of, plain_action_entity, schema_with, uid_of, upper_set};
+ghost use Rattle.cedar_ast.specs.declared.entity_uid.EntityUID.{EntityUID as Key};
 
 use crate::action_id::ValidatorActionId;
-use crate::uppers::{Uppers, upper_sets};
-use cedar_below::{Entities, Entity, EntityUID, M};
+use crate::ancestors::{Ancestors, upper_sets};
+use cedar_ast::{Entities, Entity, EntityUID, M};
 use cedar_table::Table;
 use std::alloc::Global;
 use std::collections::{BTreeMap, BTreeSet};
 
 /// The entity of an action, without attributes and tags, just below the actions above it, which are
 /// taken out.
-fn action_entity(alloc: Global, uppers: &mut Uppers<EntityUID>, uid: &EntityUID) -> M<Entity>
+fn action_entity(alloc: Global, ancestors: &mut Ancestors<EntityUID>, uid: &EntityUID) -> M<Entity>
     ensures entity { IfOk result (λ entity.
-        IsEntityOf (IsUpper ⟦<EntityUID as Ord>⟧.cmp uid_of uppers.old uid.now) (uid_of uid.now)
+        IsEntityOf (IsAncestor ⟦<EntityUID as Ord>⟧.cmp uid_of ancestors.old uid.now)
+        (uid_of uid.now)
         (plain_action_entity entity)) }
     ensures others { OnOk result ((key : Key) → uid_of key ≢ uid_of uid.now
-        → upper_set ⟦<EntityUID as Ord>⟧.cmp uppers.new key
-        ≡ upper_set ⟦<EntityUID as Ord>⟧.cmp uppers.old key) }
+        → upper_set ⟦<EntityUID as Ord>⟧.cmp ancestors.new key
+        ≡ upper_set ⟦<EntityUID as Ord>⟧.cmp ancestors.old key) }
 {
-    let ancestors = match uppers.remove(uid) {
+    let ancestors = match ancestors.remove(uid) {
         Some(ancestors) => ancestors,
         None => BTreeSet::new(alloc),
     };
@@ -41,11 +42,11 @@ pub fn action_entities(alloc: Global, actions: &Table<EntityUID, ValidatorAction
         → AreActionEntities (schema_with types actions.now.entries
         (map plain_action_entity (entities_of entities)))) }
 {
-    let mut uppers = upper_sets(alloc, actions)?;
+    let mut ancestors = upper_sets(alloc, actions)?;
     let mut entities = Entities::new(alloc);
     for (uid, action) in actions {
         if !action.is_external() {
-            entities.insert(action_entity(alloc, &mut uppers, uid)?)?;
+            entities.insert(action_entity(alloc, &mut ancestors, uid)?)?;
         }
     }
     Ok(entities)

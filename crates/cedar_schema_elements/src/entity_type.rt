@@ -6,7 +6,7 @@ ghost use Rattle.cedar_types.specs.Meaning.{fields_of};
 
 use crate::entity_type_kind::{StandardValidatorEntityType, ValidatorEntityTypeKind};
 use crate::sets::copied;
-use cedar_below::{Eid, EntityType, Loc, M, NonEmpty};
+use cedar_ast::{Eid, EntityType, Loc, M, NonEmpty};
 use cedar_types::{AttributeType, Attributes, OpenTag, Type};
 use std::alloc::Global;
 use std::collections::HashSet;

@@ -4,7 +4,7 @@ ghost use Rattle.std.specs.Prelude.{◌≡◌, IfOk};
 ghost use Rattle.cedar_schema_elements.specs.Words.{Text, fields_of, kind_attributes, kind_fields, kind_openness, kind_tags, located_at, option_copied, option_map, plain_kind, plain_standard, standard_attributes, standard_kind, standard_tags, ty_of};
 ghost use Rattle.cedar_types.specs.declared.attributes.Attributes.{Attributes as AttributesOf};
 
-use cedar_below::{Eid, M, NonEmpty};
+use cedar_ast::{Eid, M, NonEmpty};
 use cedar_types::{Attributes, OpenTag, Type};
 
 /// How an entity type of a schema is declared.

@@ -3,15 +3,15 @@
 ghost use Rattle.std.specs.Prelude.{◌≡◌};
 ghost use Rattle.cedar_schema_elements.specs.Words.{IsLocatedAsKey, PlainName, contains, descendant_names, duplicate_entity_type, entity_type_of, external_kind, name_cmp, plain_kind, type_loc, type_name};
 ghost use Rattle.std.proofs.Common.{refl, ◌∙◌, ap, sym};
-ghost use Rattle.cedar_below.proofs.Names.{entity_type_eq-same, entity_type_ord-Equal, entity_type_ord-name_cmp, entity_type_searches-respect_eq};
-ghost use Rattle.cedar_below.proofs.PlainNames.{name_cmp-total};
+ghost use Rattle.cedar_ast.proofs.Names.{entity_type_eq-same, entity_type_ord-Equal, entity_type_ord-name_cmp, entity_type_searches-respect_eq};
+ghost use Rattle.cedar_ast.proofs.PlainNames.{name_cmp-total};
 ghost use Rattle.cedar_types.proofs.MemberLemmas.{Contains-named, list_any-names};
 
 use crate::entity_type::ValidatorEntityType;
 use crate::schema_node::SchemaNode;
-use cedar_below::{EntityType, M};
-use cedar_declarations::SchemaError;
+use cedar_ast::{EntityType, M};
 use cedar_graph::TCNode;
+use cedar_schema_semantics::SchemaError;
 use std::collections::hash_set;
 
 impl TCNode<EntityType> for ValidatorEntityType {

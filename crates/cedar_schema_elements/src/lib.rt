@@ -10,6 +10,7 @@
 #![tactic(auto)]
 
 pub use action_id::ValidatorActionId;
+pub use ancestors::{Ancestors, upper_sets};
 pub use apply_spec::ValidatorApplySpec;
 pub use entities_of_actions::action_entities;
 pub use entity_type::ValidatorEntityType;
@@ -18,11 +19,11 @@ pub use request_env::{RequestEnv, UnlinkedRequestEnv};
 pub use request_environments::environments;
 pub use schema_node::SchemaNode;
 pub use type_set::{RequestTypes, TypeSet};
-pub use uppers::{Uppers, upper_sets};
 
 mod action_id;
 mod action_kind;
 mod action_node;
+mod ancestors;
 mod apply_spec;
 mod entities_of_actions;
 mod entity_type;
@@ -35,4 +36,3 @@ mod schema_node;
 mod sets;
 pub mod theorems;
 mod type_set;
-mod uppers;

@@ -5,10 +5,10 @@ ghost use Rattle.std.specs.Prelude.{◌↔◌, Contains, IfErr, IfOk, OnOk, map}
 ghost use Rattle.cedar_schema_elements.specs.Words.{IsNamedBy, IsReserved, IsUnresolvable, PlainName, Reference, ResolvesTo, conditional_reference, fault_of, held_names, type_name};
 
 use crate::apply_spec::ValidatorApplySpec;
-use cedar_below::EntityType;
-use cedar_declarations::SchemaError;
+use cedar_ast::EntityType;
 use cedar_fragments::defs::{AllDefs, ResolveName};
-use cedar_names::json_schema::ConditionalName;
+use cedar_schema_ast::json_schema::ConditionalName;
+use cedar_schema_semantics::SchemaError;
 use std::alloc::Global;
 use std::collections::HashSet;
 

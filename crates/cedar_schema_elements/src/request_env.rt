@@ -5,7 +5,7 @@ ghost use Rattle.cedar_schema_elements.specs.Requests.{requested_principals, req
 
 use crate::action_kind::Requests;
 use crate::type_set::TypeSet;
-use cedar_below::{EntityType, EntityUID, M};
+use cedar_ast::{EntityType, EntityUID, M};
 use cedar_types::Type;
 use std::alloc::Global;
 use std::fmt;

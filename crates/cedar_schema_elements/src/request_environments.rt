@@ -6,7 +6,7 @@ ghost use Rattle.cedar_schema_elements.specs.Words.{ActionEntity, AreEnvironment
 use crate::action_id::ValidatorActionId;
 use crate::action_kind::{Requests, ValidatorActionKind};
 use crate::request_env::UnlinkedRequestEnv;
-use cedar_below::{EntityUID, M};
+use cedar_ast::{EntityUID, M};
 use cedar_table::Table;
 use std::alloc::Global;
 use std::rc::Rc;

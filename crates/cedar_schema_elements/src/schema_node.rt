@@ -3,9 +3,9 @@
 ghost use Rattle.std.specs.Prelude.{◌≡◌, ◌↔◌, Contains, IfOk, IsTrue, List, map};
 ghost use Rattle.cedar_schema_elements.specs.Words.{Equal, Fault, IsTotalOrder, Ordering, fault_of};
 
-use cedar_below::M;
-use cedar_declarations::SchemaError;
+use cedar_ast::M;
 use cedar_graph::TCNode;
+use cedar_schema_semantics::SchemaError;
 use std::collections::hash_set;
 use std::hash::Hash;
 

@@ -4,7 +4,7 @@ ghost use Rattle.std.specs.Prelude.{◌≡◌, IsTrue, IfOk, Result, map};
 ghost use Rattle.cedar_schema_elements.specs.Words.{FnReturnsAt, HoldsOfAll, IsFiniteIterable, Memory, SameItems, contains, set_names, type_name, uid_of};
 
 use crate::type_set::TypeSet;
-use cedar_below::{EntityType, EntityUID, M};
+use cedar_ast::{EntityType, EntityUID, M};
 use std::alloc::Global;
 use std::collections::HashSet;
 use std::default::Emptied;

@@ -7,9 +7,9 @@ use crate::action_id::ValidatorActionId;
 use crate::apply_spec::ValidatorApplySpec;
 use crate::entity_type::ValidatorEntityType;
 use crate::entity_type_kind::{StandardValidatorEntityType, ValidatorEntityTypeKind};
-use cedar_below::{EntityType, EntityUID};
+use cedar_ast::{EntityType, EntityUID};
 use cedar_graph::TCNode;
-use cedar_names::json_schema::ConditionalName;
+use cedar_schema_ast::json_schema::ConditionalName;
 
 /// Apply specs are equal exactly where they have the same principals and the same resources.
 pub fn apply_specs_compare_as_sets()

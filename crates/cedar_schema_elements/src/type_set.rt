@@ -5,7 +5,7 @@ ghost use Rattle.std.specs.Iterator.{at_most};
 ghost use Rattle.std.specs.Map.Iter.{TakesFirst, deref};
 ghost use Rattle.cedar_types.specs.TypesInOrder.{AreInOrder, AreInOrder-prop as one_order};
 
-use cedar_below::{EntityType, M};
+use cedar_ast::{EntityType, M};
 use std::alloc::{AllocError, Global};
 use std::iter::FusedIterator;
 use std::marker::Model;
@@ -108,7 +108,7 @@ pub struct RequestTypes<'a> {
 impl<'a> Model for RequestTypes<'a> {
     ghost use Rattle.std.specs.Prelude.{List};
     ghost use Rattle.std.specs.Slice.Iter.{iter_rest};
-    ghost use Rattle.cedar_below.specs.declared.entity_type.EntityType.{EntityType};
+    ghost use Rattle.cedar_ast.specs.declared.entity_type.EntityType.{EntityType};
 
     ghost Value = { List EntityType };
 

@@ -1,9 +1,9 @@
 -- Entries of maps that are put in or taken out, and what they declare.
 use Rattle.std.proofs.Common.{◌≡◌, ◌≢◌, ◌++◌, Bool, true, false, cond, List, [], ◌∷◌, Option, Some, None, map, ap, sym, ◌∙◌, refl, inl, inr, append_assoc, Contains, All}
 use Rattle.std.proofs.lemmas.Bool.{false≢true}
+use Rattle.std.proofs.lemmas.List.Concat.{flat_map_single}
 use Rattle.std.proofs.lemmas.List.Elements.{All-cons, All-head, All-tail, Contains-append_left}
 use Rattle.std.proofs.lemmas.List.Sorted.{Contains-permutation, IsPermutation-append_comm, IsPermutation-append_left, IsPermutation-append_right, IsPermutation-cons, IsPermutation-middle, IsPermutation-refl, IsPermutation-sym, IsPermutation-to_front, IsPermutation-trans}
-use Rattle.std.proofs.lemmas.List.Concat.{flat_map_single}
 use Rattle.std.specs.BTreeMap.{insert_entry, is_at}
 use Rattle.std.specs.List.{flat_map}
 use Rattle.std.specs.List.Sorted.{IsPermutation}
@@ -12,11 +12,11 @@ use Rattle.std.specs.Option.{option_cmp}
 use Rattle.std.specs.Ordering.{is_eq, match_ordering}
 use Rattle.std.specs.declared.cmp.Ordering.{Ordering}
 use Rattle.std.specs.declared.cmp.Ordering.TheVariants.{Less, Equal, Greater}
-use Rattle.cedar_below.proofs.Lists.{Contains-cons}
-use Rattle.cedar_below.proofs.Names.{name_ord-name_cmp}
+use Rattle.cedar_ast.proofs.Lists.{Contains-cons}
+use Rattle.cedar_ast.proofs.Names.{name_ord-name_cmp}
+use Rattle.cedar_ast.specs.contracts.name.NameOrd.TheImpl as name_ord
+use Rattle.cedar_schema_semantics.proofs.OccurrenceLemmas.{name_test}
 use Rattle.cedar_schema_writer.specs.Words.{Declaration, Definitions, Name, NamespaceDefinition, RawName, definitions_bag, plain_name, plain_namespace, raw_declarations}
-use Rattle.cedar_below.specs.contracts.name.NameOrd.TheImpl as name_ord
-use Rattle.cedar_declarations.proofs.OccurrenceLemmas.{name_test}
 
 -- namespaces tie where they stand for one
 pub namespace_tie : (namespace other : Option Name) → is_at (option_cmp ((name_ord.ghosts).cmp) namespace) other ≡ true
@@ -120,7 +120,8 @@ pub one_more_end : {A : Type 0} (front : List A) (item : A) (middle more : List 
 one_more_end front item middle more grown =
     IsPermutation-trans _ _ _ (IsPermutation-sym _ _ (IsPermutation-middle front item middle)) (IsPermutation-append_right front _ _ grown)
 
--- entries that are shown one by one show one more, where one is put in under a key that wasn't there
+-- entries that are shown one by one show one more, where one is put in under a key that wasn't
+-- there
 pub shown_inserted : {K X A : Type 0} (f : K × X → A) (cmp : K → K → Ordering) (es : List (K × X)) (k : K) (v : X)
     → lookup (is_at (cmp k)) es ≡ None → IsPermutation (f (k, v) ∷ map f es) (map f (insert_entry cmp es k v))
 shown_inserted {A = A} f cmp es k v absent =

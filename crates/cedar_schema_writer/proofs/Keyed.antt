@@ -3,15 +3,15 @@ use Rattle.std.proofs.Common.{◌≡◌, ◌↔◌, IsTrue, Bool, List, is_some,
 use Rattle.std.proofs.lemmas.Map.Made.{is_some-lookup}
 use Rattle.std.specs.BTreeMap.{is_at}
 use Rattle.std.specs.Map.{keys_of, lookup}
-use Rattle.cedar_schema_writer.specs.Words.{Actions, EntityUID, Types, plain_action_entry, plain_entry, type_name, uid_of}
-use Rattle.cedar_below.proofs.Lists.{list_any-Contains}
-use Rattle.cedar_below.proofs.Names.{entity_type_ord-Equal}
-use Rattle.cedar_below.proofs.Uids.{entity_uid_ord-Equal}
-use Rattle.cedar_below.specs.contracts.entity_type.EntityTypeOrd.TheImpl as entity_type_ord
-use Rattle.cedar_below.specs.contracts.entity_uid.EntityUIDOrd.TheImpl as entity_uid_ord
-use Rattle.cedar_below.specs.declared.entity_type.EntityType.{EntityType}
+use Rattle.cedar_ast.proofs.Lists.{list_any-Contains}
+use Rattle.cedar_ast.proofs.Names.{entity_type_ord-Equal}
+use Rattle.cedar_ast.proofs.Uids.{entity_uid_ord-Equal}
+use Rattle.cedar_ast.specs.contracts.entity_type.EntityTypeOrd.TheImpl as entity_type_ord
+use Rattle.cedar_ast.specs.contracts.entity_uid.EntityUIDOrd.TheImpl as entity_uid_ord
+use Rattle.cedar_ast.specs.declared.entity_type.EntityType.{EntityType}
+use Rattle.cedar_schema_elements.proofs.AncestorLemmas.{key_tie}
 use Rattle.cedar_schema_elements.proofs.KeyLemmas.{names_of_keys}
-use Rattle.cedar_schema_elements.proofs.UpperLemmas.{key_tie}
+use Rattle.cedar_schema_writer.specs.Words.{Actions, EntityUID, Types, plain_action_entry, plain_entry, type_name, uid_of}
 
 -- something is found exactly where some key stands for the name
 pub found-key : {K V P : Type 0} (f : K → P) (test : K → Bool) (name : P) → ((key : K) → IsTrue (test key) ↔ (f key ≡ name))

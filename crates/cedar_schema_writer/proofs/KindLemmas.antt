@@ -1,9 +1,9 @@
 -- Kinds of entity types and actions that are written, and whether they can be.
 use Rattle.std.proofs.Common.{◌≡◌, ◌↔◌, List, [], ◌∷◌, Option, None, Some, map, ap, sym, subst, ◌∙◌, refl, inl, inr, arith, string_bytes, Contains}
 use Rattle.std.proofs.lemmas.Simd.{map-map}
-use Rattle.cedar_below.proofs.Lists.{Contains-cons, Contains-preimage}
+use Rattle.cedar_ast.proofs.Lists.{Contains-cons, Contains-preimage}
+use Rattle.cedar_schema_semantics.proofs.OccurrenceLemmas.{Contains-image}
 use Rattle.cedar_schema_writer.specs.Words.{ActionEntityUID, ActionKind, AreFullNames, AreRequestsWritten, Entity, EntityBody, EntityTypeKind, Expr, Fields, IsKindWritten, IsPrincipalOrResourceOf, IsSoundAction, IsSoundKind, IsSoundType, Names, NamesNoOther, OpenTag, PlainName, RawName, Reference, Text, Ty, defined_action, elsewhere, enumerated, enumerated_kind, external, external_action, external_kind, full_name, full_uid, kind_context, kind_fields, kind_openness, kind_principals, kind_resources, kind_tags, parent_action, parent_type, raw_name, raw_reference, record_of, requests, standard, standard_kind, type_written, written_action_type, written_uid}
-use Rattle.cedar_declarations.proofs.OccurrenceLemmas.{Contains-image}
 
 module _ {A B : Type 0} (f : A → B) where
   -- images are just those of the items
@@ -13,7 +13,8 @@ module _ {A B : Type 0} (f : A → B) where
     λ of. rw of.2 at (Contains-image f items of.0 of.1),
   )
 
-  -- images of the items of which one fact holds are those of the items of which another holds that is the same
+  -- images of the items of which one fact holds are those of the items of which another holds that
+  -- is the same
   pub images-same : (P Q : A → Type 0) → ((a : A) → P a ↔ Q a) → (shown : List B)
       → ((b : B) → Contains shown b ↔ ((a : A) × P a × (f a ≡ b))) → (b : B) → Contains shown b ↔ ((a : A) × Q a × (f a ≡ b))
   images-same P Q same shown are b = (

@@ -1,12 +1,12 @@
 -- Names within a namespace, and what names that are written in full would name.
 use Rattle.std.proofs.Common.{◌≡◌, ◌≢◌, ◌↔◌, ◌++◌, ◌≤◌, ◌<◌, ◌+◌, ◌-◌, ◌∙◌, Bool, true, false, not, IsTrue, IsSome, IfSome, map, take, length, get_or, arith, List, [], ◌∷◌, Option, None, Some, ap, sym, refl, inl, inr, Contains}
-use Rattle.std.proofs.lemmas.Bool.{false≢true}
 use Rattle.std.proofs.Math.Seq.{take-length}
+use Rattle.std.proofs.lemmas.Bool.{false≢true}
 use Rattle.std.proofs.lemmas.List.{map_more}
 use Rattle.std.proofs.lemmas.List.Elements.{Contains-append_cases, Contains-append_left, Contains-append_right}
-use Rattle.cedar_below.proofs.Lists.{Contains-cons}
+use Rattle.cedar_ast.proofs.Lists.{Contains-cons}
+use Rattle.cedar_schema_semantics.proofs.OccurrenceLemmas.{Contains-single}
 use Rattle.cedar_schema_writer.specs.Words.{Id, IsPathOf, IsReserved, Name, Names, NamesNoOther, NamesNoOtherAction, PlainName, PlainUid, Text, id_text, name_within, path_within, plain_name, plain_namespace, reserved_word}
-use Rattle.cedar_declarations.proofs.OccurrenceLemmas.{Contains-single}
 
 -- a list with an item at its end isn't empty
 pub ends_in-nil : {A : Type 0} (front : List A) (last : A) → front ++ last ∷ [] ≢ []
@@ -36,7 +36,8 @@ path-unreserved base last front unreserved = elim [
     Contains-append_right' is = Contains-append_right front (last ∷ []) reserved_word (Contains-cons last [] reserved_word (inl is))
 
 module _ (names : Names) (namespace : PlainName) where
-  -- a name without a path, written in the namespace, names no other exactly if none is there under its base name
+  -- a name without a path, written in the namespace, names no other exactly if none is there under
+  -- its base name
   pub no_other-within : (base : Text) (path : List Text) → path ≡ []
       → NamesNoOther names (Some namespace) (record { base = base; path = path })
       ↔ ¬ Contains names.entities (name_within (Some namespace) base)

@@ -2,13 +2,13 @@
 use Rattle.std.proofs.Common.{◌≡◌, ◌↔◌, ◌++◌, List, [], ◌∷◌, Option, None, Some, map, ap, refl, inl, inr, Contains}
 use Rattle.std.proofs.lemmas.List.Elements.{Contains-append_cases, Contains-append_left, Contains-append_right}
 use Rattle.std.proofs.lemmas.List.Sorted.{Contains-permutation, IsPermutation-append_left, IsPermutation-sym, IsPermutation-trans}
-use Rattle.cedar_below.proofs.Lists.{Contains-preimage}
-use Rattle.cedar_schema_writer.specs.Words.{ActionBody, ActionEntity, ArePut, Bag, Declaration, Entity, IsActionDeclaration, IsActionType, IsConvertedBack, IsDefined, IsPathOf, IsSoundActionEntry, IsSoundEntityType, IsTypeDeclaration, IsWritable, Known, ListsDescendant, ListsDescendantAction, Names, NamesNoOther, NamesNoOtherAction, PlainName, PlainSchema, PlainUid, SchemaAction, SchemaEntityType, Text, action_declared, full_name, known_names, known_schema, parts_schema, schema_names, type_name}
-use Rattle.cedar_declarations.proofs.OccurrenceLemmas.{Contains-image}
-use Rattle.cedar_declarations.proofs.ResolutionLemmas.{IsFirst-like}
-use Rattle.cedar_declarations.proofs.TurnLemmas.{turn_back, turn_forth}
-use Rattle.cedar_below.proofs.TurnLemmas.{turn_weaker}
+use Rattle.cedar_ast.proofs.Lists.{Contains-preimage}
+use Rattle.cedar_ast.proofs.TurnLemmas.{turn_weaker}
+use Rattle.cedar_schema_semantics.proofs.OccurrenceLemmas.{Contains-image}
+use Rattle.cedar_schema_semantics.proofs.ResolutionLemmas.{IsFirst-like}
+use Rattle.cedar_schema_semantics.proofs.TurnLemmas.{turn_back, turn_forth}
 use Rattle.cedar_schema_writer.proofs.Written.{none_there}
+use Rattle.cedar_schema_writer.specs.Words.{ActionBody, ActionEntity, ArePut, Bag, Declaration, Entity, IsActionDeclaration, IsActionType, IsConvertedBack, IsDefined, IsPathOf, IsSoundActionEntry, IsSoundEntityType, IsTypeDeclaration, IsWritable, Known, ListsDescendant, ListsDescendantAction, Names, NamesNoOther, NamesNoOtherAction, PlainName, PlainSchema, PlainUid, SchemaAction, SchemaEntityType, Text, action_declared, full_name, known_names, known_schema, parts_schema, schema_names, type_name}
 
 -- where the same entity types are known, a name names no other both times
 no_other-same : (names other : Names) → ((name : PlainName) → Contains names.entities name ↔ Contains other.entities name)
@@ -155,7 +155,8 @@ no_action schema before after nothing put namespace id body among =
     (turn_back (IsTypeDeclaration schema) Declares (λ it declaration is. is) schema.entity_types put.put put.turn) item there in
     let same = found.2.declares in cc
 
--- where the declarations of the entity types and those of the actions are put in, the schema is converted back
+-- where the declarations of the entity types and those of the actions are put in, the schema is
+-- converted back
 pub parts_written : (known : Known) (entities : List ActionEntity) (before middle after : Bag) → before ≡ []
     → ArePut (IsTypeDeclaration (known_schema known)) (known_schema known).entity_types before middle
     → ArePut (IsActionDeclaration (known_schema known)) (known_schema known).actions middle after

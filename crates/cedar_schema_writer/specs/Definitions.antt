@@ -1,17 +1,17 @@
 -- Definitions of namespaces, as declarations are put into them.
-use Rattle.std.specs.Prelude.{◌≡◌, ◌≢◌, not, false, List, [], ◌++◌, map, Option, None, Some, All}
 use Rattle.std.specs.List.{flat_map}
 use Rattle.std.specs.List.Sorted.{IsPermutation}
 use Rattle.std.specs.Map.{values_of}
 use Rattle.std.specs.Option.{is_some}
-use Rattle.cedar_below.specs.Words.{HoldsPairwise, PlainName, PlainUid, Text}
-use Rattle.cedar_below.specs.declared.name.Name.{Name}
-use Rattle.cedar_declarations.specs.Words.{ActionKind, AreRequestsWritten, Bag, full_uid}
-use Rattle.cedar_names.specs.Words.{ActionBody, Declaration, EntityBody, Requests, action, applies_to, elsewhere, entity_type, raw_declarations, raw_reference}
-use Rattle.cedar_names.specs.declared.json_schema.action_type.ApplySpec.{ApplySpec}
-use Rattle.cedar_names.specs.declared.json_schema.action_type.ActionType.{ActionType}
-use Rattle.cedar_names.specs.declared.json_schema.fragment.NamespaceDefinition.{NamespaceDefinition}
-use Rattle.cedar_names.specs.declared.json_schema.raw_name.RawName.{RawName}
+use Rattle.std.specs.Prelude.{◌≡◌, ◌≢◌, not, false, List, [], ◌++◌, map, Option, None, Some, All}
+use Rattle.cedar_ast.specs.Words.{HoldsPairwise, PlainName, PlainUid, Text}
+use Rattle.cedar_ast.specs.declared.name.Name.{Name}
+use Rattle.cedar_schema_ast.specs.Words.{ActionBody, Declaration, EntityBody, Requests, action, applies_to, elsewhere, entity_type, raw_declarations, raw_reference}
+use Rattle.cedar_schema_ast.specs.declared.json_schema.action_type.ActionType.{ActionType}
+use Rattle.cedar_schema_ast.specs.declared.json_schema.action_type.ApplySpec.{ApplySpec}
+use Rattle.cedar_schema_ast.specs.declared.json_schema.fragment.NamespaceDefinition.{NamespaceDefinition}
+use Rattle.cedar_schema_ast.specs.declared.json_schema.raw_name.RawName.{RawName}
+use Rattle.cedar_schema_semantics.specs.Words.{ActionKind, AreRequestsWritten, Bag, full_uid}
 use Rattle.cedar_schema_writer.specs.Parts.{plain_namespace}
 
 -- definitions of namespaces, each under the name of its namespace

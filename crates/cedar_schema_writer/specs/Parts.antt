@@ -1,17 +1,17 @@
 -- The parts of a schema, and the names that are written, as plain data.
-use Rattle.std.specs.Prelude.{List, [], ◌++◌, map, Option, Some, None, string_bytes}
 use Rattle.std.specs.Option.{option_map}
+use Rattle.std.specs.Prelude.{List, [], ◌++◌, map, Option, Some, None, string_bytes}
+use Rattle.cedar_ast.specs.Words.{PlainName, PlainUid, plain_name, type_name}
+use Rattle.cedar_ast.specs.declared.entity_type.EntityType.{EntityType}
+use Rattle.cedar_ast.specs.declared.entity_uid.EntityUID.{EntityUID}
+use Rattle.cedar_ast.specs.declared.name.Name.{Name}
+use Rattle.cedar_schema_ast.specs.Words.{plain_action_type, raw_name}
+use Rattle.cedar_schema_ast.specs.declared.json_schema.action_type.ActionEntityUID.{ActionEntityUID}
+use Rattle.cedar_schema_ast.specs.declared.json_schema.raw_name.RawName.{RawName}
 use Rattle.cedar_schema_elements.specs.Words.{plain_action_entry, plain_entry}
 use Rattle.cedar_schema_elements.specs.declared.action_id.ValidatorActionId.{ValidatorActionId}
-use Rattle.cedar_below.specs.Words.{PlainName, PlainUid, plain_name, type_name}
-use Rattle.cedar_below.specs.declared.entity_type.EntityType.{EntityType}
-use Rattle.cedar_below.specs.declared.entity_uid.EntityUID.{EntityUID}
-use Rattle.cedar_below.specs.declared.name.Name.{Name}
-use Rattle.cedar_declarations.specs.Words.{ActionEntity, Names, PlainSchema}
 use Rattle.cedar_schema_elements.specs.declared.entity_type.ValidatorEntityType.{ValidatorEntityType}
-use Rattle.cedar_names.specs.Words.{plain_action_type, raw_name}
-use Rattle.cedar_names.specs.declared.json_schema.action_type.ActionEntityUID.{ActionEntityUID}
-use Rattle.cedar_names.specs.declared.json_schema.raw_name.RawName.{RawName}
+use Rattle.cedar_schema_semantics.specs.Words.{ActionEntity, Names, PlainSchema}
 use Rattle.cedar_schema_writer.specs.declared.known.Known.{Known}
 
 -- entity types, each under its name

@@ -1,10 +1,10 @@
 -- What can be written in a namespace.
 use Rattle.std.specs.Prelude.{Option, IsSome, Contains}
-use Rattle.cedar_below.specs.Words.{IsActionType, PlainName, PlainUid}
-use Rattle.cedar_declarations.specs.Words.{ActionKind, EntityTypeKind, HasAction, HasEntityType, IsContextOf, IsEnumerated, IsPathOf, IsPrincipalOrResourceOf, IsTypeOfKind, ListsDescendant, ListsDescendantAction, MentionsEntity, Names, NamesNoOther, NamesNoOtherAction, PlainSchema, SchemaAction, SchemaEntityType, type_written}
-use Rattle.cedar_type_rules.specs.Ty.{Ty}
+use Rattle.cedar_ast.specs.Words.{IsActionType, PlainName, PlainUid}
+use Rattle.cedar_schema_semantics.specs.Words.{ActionKind, EntityTypeKind, HasAction, HasEntityType, IsContextOf, IsEnumerated, IsPathOf, IsPrincipalOrResourceOf, IsTypeOfKind, ListsDescendant, ListsDescendantAction, MentionsEntity, Names, NamesNoOther, NamesNoOtherAction, PlainSchema, SchemaAction, SchemaEntityType, type_written}
 use Rattle.cedar_schema_writer.specs.Parts.{known_names, known_schema}
 use Rattle.cedar_schema_writer.specs.declared.known.Known.{Known}
+use Rattle.cedar_type_rules.specs.Ty.{Ty}
 
 -- the type can be written in the namespace: it has an expression, and the names in it name no
 -- others

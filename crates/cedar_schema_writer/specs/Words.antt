@@ -1,25 +1,58 @@
 -- The words of clauses, from one place.
-pub use Rattle.cedar_below.specs.Words.{HoldsPairwise, IsActionType, IsReserved, PlainName, PlainUid, Text, Twice, action_word, eid_text, id_text, items_of, name_of, plain_name, reserved_word, text_cmp, type_name, uid_of, unreserved_id_text}
-pub use Rattle.cedar_below.specs.declared.entity_uid.EntityUID.{EntityUID}
-pub use Rattle.cedar_below.specs.declared.id.Id.{Id}
-pub use Rattle.cedar_below.specs.declared.name.Name.{Name}
-pub use Rattle.cedar_below.specs.declared.unreserved_id.UnreservedId.{UnreservedId}
-pub use Rattle.cedar_type_rules.specs.Words.{Fields, IsSortedByName, Ty, end, extension_of, field, field_names, fields_from, only_name, record_of, set_of, union_of}
-pub use Rattle.cedar_type_rules.specs.declared.open_tag.OpenTag.{OpenTag}
-pub use Rattle.cedar_type_rules.specs.declared.open_tag.OpenTag.TheVariants.{ClosedAttributes}
-pub use Rattle.cedar_names.specs.Words.{ActionBody, Declaration, EntityBody, Expr, Members, Reference, action, action_body, action_declarations, common_declarations, elsewhere, entity_declarations, enumerated, external, kind_body, member, members_from, name_within, no_member, parent_action, parent_type, path_within, plain_members, raw_attribute, raw_declarations, raw_entity_body, raw_expr, raw_fragment, raw_name, raw_reference, raw_variant, record_expr, requests, set_expr, standard}
-pub use Rattle.cedar_names.specs.declared.json_schema.action_type.ActionEntityUID.{ActionEntityUID}
-pub use Rattle.cedar_names.specs.declared.json_schema.action_type.ActionType.{ActionType}
-pub use Rattle.cedar_names.specs.declared.json_schema.entity_type.EntityType.{EntityType}
-pub use Rattle.cedar_names.specs.declared.json_schema.fragment.NamespaceDefinition.{NamespaceDefinition}
-pub use Rattle.cedar_names.specs.declared.json_schema.raw_name.RawName.{RawName}
-pub use Rattle.cedar_names.specs.declared.json_schema.reference_type.ReferenceType.TheVariants.{Entity}
-pub use Rattle.cedar_names.specs.declared.json_schema.type_of.TypeOfAttribute.{TypeOfAttribute}
-pub use Rattle.cedar_types.specs.Words.{attribute_of, fields_of, kind_ty, lub_names, plain_attributes, ty_of}
-pub use Rattle.cedar_declarations.specs.Words.{ActionEntity, ActionKind, AreFullNames, AreRequestsWritten, AreTagsWritten, Bag, EntityTypeKind, IsActionDeclaration, IsConvertedBack, IsDefined, IsKindWritten, IsPathOf, IsPrincipalOrResourceOf, IsTypeDeclaration, IsWritable, ListsDescendant, ListsDescendantAction, Names, NamesNoOther, NamesNoOtherAction, PlainSchema, SchemaAction, SchemaEntityType, defined_action, enumerated_kind, external_action, external_kind, fields_written, full_name, full_uid, kind_fields, kind_openness, kind_tags, schema_names, standard_kind, type_written}
-pub use Rattle.cedar_schema_elements.specs.Words.{IsUpper, action_of, descendant_names, entity_type_of, kind_context, kind_principals, kind_resources, plain_action_entry, plain_entry, plain_kind}
+pub use Rattle.cedar_ast.specs.Eid.{eid_text}
+pub use Rattle.cedar_ast.specs.EntityType.{type_name}
+pub use Rattle.cedar_ast.specs.EntityUID.{uid_of}
+pub use Rattle.cedar_ast.specs.Id.{id_text}
+pub use Rattle.cedar_ast.specs.Identifier.{reserved_word}
+pub use Rattle.cedar_ast.specs.InternalName.{name_of}
+pub use Rattle.cedar_ast.specs.Lists.{HoldsPairwise, Twice}
+pub use Rattle.cedar_ast.specs.Name.{plain_name}
+pub use Rattle.cedar_ast.specs.NonEmpty.{items_of}
+pub use Rattle.cedar_ast.specs.PlainName.{IsActionType, IsReserved, PlainName, action_word}
+pub use Rattle.cedar_ast.specs.PlainUid.{PlainUid}
+pub use Rattle.cedar_ast.specs.Text.{Text, text_cmp}
+pub use Rattle.cedar_ast.specs.UnreservedId.{unreserved_id_text}
+pub use Rattle.cedar_ast.specs.declared.entity_uid.EntityUID.{EntityUID}
+pub use Rattle.cedar_ast.specs.declared.id.Id.{Id}
+pub use Rattle.cedar_ast.specs.declared.name.Name.{Name}
+pub use Rattle.cedar_ast.specs.declared.unreserved_id.UnreservedId.{UnreservedId}
+pub use Rattle.cedar_schema_ast.specs.ActionBody.{ActionBody, action_body, elsewhere, parent_action, parent_type, requests}
+pub use Rattle.cedar_schema_ast.specs.Declaration.{Declaration, action, action_declarations, common_declarations, entity_declarations, raw_declarations, raw_fragment}
+pub use Rattle.cedar_schema_ast.specs.EntityBody.{EntityBody, enumerated, external, kind_body, raw_entity_body, standard}
+pub use Rattle.cedar_schema_ast.specs.Expr.{Expr, Members, member, members_from, no_member, record_expr, set_expr}
+pub use Rattle.cedar_schema_ast.specs.PlainMembers.{plain_members}
+pub use Rattle.cedar_schema_ast.specs.RawExpr.{raw_attribute, raw_expr, raw_reference, raw_variant}
+pub use Rattle.cedar_schema_ast.specs.RawName.{raw_name}
+pub use Rattle.cedar_schema_ast.specs.Reference.{Reference, name_within, path_within}
+pub use Rattle.cedar_schema_ast.specs.declared.json_schema.action_type.ActionEntityUID.{ActionEntityUID}
+pub use Rattle.cedar_schema_ast.specs.declared.json_schema.action_type.ActionType.{ActionType}
+pub use Rattle.cedar_schema_ast.specs.declared.json_schema.entity_type.EntityType.{EntityType}
+pub use Rattle.cedar_schema_ast.specs.declared.json_schema.fragment.NamespaceDefinition.{NamespaceDefinition}
+pub use Rattle.cedar_schema_ast.specs.declared.json_schema.raw_name.RawName.{RawName}
+pub use Rattle.cedar_schema_ast.specs.declared.json_schema.reference_type.ReferenceType.TheVariants.{Entity}
+pub use Rattle.cedar_schema_ast.specs.declared.json_schema.type_of.TypeOfAttribute.{TypeOfAttribute}
+pub use Rattle.cedar_schema_elements.specs.ActionKind.{kind_context, kind_principals, kind_resources}
+pub use Rattle.cedar_schema_elements.specs.Ancestors.{IsAncestor}
+pub use Rattle.cedar_schema_elements.specs.EntityTypeKind.{plain_kind}
+pub use Rattle.cedar_schema_elements.specs.ValidatorActionId.{action_of, plain_action_entry}
+pub use Rattle.cedar_schema_elements.specs.ValidatorEntityType.{descendant_names, entity_type_of, plain_entry}
 pub use Rattle.cedar_schema_elements.specs.declared.action_id.ValidatorActionId.{ValidatorActionId}
 pub use Rattle.cedar_schema_elements.specs.declared.entity_type.ValidatorEntityType.{ValidatorEntityType}
+pub use Rattle.cedar_schema_semantics.specs.Bag.{Bag}
+pub use Rattle.cedar_schema_semantics.specs.ConvertedBack.{AreFullNames, AreRequestsWritten, AreTagsWritten, IsActionDeclaration, IsConvertedBack, IsKindWritten, IsPathOf, IsTypeDeclaration, IsWritable, NamesNoOther, NamesNoOtherAction, fields_written, full_name, full_uid, schema_names, type_written}
+pub use Rattle.cedar_schema_semantics.specs.EntityTypeKind.{EntityTypeKind, enumerated_kind, external_kind, kind_fields, kind_openness, kind_tags, standard_kind}
+pub use Rattle.cedar_schema_semantics.specs.Names.{IsDefined, Names}
+pub use Rattle.cedar_schema_semantics.specs.PlainSchema.{ActionEntity, ActionKind, PlainSchema, SchemaAction, SchemaEntityType, defined_action, external_action}
+pub use Rattle.cedar_schema_semantics.specs.ValidSchema.{IsPrincipalOrResourceOf, ListsDescendant, ListsDescendantAction}
+pub use Rattle.cedar_type_rules.specs.EntityUnion.{only_name}
+pub use Rattle.cedar_type_rules.specs.Fields.{IsSortedByName, field_names}
+pub use Rattle.cedar_type_rules.specs.Ty.{Fields, Ty, end, extension_of, field, fields_from, record_of, set_of, union_of}
+pub use Rattle.cedar_type_rules.specs.declared.open_tag.OpenTag.{OpenTag}
+pub use Rattle.cedar_type_rules.specs.declared.open_tag.OpenTag.TheVariants.{ClosedAttributes}
+pub use Rattle.cedar_types.specs.Attributes.{plain_attributes}
+pub use Rattle.cedar_types.specs.EntityKind.{kind_ty}
+pub use Rattle.cedar_types.specs.EntityLUB.{lub_names}
+pub use Rattle.cedar_types.specs.Meaning.{attribute_of, fields_of, ty_of}
 pub use Rattle.cedar_schema_writer.specs.Definitions.{AppliesIfDefined, AreProper, ArePut, Definitions, IsActionWritten, IsProper, action_declared, definitions_bag, requests_written, type_declared}
 pub use Rattle.cedar_schema_writer.specs.Parts.{Actions, Types, known_names, known_schema, parts_schema, plain_namespace, written_action_type, written_uid}
 pub use Rattle.cedar_schema_writer.specs.Refusal.{Refuses}

@@ -1,8 +1,8 @@
 //! Actions, converted back as declarations.
 
 ghost use Rattle.std.specs.Prelude.{◌≡◌, ◌↔◌, Contains, IfErr, IfOk, OnOk, Option, false, map};
-ghost use Rattle.cedar_schema_writer.specs.Words.{ActionBody, AppliesIfDefined, AreProper, ArePut, AreRequestsWritten, IsActionDeclaration, IsActionWritten, IsSoundAction, IsSoundActionEntry, IsUpper, ListsDescendantAction, PlainName, PlainUid, Refuses, SchemaAction, Text, action_body, action_declared, action_of, definitions_bag, known_names, known_schema, parent_action, plain_namespace, raw_reference, requests_written, uid_of, written_uid};
-ghost use Rattle.cedar_below.specs.declared.entity_uid.EntityUID.{EntityUID as Key};
+ghost use Rattle.cedar_schema_writer.specs.Words.{ActionBody, AppliesIfDefined, AreProper, ArePut, AreRequestsWritten, IsActionDeclaration, IsActionWritten, IsSoundAction, IsSoundActionEntry, IsAncestor, ListsDescendantAction, PlainName, PlainUid, Refuses, SchemaAction, Text, action_body, action_declared, action_of, definitions_bag, known_names, known_schema, parent_action, plain_namespace, raw_reference, requests_written, uid_of, written_uid};
+ghost use Rattle.cedar_ast.specs.declared.entity_uid.EntityUID.{EntityUID as Key};
 
 use crate::definitions::{Definitions, put_action};
 use crate::known::Known;
@@ -10,11 +10,11 @@ use crate::names::namespace_of;
 use crate::parents::{check_descendants, write_parents};
 use crate::types::{plain, to_json_type};
 use crate::write_back_fault::WriteBackFault;
-use cedar_below::{EntityUID, Name};
-use cedar_names::json_schema::{
+use cedar_ast::{EntityUID, Name};
+use cedar_schema_ast::json_schema::{
     ActionEntityUID, ActionType, ApplySpec, AttributesOrContext, RawName,
 };
-use cedar_schema_elements::{Uppers, ValidatorActionId};
+use cedar_schema_elements::{Ancestors, ValidatorActionId};
 
 /// The requests of an action, as they are declared in the namespace; none for an external one.
 fn write_requests(
@@ -94,11 +94,11 @@ fn write_action(
 /// Declares each action in its namespace.
 pub(crate) fn write_actions(
     known: &Known,
-    uppers: &Uppers<EntityUID>,
+    ancestors: &Ancestors<EntityUID>,
     definitions: &mut Definitions,
 ) -> Result<(), WriteBackFault>
-    requires uppers { (key : Key) (above : PlainUid)
-        → IsUpper ⟦<EntityUID as Ord>⟧.cmp uid_of uppers.now key above
+    requires ancestors { (key : Key) (above : PlainUid)
+        → IsAncestor ⟦<EntityUID as Ord>⟧.cmp uid_of ancestors.now key above
         ↔ ListsDescendantAction (known_schema known.now) (uid_of key) above }
     requires none { (namespace : Option PlainName) (id : Text) (body : ActionBody)
         → ¬ Contains (definitions_bag definitions.old.entries) (action_declared namespace id body) }
@@ -121,7 +121,7 @@ pub(crate) fn write_actions(
         check_descendants(known.actions, action)?;
         let namespace = namespace_of(known.alloc, uid.entity_type().name())?;
         let id = uid.eid().clone()?;
-        let parents = write_parents(known, &namespace, uppers, uid)?;
+        let parents = write_parents(known, &namespace, ancestors, uid)?;
         let declared = write_action(known, &namespace, parents, action)?;
         put_action(known.alloc, definitions, namespace, id.0, declared)?;
     }

@@ -6,8 +6,8 @@ ghost use Rattle.std.specs.List.Sorted.{IsPermutation};
 ghost use Rattle.std.specs.Map.{values_of};
 ghost use Rattle.cedar_schema_writer.specs.Words.{ActionBody, AppliesIfDefined, AreProper, EntityBody, action_body, action_declared, definitions_bag, plain_namespace, raw_declarations, raw_entity_body, raw_reference, type_declared, unreserved_id_text};
 
-use cedar_below::{M, Name, UnreservedId, put};
-use cedar_names::json_schema::{ActionType, EntityType, NamespaceDefinition, RawName};
+use cedar_ast::{M, Name, UnreservedId, put};
+use cedar_schema_ast::json_schema::{ActionType, EntityType, NamespaceDefinition, RawName};
 use std::alloc::Global;
 use std::collections::BTreeMap;
 

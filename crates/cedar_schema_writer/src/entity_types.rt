@@ -2,10 +2,10 @@
 
 ghost use Rattle.std.specs.Prelude.{◌≡◌, ◌↔◌, Contains, IfErr, IfOk, OnOk, Option, map, ◌≢◌, [], Some, false};
 ghost use Rattle.std.specs.Option.{option_copied, option_map};
-ghost use Rattle.cedar_schema_writer.specs.Words.{AreProper, ArePut, AreTagsWritten, IsKindWritten, IsSoundEntityType, IsSoundKind, IsSoundType, IsTypeDeclaration, IsUpper, ListsDescendant, PlainName, Refuses, SchemaEntityType, Ty, definitions_bag, eid_text, entity_type_of, enumerated, external, items_of, kind_body, kind_fields, kind_openness, kind_tags, known_names, known_schema, plain_namespace, raw_entity_body, raw_expr, raw_name, raw_reference, record_of, standard_kind, ty_of, type_name, type_written};
-ghost use Rattle.cedar_below.specs.declared.entity_type.EntityType.{EntityType as TypeKey};
-ghost use Rattle.cedar_names.specs.declared.json_schema.entity_type.EntityTypeKind.TheVariants as written_kind;
-ghost use Rattle.cedar_names.specs.declared.json_schema.reference_type.ReferenceType.TheVariants as reference;
+ghost use Rattle.cedar_schema_writer.specs.Words.{AreProper, ArePut, AreTagsWritten, IsKindWritten, IsSoundEntityType, IsSoundKind, IsSoundType, IsTypeDeclaration, IsAncestor, ListsDescendant, PlainName, Refuses, SchemaEntityType, Ty, definitions_bag, eid_text, entity_type_of, enumerated, external, items_of, kind_body, kind_fields, kind_openness, kind_tags, known_names, known_schema, plain_namespace, raw_entity_body, raw_expr, raw_name, raw_reference, record_of, standard_kind, ty_of, type_name, type_written};
+ghost use Rattle.cedar_ast.specs.declared.entity_type.EntityType.{EntityType as TypeKey};
+ghost use Rattle.cedar_schema_ast.specs.declared.json_schema.entity_type.EntityTypeKind.TheVariants as written_kind;
+ghost use Rattle.cedar_schema_ast.specs.declared.json_schema.reference_type.ReferenceType.TheVariants as reference;
 
 use crate::definitions::{Definitions, put_entity_type};
 use crate::known::Known;
@@ -13,12 +13,12 @@ use crate::names::{base_id, namespace_of};
 use crate::parents::{check_descendants, write_parents};
 use crate::types::{plain, to_json_type, write_record};
 use crate::write_back_fault::WriteBackFault;
-use cedar_below::{Eid, EntityType as Key, Name, NonEmpty};
-use cedar_names::json_schema::{
+use cedar_ast::{Eid, EntityType as Key, Name, NonEmpty};
+use cedar_schema_ast::json_schema::{
     self, AttributesOrContext, EntityType, EntityTypeKind, RawName, RecordType, StandardEntityType,
     TypeVariant,
 };
-use cedar_schema_elements::{Uppers, ValidatorEntityType, ValidatorEntityTypeKind};
+use cedar_schema_elements::{Ancestors, ValidatorEntityType, ValidatorEntityTypeKind};
 use cedar_types::{OpenTag, Type};
 use std::collections::BTreeMap;
 
@@ -178,11 +178,11 @@ fn write_entity_type(
 /// Declares each entity type in its namespace.
 pub(crate) fn write_entity_types(
     known: &Known,
-    uppers: &Uppers<Key>,
+    ancestors: &Ancestors<Key>,
     definitions: &mut Definitions,
 ) -> Result<(), WriteBackFault>
-    requires uppers { (key : TypeKey) (above : PlainName)
-        → IsUpper ⟦<Key as Ord>⟧.cmp type_name uppers.now key above
+    requires ancestors { (key : TypeKey) (above : PlainName)
+        → IsAncestor ⟦<Key as Ord>⟧.cmp type_name ancestors.now key above
         ↔ ListsDescendant (known_schema known.now) (type_name key) above }
     requires empty { definitions_bag definitions.old.entries ≡ [] }
     ensures put { OnOk result (ArePut (IsTypeDeclaration (known_schema known.now))
@@ -202,7 +202,7 @@ pub(crate) fn write_entity_types(
         check_descendants(known.entity_types, ty)?;
         let namespace = namespace_of(known.alloc, name.name())?;
         let id = base_id(known.alloc, name.name())?;
-        let parents = write_parents(known, &namespace, uppers, name)?;
+        let parents = write_parents(known, &namespace, ancestors, name)?;
         let declared = write_entity_type(known, &namespace, parents, ty)?;
         put_entity_type(known.alloc, definitions, namespace, id, declared)?;
     }

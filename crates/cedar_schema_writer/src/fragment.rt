@@ -7,8 +7,8 @@ use crate::actions::write_actions;
 use crate::entity_types::write_entity_types;
 use crate::known::{Known, action_types};
 use crate::write_back_fault::WriteBackFault;
-use cedar_below::{EntityType, EntityUID};
-use cedar_names::json_schema::{Fragment, RawName};
+use cedar_ast::{EntityType, EntityUID};
+use cedar_schema_ast::json_schema::{Fragment, RawName};
 use cedar_schema_elements::{ValidatorActionId, ValidatorEntityType, upper_sets};
 use cedar_table::Table;
 use std::alloc::Global;
@@ -46,10 +46,10 @@ pub fn json_schema(
         actions,
         action_types: &action_types,
     };
-    let type_uppers = upper_sets(alloc, entity_types)?;
-    let action_uppers = upper_sets(alloc, actions)?;
+    let type_ancestors = upper_sets(alloc, entity_types)?;
+    let action_ancestors = upper_sets(alloc, actions)?;
     let mut definitions = BTreeMap::new(alloc);
-    write_entity_types(&known, &type_uppers, &mut definitions)?;
-    write_actions(&known, &action_uppers, &mut definitions)?;
+    write_entity_types(&known, &type_ancestors, &mut definitions)?;
+    write_actions(&known, &action_ancestors, &mut definitions)?;
     Ok(Fragment(definitions))
 }

@@ -5,8 +5,8 @@ ghost use Rattle.cedar_schema_writer.specs.Words.{NamesNoOther, NamesNoOtherActi
 
 use crate::names::within;
 use crate::write_back_fault::WriteBackFault;
-use cedar_below::{Eid, EntityType, EntityUID, M, Name};
-use cedar_names::json_schema::{ActionEntityUID, RawName};
+use cedar_ast::{Eid, EntityType, EntityUID, M, Name};
+use cedar_schema_ast::json_schema::{ActionEntityUID, RawName};
 use cedar_schema_elements::{RequestTypes, ValidatorActionId, ValidatorEntityType};
 use cedar_table::Table;
 use std::alloc::Global;

@@ -3,7 +3,7 @@
 ghost use Rattle.std.specs.Prelude.{◌≡◌, IfOk, map, Some};
 ghost use Rattle.cedar_schema_writer.specs.Words.{IsPathOf, id_text, name_within, plain_name, plain_namespace, type_name, unreserved_id_text};
 
-use cedar_below::{EntityType, Id, InternalName, M, Name, UnreservedId};
+use cedar_ast::{EntityType, Id, InternalName, M, Name, UnreservedId};
 use std::alloc::Global;
 
 /// Equal identifiers in the same order.

@@ -2,13 +2,13 @@
 
 ghost use Rattle.std.specs.Prelude.{◌≡◌, ◌↔◌, Contains, IfErr, IfOk, OnOk, Option, map};
 ghost use Rattle.std.specs.Map.{keys_of};
-ghost use Rattle.cedar_schema_writer.specs.Words.{IsUpper, Names, NamesNoOther, NamesNoOtherAction, PlainName, PlainUid, Refuses, known_names, plain_namespace, raw_name, type_name, uid_of, written_uid};
+ghost use Rattle.cedar_schema_writer.specs.Words.{IsAncestor, Names, NamesNoOther, NamesNoOtherAction, PlainName, PlainUid, Refuses, known_names, plain_namespace, raw_name, type_name, uid_of, written_uid};
 
 use crate::known::Known;
 use crate::write_back_fault::WriteBackFault;
-use cedar_below::{EntityType, EntityUID, Name, QuickHash};
-use cedar_names::json_schema::{ActionEntityUID, RawName};
-use cedar_schema_elements::{SchemaNode, Uppers};
+use cedar_ast::{EntityType, EntityUID, Name, QuickHash};
+use cedar_schema_ast::json_schema::{ActionEntityUID, RawName};
+use cedar_schema_elements::{Ancestors, SchemaNode};
 use cedar_table::Table;
 use std::collections::BTreeSet;
 use std::hash::Hash;
@@ -94,20 +94,20 @@ fn write_keys<K: WrittenKey<P>, P: Drop>(
 pub(crate) fn write_parents<K: WrittenKey<P>, P: Drop>(
     known: &Known,
     namespace: &Option<Name>,
-    uppers: &Uppers<K>,
+    ancestors: &Ancestors<K>,
     lower: &K,
 ) -> Result<Vec<P>, WriteBackFault>
     ensures names { IfOk result (λ parents.
         (upper : K.Named) → Contains (map K.written parents.items) upper
-        ↔ IsUpper K.cmp K.named uppers.now lower.now upper) }
+        ↔ IsAncestor K.cmp K.named ancestors.now lower.now upper) }
     ensures no_other { OnOk result
-        ((upper : K.Named) → IsUpper K.cmp K.named uppers.now lower.now upper
+        ((upper : K.Named) → IsAncestor K.cmp K.named ancestors.now lower.now upper
         → K.IsUnambiguous (known_names known.now) (plain_namespace namespace.now) upper) }
     ensures refusal { IfErr result
-        (Refuses ((upper : K.Named) × IsUpper K.cmp K.named uppers.now lower.now upper
+        (Refuses ((upper : K.Named) × IsAncestor K.cmp K.named ancestors.now lower.now upper
         × ¬ K.IsUnambiguous (known_names known.now) (plain_namespace namespace.now) upper)) }
 {
-    match uppers.get(lower) {
+    match ancestors.get(lower) {
         Some(above) => write_keys(known, namespace, above),
         None => Ok(Vec::new(known.alloc)),
     }

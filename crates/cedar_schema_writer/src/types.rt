@@ -10,8 +10,8 @@ ghost use Rattle.cedar_type_rules.specs.declared.open_tag.OpenTag.TheVariants as
 use crate::known::Known;
 use crate::names::base_id;
 use crate::write_back_fault::WriteBackFault;
-use cedar_below::{M, Name};
-use cedar_names::json_schema::{self, RawName, RecordType, TypeOfAttribute, TypeVariant};
+use cedar_ast::{M, Name};
+use cedar_schema_ast::json_schema::{self, RawName, RecordType, TypeOfAttribute, TypeVariant};
 use cedar_types::{Attributes, BoolType, EntityKind, OpenTag, Type};
 use std::alloc::Global;
 use std::collections::BTreeMap;

@@ -1,6 +1,6 @@
 //! Why a schema isn't converted back.
 
-use cedar_below::Memory;
+use cedar_ast::Memory;
 use std::alloc::{AllocError, AllocFailed};
 use thiserror::Error;
 

@@ -11,8 +11,8 @@ use Rattle.std.specs.List.{zip}
 use Rattle.std.specs.List.Sorted.{IsStrictlySortedBy}
 use Rattle.std.specs.Map.{keys_of, lookup, values_of}
 use Rattle.std.specs.declared.cmp.Ordering.{Ordering}
-use Rattle.cedar_table.specs.Words.{Entries, KeyStandsAt, StandsAt, get_by}
 use Rattle.cedar_table.proofs.SearchLemmas.{found_at}
+use Rattle.cedar_table.specs.Words.{Entries, KeyStandsAt, StandsAt, get_by}
 
 -- what is never some value is none
 none_from_no_some : {X : Type 0} (option : Option X) → ((x : X) → ¬ (option ≡ Some x)) → option ≡ None

@@ -8,8 +8,8 @@ use Rattle.std.specs.Map.{keys_of}
 use Rattle.std.specs.Ordering.{ordering_reverse}
 use Rattle.std.specs.declared.cmp.Ordering.{Ordering}
 use Rattle.std.specs.declared.cmp.Ordering.TheVariants.{Equal, Less}
+use Rattle.cedar_ast.proofs.TurnLemmas.{turn_more, turn_weaker}
 use Rattle.cedar_table.specs.Words.{HoldsPairwise, Memory}
-use Rattle.cedar_below.proofs.TurnLemmas.{turn_more, turn_weaker}
 
 -- an entry is what calls give of another, with whose key its own ties
 abbrev IsCopied : {K V : Type 0} → (K → K → Ordering) → (K → Result K Memory → Type 0) → (V → Result V Memory → Type 0)

@@ -1,4 +1,5 @@
--- The place to which a hint leads: there is one at most, and none where no row of those looked at has a hint to it.
+-- The place to which a hint leads: there is one at most, and none where no row of those looked at
+-- has a hint to it.
 use Rattle.std.proofs.Common.{Bool, IfSome, IsTrue, ◌≡◌, ◌<◌, ℕ, IsSomeAnd, List, None, Option, Some, arith, get_or, length, slice_get, subst, sym, ◌∙◌, inl, inr}
 use Rattle.std.proofs.lemmas.Bool.{cases_eq, cases_lt}
 use Rattle.std.proofs.lemmas.Option.{slice_get-get_or}

@@ -1,4 +1,5 @@
--- What stands at a place of a list that is in the order of its keys, and what a look-up finds there.
+-- What stands at a place of a list that is in the order of its keys, and what a look-up finds
+-- there.
 use Rattle.std.proofs.Common.{◌≡◌, ◌∙◌, ◌+◌, [], ℕ, List, Some, ap, arith, get_or, inl, inr, subst, sym}
 use Rattle.std.proofs.lemmas.Bool.{cases_lt}
 use Rattle.std.proofs.lemmas.List.Sorted.{searchable_from_sorted}

@@ -1,6 +1,6 @@
-use Rattle.std.specs.Prelude.{IsTrue, List, Option, is_some}
 use Rattle.std.specs.BTreeMap.{is_at}
 use Rattle.std.specs.Map.{lookup}
+use Rattle.std.specs.Prelude.{IsTrue, List, Option, is_some}
 use Rattle.std.specs.declared.cmp.Ordering.{Ordering}
 
 -- what a table holds: its entries, in the order of their keys

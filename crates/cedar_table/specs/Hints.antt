@@ -1,8 +1,8 @@
 -- Rows of hints: where in a list of entries a key may stand, by the hash of the key.
-use Rattle.std.specs.Prelude.{◌≡◌, ◌≢◌, ◌+◌, ◌-◌, ◌/◌, ◌%◌, ◌^◌, ◌<◌, ℕ, IfSome, IsSomeAnd, IsTrue, List, bit_and, length, slice_get}
 use Rattle.std.specs.Hash.{HashWrites}
 use Rattle.std.specs.Hash.FoldHasher as folding
 use Rattle.std.specs.List.{fold}
+use Rattle.std.specs.Prelude.{◌≡◌, ◌≢◌, ◌+◌, ◌-◌, ◌/◌, ◌%◌, ◌^◌, ◌<◌, ℕ, IfSome, IsSomeAnd, IsTrue, List, bit_and, length, slice_get}
 use Rattle.std.specs.declared.hash.FoldHasher.{FoldHasher}
 use Rattle.cedar_table.specs.declared.hints.Hint.{Hint}
 use Rattle.cedar_table.specs.declared.hints.Hints.{Hints}

@@ -4,7 +4,7 @@ ghost use Rattle.std.specs.Prelude.{◌&&◌};
 ghost use Rattle.cedar_table.specs.Words.{and_equiv, and_per, keys_of, lists_equiv, lists_per, on_equiv, on_per, pointwise, values_of};
 
 use crate::table::Table;
-use cedar_below::QuickHash;
+use cedar_ast::QuickHash;
 use std::fmt;
 
 impl<K: Ord + QuickHash, V: PartialEq> PartialEq for Table<K, V> {

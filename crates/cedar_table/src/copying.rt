@@ -5,7 +5,7 @@ ghost use Rattle.cedar_table.specs.Words.{Equal, FnReturnsAt, HoldsPairwise, Mem
 
 use crate::table::Table;
 use crate::table_keys::TableKeys;
-use cedar_below::{M, QuickHash};
+use cedar_ast::{M, QuickHash};
 
 /// A table of the copies of the entries of a table, in their order. The copy of a key has to tie
 /// with it.

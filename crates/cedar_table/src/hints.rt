@@ -3,7 +3,7 @@
 ghost use Rattle.std.specs.Prelude.{◌≡◌, ℕ, false, IfNone, IfOk, IfSome, IsTrue, length};
 ghost use Rattle.cedar_table.specs.Words.{AreHinted, LeadToAll, LeadsTo, hash_by, row_of, tag_of};
 
-use cedar_below::{M, QuickHash};
+use cedar_ast::{M, QuickHash};
 use std::alloc::Global;
 use std::hash::{FoldHasher, Hasher};
 

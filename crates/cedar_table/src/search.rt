@@ -4,7 +4,7 @@ ghost use Rattle.std.specs.Prelude.{◌↔◌, ℕ, IfNone, IfSome, IsTrue};
 ghost use Rattle.cedar_table.specs.Words.{AreHinted, IsStrictlySortedBy, KeyStandsAt};
 
 use crate::hints::Hints;
-use cedar_below::QuickHash;
+use cedar_ast::QuickHash;
 
 /// Whether the key stands at a place.
 fn stands_at<K: Ord>(keys: &[K], key: &K, place: usize) -> bool

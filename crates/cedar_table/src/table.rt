@@ -2,7 +2,7 @@
 
 use crate::iter::{Iter, Keys, Values};
 use crate::table_keys::TableKeys;
-use cedar_below::{M, QuickHash};
+use cedar_ast::{M, QuickHash};
 use std::alloc::Global;
 use std::collections::BTreeMap;
 use std::marker::Model;

@@ -2,7 +2,7 @@
 
 use crate::hints::Hints;
 use crate::search::place_of;
-use cedar_below::{M, QuickHash};
+use cedar_ast::{M, QuickHash};
 use std::alloc::Global;
 use std::marker::Model;
 

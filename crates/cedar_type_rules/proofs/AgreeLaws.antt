@@ -1,8 +1,8 @@
 -- Strict subtyping is permissive subtyping of types that agree.
 use Rattle.std.proofs.Common.{◌≡◌, ◌↔◌, inl, inr, Bool, sym, ap, ◌∙◌, Some}
-use Rattle.cedar_type_rules.specs.Words.{Agree, AreWellFormed, Below, ClosedAttributes, Fields, FieldsAgree, FieldsBelow, HasField, IsSortedByName, IsWellFormed, NamesBelow, OpenAttributes, OpenTag, Permissive, Strict, Text, Ty, any_entity, any_set, end, extension_of, field, field_at, long, never, record_of, set_of, text, truth, union_of}
 use Rattle.cedar_type_rules.proofs.SubtypeLaws.{FieldsBelow-names}
 use Rattle.cedar_type_rules.proofs.SubtypeLemmas.{found-HasField}
+use Rattle.cedar_type_rules.specs.Words.{Agree, AreWellFormed, Below, ClosedAttributes, Fields, FieldsAgree, FieldsBelow, HasField, IsSortedByName, IsWellFormed, NamesBelow, OpenAttributes, OpenTag, Permissive, Strict, Text, Ty, any_entity, any_set, end, extension_of, field, field_at, long, never, record_of, set_of, text, truth, union_of}
 
 -- names that fit strictly fit permissively
 NamesBelow-permissive : (openness : OpenTag) (a b : Fields) → NamesBelow Strict openness a b → NamesBelow Permissive openness a b

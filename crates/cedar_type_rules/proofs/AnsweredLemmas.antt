@@ -1,12 +1,12 @@
 -- Answers of joins of types that aren't records.
 use Rattle.std.proofs.Common.{◌≡◌, ◌≢◌, ◌⊎◌, inl, inr, refl, sym, ◌∙◌, [], ◌∷◌, List, Ok, Err, IfOk, arith}
-use Rattle.cedar_below.proofs.Lists.{Contains-cons}
-use Rattle.cedar_below.proofs.PlainNames.{name_cmp-total, name_cmp-Equal}
-use Rattle.cedar_type_rules.specs.Words.{AnyBool, Below, BoolType, False, HaveOwnBound, Included, IsHelp, IsJoinAnswer, IsLeastOwnBound, IsName, IsOwnBound, IsWellFormed, JoinAnswer, LubHelp, Permissive, PlainName, Strict, True, Ty, ValidationMode, any_entity, any_set, extension_of, long, name_cmp, never, record_of, set_of, text, truth, union_of}
+use Rattle.cedar_ast.proofs.Lists.{Contains-cons}
+use Rattle.cedar_ast.proofs.PlainNames.{name_cmp-total, name_cmp-Equal}
 use Rattle.cedar_type_rules.proofs.AntisymmetryLaws.{Included-same}
 use Rattle.cedar_type_rules.proofs.Decisions.{IsDecided, decide_both, decide_same, decide_included, Merged, merge}
 use Rattle.cedar_type_rules.proofs.JoinLemmas.{upper_is_join}
 use Rattle.cedar_type_rules.proofs.WithinLemmas.{within_elements, within_sets}
+use Rattle.cedar_type_rules.specs.Words.{AnyBool, Below, BoolType, False, HaveOwnBound, Included, IsHelp, IsJoinAnswer, IsLeastOwnBound, IsName, IsOwnBound, IsWellFormed, JoinAnswer, LubHelp, Permissive, PlainName, Strict, True, Ty, ValidationMode, any_entity, any_set, extension_of, long, name_cmp, never, record_of, set_of, text, truth, union_of}
 use Rattle.cedar_type_rules.specs.declared.join_error.LubHelp.TheVariants as help
 
 -- a join of two types has an answer, and what it gives is well formed

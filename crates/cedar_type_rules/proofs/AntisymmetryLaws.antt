@@ -5,14 +5,14 @@ use Rattle.std.specs.Cmp.{IsTotalOrder}
 use Rattle.std.specs.List.Sorted.{IsStrictlySortedBy}
 use Rattle.std.specs.declared.cmp.Ordering.{Ordering}
 use Rattle.std.specs.declared.cmp.Ordering.TheVariants.{Less}
-use Rattle.cedar_below.proofs.Lists.{Contains-cons, Contains-cons_cases}
-use Rattle.cedar_below.proofs.Ordered.{apart, not_itself}
-use Rattle.cedar_below.proofs.PlainNames.{name_cmp-total}
-use Rattle.cedar_below.proofs.Texts.{text_cmp-total}
-use Rattle.cedar_type_rules.specs.Words.{AreWellFormed, Below, ClosedAttributes, Fields, FieldsBelow, FlagsBelow, HasField, Included, IsSortedByName, IsWellFormed, OpenAttributes, OpenTag, OpennessBelow, Permissive, Strict, Text, Ty, ValidationMode, any_entity, any_set, end, extension_of, field, field_names, long, name_cmp, never, record_of, set_of, text, text_cmp, truth, union_of}
+use Rattle.cedar_ast.proofs.Lists.{Contains-cons, Contains-cons_cases}
+use Rattle.cedar_ast.proofs.Ordered.{apart, not_itself}
+use Rattle.cedar_ast.proofs.PlainNames.{name_cmp-total}
+use Rattle.cedar_ast.proofs.Texts.{text_cmp-total}
 use Rattle.cedar_type_rules.proofs.AgreeLaws.{AreWellFormed-of, HasField-once}
 use Rattle.cedar_type_rules.proofs.SubtypeLaws.{FieldsWithin, HasBelow-of, HasField-name, HasField-named, FieldsBelow-names}
 use Rattle.cedar_type_rules.proofs.SubtypeLemmas.{HasField-all}
+use Rattle.cedar_type_rules.specs.Words.{AreWellFormed, Below, ClosedAttributes, Fields, FieldsBelow, FlagsBelow, HasField, Included, IsSortedByName, IsWellFormed, OpenAttributes, OpenTag, OpennessBelow, Permissive, Strict, Text, Ty, ValidationMode, any_entity, any_set, end, extension_of, field, field_names, long, name_cmp, never, record_of, set_of, text, text_cmp, truth, union_of}
 
 -- sorted lists without duplicates and include each other are the same
 pub Included-same : {B : Type 0} (R : B → B → Ordering) → IsTotalOrder R → (xs ys : List B) → IsStrictlySortedBy R xs
@@ -48,7 +48,8 @@ Included-same {B = B} R total (x ∷ xs) (y ∷ ys) first second forth back =
     ]) in
     λ i. same i ∷ rest i
 
--- records whose names are sorted without duplicates and that have each other's attributes are the same
+-- records whose names are sorted without duplicates and that have each other's attributes are the
+-- same
 Fields-same : (a b : Fields) → IsSortedByName a → IsSortedByName b → FieldsWithin a b → FieldsWithin b a → a ≡ b
 unfolding IsStrictlySortedBy
 Fields-same end end first second forth back = refl
@@ -93,7 +94,8 @@ OpennessBelow-same OpenAttributes ClosedAttributes h k = elim h [ ]
 OpennessBelow-same ClosedAttributes OpenAttributes h k = elim k [ ]
 OpennessBelow-same ClosedAttributes ClosedAttributes h k = refl
 
--- where one record has the other's attributes, and its names are among the other's, the other has its attributes
+-- where one record has the other's attributes, and its names are among the other's, the other has
+-- its attributes
 FieldsWithin-back : (a b : Fields) → IsSortedByName a → FieldsWithin b a → Included (field_names a) (field_names b) → FieldsWithin a b
 FieldsWithin-back a b sorted_by_name within names name required ty has =
     let found = HasField-named b name (names name (HasField-name a name required ty has)) in

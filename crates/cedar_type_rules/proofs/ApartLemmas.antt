@@ -2,8 +2,8 @@
 use Rattle.std.proofs.Common.{◌≡◌, ◌⊎◌, inl, inr, Bool, true, false, refl, sym, ◌∙◌}
 use Rattle.std.proofs.lemmas.Slice.Eq.{bytes_eq-Decides}
 use Rattle.std.specs.Str.{bytes_eq}
-use Rattle.cedar_type_rules.specs.Words.{Below, BoolType, Fields, FieldsBelow, HasField, Permissive, Text, Ty, ValidationMode, any_set, end, field, long, text, truth}
 use Rattle.cedar_type_rules.proofs.SubtypeLaws.{HasBelow-of}
+use Rattle.cedar_type_rules.specs.Words.{Below, BoolType, Fields, FieldsBelow, HasField, Permissive, Text, Ty, ValidationMode, any_set, end, field, long, text, truth}
 
 -- texts that a test tells apart differ
 pub texts_differ : (a b : Text) → bytes_eq a b ≡ false → ¬ (a ≡ b)
@@ -45,7 +45,8 @@ unnamed mode a b fields name first second one other apart h k required ty has =
     let alike : also.1 ≡ second = other also.0 also.1 also.2 in
     apart ty (rw same at own.4) (rw alike at also.4)
 
--- a record has one attribute of a name, required and of that type, and beside it one of another name at most
+-- a record has one attribute of a name, required and of that type, and beside it one of another
+-- name at most
 abbrev pub IsPair : Fields → Text → Text → Ty → Ty → Type 0
 IsPair fields kept dropped ty other =
     (name : Text) (required : Bool) (of : Ty) → HasField fields name required of

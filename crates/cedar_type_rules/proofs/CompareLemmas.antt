@@ -1,11 +1,11 @@
 -- Comparisons of truth values and of openness, by their variants in order.
 use Rattle.std.proofs.Common.{◌≡◌, ◌↔◌, Bool, true, false, refl, sym, ap, ◌∙◌, IsTrue}
+use Rattle.std.proofs.lemmas.Bool.{false≢true}
 use Rattle.std.specs.Bool.{Decides}
 use Rattle.std.specs.Hash.{le_bytes}
 use Rattle.std.specs.Ordering.{is_eq}
 use Rattle.std.specs.declared.cmp.Ordering.{Ordering}
 use Rattle.std.specs.declared.cmp.Ordering.TheVariants.{Equal}
-use Rattle.std.proofs.lemmas.Bool.{false≢true}
 use Rattle.cedar_type_rules.specs.Words.{AnyBool, BoolType, ClosedAttributes, ComparesBy, False, FeedsVariantFirst, OpenAttributes, OpenTag, True, is_open, openness_cmp, truth_cmp}
 use Rattle.cedar_type_rules.specs.contracts.bool_type.BoolTypeHash.TheImpl as bool_hash
 use Rattle.cedar_type_rules.specs.contracts.bool_type.BoolTypeOrd.TheImpl as bool_ord

@@ -1,11 +1,12 @@
 -- Steps of a walk over two records that tells whether they are consistent.
 use Rattle.std.proofs.Common.{◌≡◌, ◌⊎◌, ◌↔◌, inl, inr, refl, sym, Bool, false, List, [], ◌∷◌, ◌++◌, Contains, arith}
 use Rattle.std.specs.List.{AllByRecursion}
-use Rattle.cedar_below.proofs.Lists.{Contains-cons, Contains-cons_cases}
-use Rattle.cedar_type_rules.specs.Words.{AreOptionalBeyond, CoreFields, CoreTy, Fields, FieldsAreConsistent, HasCoreField, HasField, IsConsistent, Text, Ty, core_end, core_field, core_names, end, field, field_names, fields_from}
+use Rattle.cedar_ast.proofs.Lists.{Contains-cons, Contains-cons_cases}
 use Rattle.cedar_type_rules.proofs.SubtypeLaws.{HasField-name}
+use Rattle.cedar_type_rules.specs.Words.{AreOptionalBeyond, CoreFields, CoreTy, Fields, FieldsAreConsistent, HasCoreField, HasField, IsConsistent, Text, Ty, core_end, core_field, core_names, end, field, field_names, fields_from}
 
--- the attributes of two records are consistent, where the one may have others if this holds, and the other if that does
+-- the attributes of two records are consistent, where the one may have others if this holds, and
+-- the other if that does
 abbrev pub AreConsistent : Fields → CoreFields → Type 0 → Type 0 → Type 0
 AreConsistent fields core IsOpen IsCoreOpen =
     FieldsAreConsistent fields core
@@ -53,7 +54,8 @@ module _ (IsOpen IsCoreOpen : Type 0) where
     ),
   )
 
-  -- attributes are consistent with others and one more, whose name they lack, where they are with the others
+  -- attributes are consistent with others and one more, whose name they lack, where they are with
+  -- the others
   with_one_more : (fields : Fields) (name : Text) (required : Bool) (of : CoreTy) (rest : CoreFields) → ¬ Contains (field_names fields) name
       → FieldsAreConsistent fields rest → FieldsAreConsistent fields (core_field name required of rest)
   with_one_more end name required of rest fresh all = tt

@@ -1,8 +1,8 @@
 -- Faults of core types in the parts of a type, and attributes whose types have core types.
 use Rattle.std.proofs.Common.{◌≡◌, ◌⊎◌, inl, inr, refl, Bool, List, [], ◌∷◌, ◌++◌, map, Some, None, Result, Ok, Err, IfErr}
 use Rattle.std.specs.Option.{option_map, option_zip}
-use Rattle.cedar_type_rules.specs.Words.{CoreTy, CoreTypeFault, Fields, HoldsPairwise, IsAnyEntity, IsCoreFault, IsFieldsFault, IsNever, IsWideUnion, LacksCore, StandsIn, StandsInFields, Text, Ty, any_entity, core_field, core_fields, core_fields_from, core_of, end, field, fields_from, never, record_of, set_of, union_of}
 use Rattle.cedar_type_rules.proofs.CoreLemmas.{core_lacked}
+use Rattle.cedar_type_rules.specs.Words.{CoreTy, CoreTypeFault, Fields, HoldsPairwise, IsAnyEntity, IsCoreFault, IsFieldsFault, IsNever, IsWideUnion, LacksCore, StandsIn, StandsInFields, Text, Ty, any_entity, core_field, core_fields, core_fields_from, core_of, end, field, fields_from, never, record_of, set_of, union_of}
 use Rattle.cedar_type_rules.specs.declared.core_type_fault.CoreTypeFault.TheVariants as fault
 
 -- what stands in the type of one of some attributes stands in them
@@ -56,7 +56,8 @@ fault-lacks ty fault.AnyEntityType stands = inr ((core_lacked ty).1 (stands-also
 fault-lacks ty fault.UnionType stands = inr ((core_lacked ty).1 (stands-also IsWideUnion LacksCore wide-lacks ty stands))
 fault-lacks ty fault.Memory stands = inl refl
 
--- where an answer is refused with a fault that is there, it is that memory ran out or there is no core type
+-- where an answer is refused with a fault that is there, it is that memory ran out or there is no
+-- core type
 pub refused-lacks : {A : Type 0} (ty : Ty) (answer : Result A CoreTypeFault) → IfErr answer (IsCoreFault ty)
     → IfErr answer (λ given. (given ≡ fault.Memory) ⊎ (core_of ty ≡ None))
 refused-lacks ty (Ok core) stands = tt

@@ -7,9 +7,9 @@ use Rattle.std.specs.List.Sorted.{IsStrictlySortedBy}
 use Rattle.std.specs.Ordering.{ordering_reverse}
 use Rattle.std.specs.declared.cmp.Ordering.{Ordering}
 use Rattle.std.specs.declared.cmp.Ordering.TheVariants.{Less, Equal, Greater}
-use Rattle.cedar_below.proofs.Inclusion.{Included-none, Included-cons, Included-head, Included-tail}
-use Rattle.cedar_below.proofs.Lists.{Contains-cons, Contains-cons_cases}
-use Rattle.cedar_below.specs.Lists.{Included}
+use Rattle.cedar_ast.proofs.Inclusion.{Included-none, Included-cons, Included-head, Included-tail}
+use Rattle.cedar_ast.proofs.Lists.{Contains-cons, Contains-cons_cases}
+use Rattle.cedar_ast.specs.Lists.{Included}
 
 -- a fact holds or doesn't
 abbrev pub IsDecided : Type 0 → Type 0

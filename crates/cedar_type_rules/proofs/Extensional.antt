@@ -9,7 +9,7 @@ use Rattle.std.specs.Option.{option_or}
 use Rattle.std.specs.Ordering.{is_eq, ordering_reverse}
 use Rattle.std.specs.Str.{bytes_eq}
 use Rattle.std.specs.declared.cmp.Ordering.TheVariants.{Less, Equal, Greater}
-use Rattle.cedar_below.proofs.Texts.{text_cmp-Equal}
+use Rattle.cedar_ast.proofs.Texts.{text_cmp-Equal}
 use Rattle.cedar_type_rules.specs.Words.{Fields, HoldsLast, IsSortedByName, Text, Ty, end, field, field_at, field_names, fields_from, last_named, text_cmp}
 
 -- the name is below each of the names

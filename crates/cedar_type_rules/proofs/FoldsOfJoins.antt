@@ -5,7 +5,8 @@ use Rattle.cedar_type_rules.specs.Words.{IsCleanAbove, IsFoldOfJoins, IsGivenOrM
 use Rattle.cedar_type_rules.specs.declared.join_error.JoinError.TheVariants as error
 
 module _ {A : Type 0} (IsJoin : A → A → Result A LubHelp → Type 0) where
-  -- what the values that are left are joined to, from the join so far, all of them are from the start
+  -- what the values that are left are joined to, from the join so far, all of them are from the
+  -- start
   pub record JoinedSoFar (start : A) (all rest : List A) (join : A) : Type 0 where
     pub whole : (answer : Result A LubHelp) → IsFoldOfJoins IsJoin join rest answer → IsFoldOfJoins IsJoin start all answer
 
@@ -48,7 +49,8 @@ pub record JoinLaws {A : Type 0} (IsBelow : A → A → Type 0) (IsClean : A →
 
 module _ {A : Type 0} (IsBelow : A → A → Type 0) (IsClean : A → Type 0) (IsJoin : A → A → Result A LubHelp → Type 0)
     (laws : JoinLaws IsBelow IsClean IsJoin) where
-  -- an answer is the least of the clean bounds of some values where it is that of others with the same bounds
+  -- an answer is the least of the clean bounds of some values where it is that of others with the
+  -- same bounds
   least-same : (items others : List A) (answer : Result A LubHelp)
       → ((bound : A) → IsCleanAbove IsBelow IsClean items bound → IsCleanAbove IsBelow IsClean others bound)
       → ((bound : A) → IsCleanAbove IsBelow IsClean others bound → IsCleanAbove IsBelow IsClean items bound)
@@ -56,7 +58,8 @@ module _ {A : Type 0} (IsBelow : A → A → Type 0) (IsClean : A → Type 0) (I
   least-same items others (Ok least) forth back right = (forth least right.0, λ bound other. right.1 bound (back bound other))
   least-same items others (Err given) forth back right = λ bound other. right bound (back bound other)
 
-  -- clean values that are folded by joins from a clean start give the least clean bound of the start and of them
+  -- clean values that are folded by joins from a clean start give the least clean bound of the
+  -- start and of them
   pub joined_is_least : (start : A) (items : List A) (answer : Result A LubHelp) → IsClean start → AllByRecursion IsClean items
       → IsFoldOfJoins IsJoin start items answer → IsLeastClean IsBelow IsClean (start ∷ items) answer
   joined_is_least start [] answer clean all is = rw is (((laws.itself start, tt), clean), λ bound own. own.0.0)

@@ -4,8 +4,8 @@ use Rattle.std.proofs.lemmas.Slice.Eq.{bytes_eq-Decides}
 use Rattle.std.specs.Bool.{Decides}
 use Rattle.std.specs.Option.{is_some, option_map, option_copied}
 use Rattle.std.specs.Str.{bytes_eq}
-use Rattle.cedar_below.proofs.Inclusion.{chosen}
-use Rattle.cedar_below.proofs.Lists.{Contains-cons, Contains-cons_cases}
+use Rattle.cedar_ast.proofs.Inclusion.{chosen}
+use Rattle.cedar_ast.proofs.Lists.{Contains-cons, Contains-cons_cases}
 use Rattle.cedar_type_rules.specs.Words.{Fields, Text, Ty, end, field, field_at, field_names}
 
 -- an attribute is found exactly where its name is among the names

@@ -1,13 +1,13 @@
 -- Any two well-formed types have an answer of their join.
 use Rattle.std.proofs.Common.{refl, List, [], ◌∷◌, inl, inr, Ok, Err, IfOk}
 use Rattle.std.specs.List.{AllByRecursion}
-use Rattle.cedar_type_rules.specs.Words.{AreWellFormed, Below, Fields, IsOwnBound, IsReduceAnswer, IsWellFormed, JoinAnswer, JoinsAreAnswered, Permissive, ReductionsAreAnswered, Strict, StrictJoinsArePermissive, Ty, ValidationMode, any_entity, any_set, end, extension_of, field, long, never, record_of, set_of, text, truth, union_of}
 use Rattle.cedar_type_rules.proofs.AgreeLaws.{AreWellFormed-of, Below-permissive}
 use Rattle.cedar_type_rules.proofs.AnsweredLemmas.{IsAnswered, refused, second_is_upper, first_is_upper, truths_answered, sets_answered, extensions_answered, unions_answered, strict_unions_answered, unlike_shapes, any_and_union, union_and_any}
 use Rattle.cedar_type_rules.proofs.RecordAnswers.{AreAnswered, permissive_records_answered}
 use Rattle.cedar_type_rules.proofs.StrictJoinLemmas.{strict_below}
 use Rattle.cedar_type_rules.proofs.StrictRecordAnswers.{strict_records_answered}
 use Rattle.cedar_type_rules.proofs.SubtypeLaws.{Below-trans}
+use Rattle.cedar_type_rules.specs.Words.{AreWellFormed, Below, Fields, IsOwnBound, IsReduceAnswer, IsWellFormed, JoinAnswer, JoinsAreAnswered, Permissive, ReductionsAreAnswered, Strict, StrictJoinsArePermissive, Ty, ValidationMode, any_entity, any_set, end, extension_of, field, long, never, record_of, set_of, text, truth, union_of}
 use Rattle.cedar_type_rules.specs.declared.join_error.LubHelp.TheVariants as help
 
 mutual

@@ -1,9 +1,9 @@
 -- What follows for the least own bound of two types.
 use Rattle.std.proofs.Common.{inl, inr, refl, Ok, Err}
-use Rattle.cedar_type_rules.specs.Words.{CleanBoundsAreOwn, IsEither, IsOwnBound, JoinsAreBelowCleanBounds, JoinsAreCommutative, JoinsAreGivenExactly, JoinsAreUnique, JoinsOfCleanAreLeastClean, OwnBoundsOfCleanAreClean, Ty, UpperTypesAreJoins, ValidationMode}
 use Rattle.cedar_type_rules.proofs.AntisymmetryLaws.{Below-same}
 use Rattle.cedar_type_rules.proofs.OwnBoundLemmas.{LiesWithin-clean, IsClean-within, LiesWithin-more, LiesWithin-among}
 use Rattle.cedar_type_rules.proofs.SubtypeLaws.{Below-itself}
+use Rattle.cedar_type_rules.specs.Words.{CleanBoundsAreOwn, IsEither, IsOwnBound, JoinsAreBelowCleanBounds, JoinsAreCommutative, JoinsAreGivenExactly, JoinsAreUnique, JoinsOfCleanAreLeastClean, OwnBoundsOfCleanAreClean, Ty, UpperTypesAreJoins, ValidationMode}
 
 -- a clean bound is an own bound
 pub clean_is_own : CleanBoundsAreOwn

@@ -1,9 +1,9 @@
 -- Values that stand for plain types are joined as these are.
 use Rattle.std.proofs.Common.{◌≡◌, inl, inr, ap, map, List, [], ◌∷◌, Result, Ok, Err}
 use Rattle.std.specs.Result.{result_map_both}
-use Rattle.cedar_type_rules.specs.Words.{AnswersJoinOf, Below, IsAnswerOrMemory, IsClean, IsFoldOfJoins, IsGivenOrMemory, IsReduceAnswer, IsWellFormed, JoinAnswer, JoinError, LubHelp, Ty, ValidationMode}
 use Rattle.cedar_type_rules.proofs.JoinLemmas.{clean_is_own, own_is_clean}
 use Rattle.cedar_type_rules.proofs.SubtypeLaws.{Below-itself, Below-trans}
+use Rattle.cedar_type_rules.specs.Words.{AnswersJoinOf, Below, IsAnswerOrMemory, IsClean, IsFoldOfJoins, IsGivenOrMemory, IsReduceAnswer, IsWellFormed, JoinAnswer, JoinError, LubHelp, Ty, ValidationMode}
 use Rattle.cedar_type_rules.specs.declared.join_error.JoinError.TheVariants as error
 
 module _ {A : Type 0} (stands_for : A → Ty) (mode : ValidationMode) where
@@ -51,8 +51,8 @@ answers_by stands_for P Q (Ok value) forth right = forth (Ok value) right
 answers_by stands_for P Q (Err (error.Help given)) forth right = forth (Err given) right
 answers_by stands_for P Q (Err error.Memory) forth right = tt
 
--- values that stand for well-formed types and are folded by joins stand for types that are reduced to what the answer
--- stands for
+-- values that stand for well-formed types and are folded by joins stand for types that are reduced
+-- to what the answer stands for
 pub joined_reduced : {A : Type 0} (stands_for : A → Ty) (formed : (a : A) → IsWellFormed (stands_for a)) (mode : ValidationMode)
     (start : A) (items : List A) (answer : Result A LubHelp)
     → IsFoldOfJoins (AnswersJoinOf stands_for mode) start items answer

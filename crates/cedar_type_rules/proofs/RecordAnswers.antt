@@ -3,15 +3,15 @@ use Rattle.std.proofs.Common.{◌≡◌, ◌↔◌, inl, inr, Bool, true, false,
 use Rattle.std.specs.List.{AllByRecursion}
 use Rattle.std.specs.List.Sorted.{IsStrictlySortedBy}
 use Rattle.std.specs.declared.cmp.Ordering.TheVariants.{Less}
-use Rattle.cedar_below.proofs.Texts.{text_cmp-Equal}
-use Rattle.cedar_type_rules.specs.Words.{AreTexts, AreWellFormed, Below, ClosedAttributes, Fields, FieldsBelow, HasField, HaveOwnBound, Included, IsEither, IsLeastOwnBound, IsOwnBound, IsSortedByName, IsWellFormed, NamesBelow, OpenAttributes, OpenTag, OpennessBelow, Permissive, Text, Ty, ValidationMode, end, field, field_names, record_of, text_cmp}
-use Rattle.cedar_type_rules.proofs.Extensional.{rest_sorted_by_name}
+use Rattle.cedar_ast.proofs.Texts.{text_cmp-Equal}
 use Rattle.cedar_type_rules.proofs.AgreeLaws.{HasField-once}
 use Rattle.cedar_type_rules.proofs.AnsweredLemmas.{IsAnswered, given}
 use Rattle.cedar_type_rules.proofs.Decisions.{IsDecided, decide_both, decide_same, decide_among, decide_included, of_each}
-use Rattle.cedar_type_rules.proofs.WithinLemmas.{FieldsBelow-from, FieldsLieWithin-from, FieldsLieWithin-of, within_both, within_named}
+use Rattle.cedar_type_rules.proofs.Extensional.{rest_sorted_by_name}
 use Rattle.cedar_type_rules.proofs.StrictJoinLemmas.{tag_below, names_below}
 use Rattle.cedar_type_rules.proofs.SubtypeLaws.{HasBelow-of, HasField-name, HasField-named, FieldsBelow-names}
+use Rattle.cedar_type_rules.proofs.WithinLemmas.{FieldsBelow-from, FieldsLieWithin-from, FieldsLieWithin-of, within_both, within_named}
+use Rattle.cedar_type_rules.specs.Words.{AreTexts, AreWellFormed, Below, ClosedAttributes, Fields, FieldsBelow, HasField, HaveOwnBound, Included, IsEither, IsLeastOwnBound, IsOwnBound, IsSortedByName, IsWellFormed, NamesBelow, OpenAttributes, OpenTag, OpennessBelow, Permissive, Text, Ty, ValidationMode, end, field, field_names, record_of, text_cmp}
 
 -- the types of a name that both records have are answered
 abbrev pub AreAnswered : ValidationMode → Fields → Fields → Type 0
@@ -30,7 +30,8 @@ all_names P end each = tt
 all_names P (field name required ty rest) each =
     (each name required ty (inl (refl, refl, refl)), all_names P rest (λ n r t has. each n r t (inr has)))
 
--- an attribute of the join: both records have it, its type is the least own bound there, and its flag fits
+-- an attribute of the join: both records have it, its type is the least own bound there, and its
+-- flag fits
 pub record IsJoined (mode : ValidationMode) (flags : Bool → Bool → Bool → Type 0) (fa fb : Fields) (name : Text)
     (required : Bool) (ty : Ty) : Type 0 where
   pub first_flag : Bool
@@ -84,7 +85,8 @@ both_require true true = (λ e. (refl, refl), λ both. refl)
 both_require true false = (λ e. absurd cc, λ both. both.1)
 both_require false b = (λ e. absurd cc, λ both. both.0)
 
--- the attributes of a permissive join: each is joined, and each name whose types have an own bound is there
+-- the attributes of a permissive join: each is joined, and each name whose types have an own bound
+-- is there
 pub record PermissiveJoin (fa fb : Fields) : Type 0 where
   pub fields : Fields
   pub sorted_by_name : IsSortedByName fields

@@ -2,11 +2,11 @@
 use Rattle.std.proofs.Common.{◌≡◌, ◌∙◌, ◌++◌, inl, inr, ap, sym, List, [], ◌∷◌, Ok, Err, IfOk}
 use Rattle.std.proofs.lemmas.List.Elements.{All-contains, All-from_recursion}
 use Rattle.std.specs.List.{AllByRecursion}
-use Rattle.cedar_below.proofs.Inclusion.{Included-head, Included-tail}
-use Rattle.cedar_type_rules.specs.Words.{Below, CleanAreReducedInAnyOrder, CleanAreReducedToLeastClean, EmptyIsReducedToNever, HaveOwnBound, Included, IsClean, IsCleanBound, IsHelp, IsLeastAnswer, IsReduceAnswer, IsWellFormed, JoinAnswer, LubHelp, ReductionsAreUnique, ReductionsAreWellFormed, RefusalsAreOfTheFirst, Ty, ValidationMode, never}
+use Rattle.cedar_ast.proofs.Inclusion.{Included-head, Included-tail}
 use Rattle.cedar_type_rules.proofs.AntisymmetryLaws.{Below-same}
 use Rattle.cedar_type_rules.proofs.JoinLemmas.{clean_is_own, join_unique, own_is_clean}
 use Rattle.cedar_type_rules.proofs.SubtypeLaws.{Below-itself, Below-trans}
+use Rattle.cedar_type_rules.specs.Words.{Below, CleanAreReducedInAnyOrder, CleanAreReducedToLeastClean, EmptyIsReducedToNever, HaveOwnBound, Included, IsClean, IsCleanBound, IsHelp, IsLeastAnswer, IsReduceAnswer, IsWellFormed, JoinAnswer, LubHelp, ReductionsAreUnique, ReductionsAreWellFormed, RefusalsAreOfTheFirst, Ty, ValidationMode, never}
 
 -- an answer is the least of some bounds where it is that of the same bounds said otherwise
 IsLeastAnswer-same : (mode : ValidationMode) (Bounds Others : Ty → Type 0) (answer : JoinAnswer)
@@ -66,7 +66,8 @@ unique_from mode start (ty ∷ rest) join answer (inr (given, none, is)) second 
 pub reduced_once : ReductionsAreUnique
 reduced_once mode tys join answer first second = unique_from mode never tys join answer first second
 
--- where some types are reduced from a start to one that has no own bound with the next, the help is one for these two
+-- where some types are reduced from a start to one that has no own bound with the next, the help is
+-- one for these two
 refused_from : (mode : ValidationMode) (start : Ty) (before after : List Ty) (join ty : Ty) (answer : JoinAnswer)
     → IsReduceAnswer mode start before (Ok join) → ¬ HaveOwnBound mode join ty
     → IsReduceAnswer mode start (before ++ ty ∷ after) answer
@@ -84,7 +85,8 @@ refused_from mode start (first ∷ before) after join ty answer (inl (one, right
     absurd (apart.0 (one, right.0))
 refused_from mode start (first ∷ before) after join ty answer (inr (given, right, is)) none second = absurd cc
 
--- where some types are reduced to one that has no own bound with the next, the help is one for these two
+-- where some types are reduced to one that has no own bound with the next, the help is one for
+-- these two
 pub refused_first : RefusalsAreOfTheFirst
 refused_first mode before after join ty answer first none second = refused_from mode never before after join ty answer first none second
 

@@ -1,19 +1,19 @@
 -- Values of inhabited types, and of records with a chosen attribute.
 use Rattle.std.proofs.Common.{◌≡◌, ◌≢◌, inl, inr, Bool, true, false, refl, sym, ◌∙◌, ℕ, suc, ◌+◌, ◌≤◌, pos, length, List, [], ◌∷◌, Option, Some, None, Contains, arith}
-use Rattle.std.proofs.lemmas.Slice.Eq.{bytes_eq-Decides}
 use Rattle.std.proofs.Math.Facts.{sfits_lit}
+use Rattle.std.proofs.lemmas.Slice.Eq.{bytes_eq-Decides}
 use Rattle.std.specs.Str.{bytes_eq}
-use Rattle.cedar_below.proofs.Inclusion.{Included-none, Included-cons}
-use Rattle.cedar_below.proofs.Lists.{Contains-cons, Contains-cons_cases}
-use Rattle.cedar_type_rules.specs.Words.{AnyBool, AreEntries, AreInhabited, AreTexts, AreWellFormed, BoolType, ClosedAttributes, Entries, EntryFits, Extensions, False, Fields, Gives, Has, HasBy, HasField, HasFieldsBy, HasTruth, Included, IsInhabited, IsName, IsSortedByName, IsText, IsValue, IsWellFormed, NamesListed, OpenAttributes, OpenTag, PlainName, Text, Tree, Trees, True, Ty, any_entity, any_set, end, entry, entry_at, entry_names, extension_of, field, field_names, is_open, long, map_value, never, no_entry, no_tree, number_value, record_of, set_of, set_value, text, text_value, truth, truth_value, uid_value, union_of}
 use Rattle.std.specs.declared.cmp.Ordering.TheVariants.{Less, Equal}
-use Rattle.cedar_below.proofs.Texts.{text_cmp-Equal}
-use Rattle.cedar_below.proofs.ValueLemmas.{length-stretch, stretch, stretch_name, IsText-stretch, IsText-nil, IsName-stretch}
+use Rattle.cedar_ast.proofs.Inclusion.{Included-none, Included-cons}
+use Rattle.cedar_ast.proofs.Lists.{Contains-cons, Contains-cons_cases}
+use Rattle.cedar_ast.proofs.Texts.{text_cmp-Equal}
+use Rattle.cedar_ast.proofs.ValueLemmas.{length-stretch, stretch, stretch_name, IsText-stretch, IsText-nil, IsName-stretch}
 use Rattle.cedar_type_rules.proofs.AgreeLaws.{HasField-once}
-use Rattle.cedar_type_rules.proofs.RecordAnswers.{decide_texts}
 use Rattle.cedar_type_rules.proofs.Extensional.{IsBelowEach, first_below, rest_sorted_by_name}
+use Rattle.cedar_type_rules.proofs.RecordAnswers.{decide_texts}
 use Rattle.cedar_type_rules.proofs.SubtypeLaws.{HasField-name}
 use Rattle.cedar_type_rules.proofs.SubtypeLemmas.{chosen_first, unchosen}
+use Rattle.cedar_type_rules.specs.Words.{AnyBool, AreEntries, AreInhabited, AreTexts, AreWellFormed, BoolType, ClosedAttributes, Entries, EntryFits, Extensions, False, Fields, Gives, Has, HasBy, HasField, HasFieldsBy, HasTruth, Included, IsInhabited, IsName, IsSortedByName, IsText, IsValue, IsWellFormed, NamesListed, OpenAttributes, OpenTag, PlainName, Text, Tree, Trees, True, Ty, any_entity, any_set, end, entry, entry_at, entry_names, extension_of, field, field_names, is_open, long, map_value, never, no_entry, no_tree, number_value, record_of, set_of, set_value, text, text_value, truth, truth_value, uid_value, union_of}
 
 -- a record is a value of a type if each listed attribute fits
 pub HasFields-from : (calls : PlainName → Trees → PlainName → Type 0) (values : Entries) (fields : Fields)

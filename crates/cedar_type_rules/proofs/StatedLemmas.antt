@@ -5,8 +5,8 @@ use Rattle.std.specs.Map.{lookup}
 use Rattle.std.specs.Ordering.{is_eq}
 use Rattle.std.specs.declared.cmp.Ordering.{Ordering}
 use Rattle.std.specs.declared.cmp.Ordering.TheVariants.{Equal}
-use Rattle.cedar_below.proofs.PlainNames.{name_cmp-Equal}
-use Rattle.cedar_below.proofs.ValueLemmas.{IsName-plain_name}
+use Rattle.cedar_ast.proofs.PlainNames.{name_cmp-Equal}
+use Rattle.cedar_ast.proofs.ValueLemmas.{IsName-plain_name}
 use Rattle.cedar_type_rules.specs.Words.{AreInhabited, AreInhabitedWith, Extensions, Fields, IsInhabited, IsInhabitedWith, IsName, IsStated, IsStatedWith, Name, PlainName, Tree, Ty, call_value, end, extension_of, field, name_cmp, never, no_tree, plain_name, record_of, set_of}
 
 -- a name that ties with what a name stands for isn't reserved

@@ -1,10 +1,10 @@
 -- A strict join is below each own bound in permissive mode.
 use Rattle.std.proofs.Common.{◌≡◌, refl, sym, ◌∙◌, inl, inr}
-use Rattle.cedar_type_rules.specs.Words.{Below, ClosedAttributes, Fields, FieldsBelow, FieldsLieWithin, Included, IsEither, IsLeastOwnBound, IsOwnBound, IsWellFormed, NamesBelow, OpenAttributes, OpenTag, OpennessBelow, Permissive, Strict, Ty, any_entity, any_set, end, extension_of, field, field_names, long, never, record_of, set_of, text, truth, union_of}
 use Rattle.cedar_type_rules.proofs.AgreeLaws.{Below-permissive, AreWellFormed-of, HasField-once}
 use Rattle.cedar_type_rules.proofs.JoinLemmas.{upper_is_join}
-use Rattle.cedar_type_rules.proofs.WithinLemmas.{least_at_name, within_both, within_elements, within_sets}
 use Rattle.cedar_type_rules.proofs.SubtypeLaws.{Below-trans, HasBelow-of, HasField-name, HasField-named, FieldsBelow-names}
+use Rattle.cedar_type_rules.proofs.WithinLemmas.{least_at_name, within_both, within_elements, within_sets}
+use Rattle.cedar_type_rules.specs.Words.{Below, ClosedAttributes, Fields, FieldsBelow, FieldsLieWithin, Included, IsEither, IsLeastOwnBound, IsOwnBound, IsWellFormed, NamesBelow, OpenAttributes, OpenTag, OpennessBelow, Permissive, Strict, Ty, any_entity, any_set, end, extension_of, field, field_names, long, never, record_of, set_of, text, truth, union_of}
 
 -- types that have the same types below in both modes
 abbrev IsModeless : Ty → Type 0

@@ -1,16 +1,16 @@
 -- Answers of joins of records in strict mode.
 use Rattle.std.proofs.Common.{◌≡◌, ◌⊎◌, inl, inr, Bool, refl, sym, subst, ◌∙◌, ℕ, length, Ok, Err, Contains, nat_eq, eqb-true, true, false}
 use Rattle.std.proofs.lemmas.Bool.{eqb-false}
-use Rattle.cedar_below.proofs.Texts.{text_cmp-total, text_cmp-Equal}
-use Rattle.cedar_type_rules.specs.Words.{AreTexts, AreWellFormed, Below, ClosedAttributes, Fields, HasField, HaveOwnBound, Included, IsEither, IsHelpAtName, IsLeastOwnBound, IsOwnBound, IsSortedByName, IsWellFormed, LubHelp, OpenAttributes, OpenTag, OpennessBelow, Strict, Text, Ty, either_open, end, field, field_names, record_of, text_cmp}
+use Rattle.cedar_ast.proofs.Texts.{text_cmp-total, text_cmp-Equal}
 use Rattle.cedar_type_rules.proofs.AgreeLaws.{HasField-once}
 use Rattle.cedar_type_rules.proofs.AnsweredLemmas.{IsAnswered, given, refused}
 use Rattle.cedar_type_rules.proofs.AntisymmetryLaws.{Included-same}
 use Rattle.cedar_type_rules.proofs.Decisions.{IsDecided, decide_flags, decide_among, all_among}
-use Rattle.cedar_type_rules.proofs.WithinLemmas.{FieldsBelow-from, FieldsLieWithin-from, FieldsLieWithin-of, within_both, within_named}
-use Rattle.cedar_type_rules.proofs.RecordAnswers.{AreAnswered, IsJoined, in_more, joined_sorted_by_name, end_sorted_by_name, decide_texts}
 use Rattle.cedar_type_rules.proofs.Extensional.{rest_sorted_by_name}
+use Rattle.cedar_type_rules.proofs.RecordAnswers.{AreAnswered, IsJoined, in_more, joined_sorted_by_name, end_sorted_by_name, decide_texts}
 use Rattle.cedar_type_rules.proofs.SubtypeLaws.{FieldsWithin, HasBelow-of, HasField-name, HasField-named, FieldsBelow-names}
+use Rattle.cedar_type_rules.proofs.WithinLemmas.{FieldsBelow-from, FieldsLieWithin-from, FieldsLieWithin-of, within_both, within_named}
+use Rattle.cedar_type_rules.specs.Words.{AreTexts, AreWellFormed, Below, ClosedAttributes, Fields, HasField, HaveOwnBound, Included, IsEither, IsHelpAtName, IsLeastOwnBound, IsOwnBound, IsSortedByName, IsWellFormed, LubHelp, OpenAttributes, OpenTag, OpennessBelow, Strict, Text, Ty, either_open, end, field, field_names, record_of, text_cmp}
 use Rattle.cedar_type_rules.specs.declared.join_error.LubHelp.TheVariants as help
 
 -- in strict mode the flags are the same

@@ -1,7 +1,7 @@
 -- Subtyping is reflexive and transitive.
 use Rattle.std.proofs.Common.{inl, inr, Bool, refl, sym, ◌∙◌, Contains, arith}
-use Rattle.cedar_below.proofs.Inclusion.{Included-none, Included-cons}
-use Rattle.cedar_below.proofs.Lists.{Contains-cons, Contains-cons_cases}
+use Rattle.cedar_ast.proofs.Inclusion.{Included-none, Included-cons}
+use Rattle.cedar_ast.proofs.Lists.{Contains-cons, Contains-cons_cases}
 use Rattle.cedar_type_rules.specs.Words.{Below, ClosedAttributes, Fields, FieldsBelow, FlagsBelow, HasField, Included, NamesBelow, OpenAttributes, OpenTag, OpennessBelow, Permissive, Strict, Text, Ty, ValidationMode, any_entity, any_set, end, extension_of, field, field_names, long, never, record_of, set_of, text, truth, union_of}
 
 -- each attribute of the one record is one of the other

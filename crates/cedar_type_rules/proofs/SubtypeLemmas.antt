@@ -9,10 +9,11 @@ use Rattle.std.specs.List.{AllByRecursion}
 use Rattle.std.specs.List.Sorted.{IsStrictlySortedBy}
 use Rattle.std.specs.Str.{bytes_eq}
 use Rattle.std.specs.declared.cmp.Ordering.TheVariants.{Less, Equal}
-use Rattle.cedar_below.proofs.Texts.{text_cmp-total}
+use Rattle.cedar_ast.proofs.Texts.{text_cmp-total}
 use Rattle.cedar_type_rules.specs.Words.{AttributeBelow, Below, Fields, FlagsBelow, HasField, IsSortedByName, Text, Ty, ValidationMode, end, field, field_at, field_names, text_cmp}
 
--- where a test decides whether two elements give the same, the test of lists decides whether they give the same lists
+-- where a test decides whether two elements give the same, the test of lists decides whether they
+-- give the same lists
 pub pointwise-map_Decides : {X B : Type 0} (f : X → B) (test : X → X → Bool)
     → ((x y : X) → Decides (test x y) (f x ≡ f y)) → (xs ys : List X) → Decides (pointwise test xs ys) (map f xs ≡ map f ys)
 pointwise-map_Decides f test same [] [] = (λ _. refl, λ _. refl)

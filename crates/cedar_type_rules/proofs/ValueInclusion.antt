@@ -1,16 +1,16 @@
 -- Inclusion of values of inhabited types is told by their parts, and permissive subtyping is
 -- inclusion of values and of names.
 use Rattle.std.proofs.Common.{◌≡◌, inl, inr, Bool, true, false, refl, sym, ◌∙◌, pos, [], Some, Contains, IsTrue}
-use Rattle.cedar_below.proofs.Inclusion.{Included-cons}
-use Rattle.cedar_below.proofs.Lists.{Contains-cons}
-use Rattle.cedar_type_rules.specs.Words.{AnyBool, AreInhabited, AreTexts, AreWellFormed, Below, BoolType, ClosedAttributes, Entries, EntryFits, Extensions, False, Fields, FieldsBelow, FieldsIncluded, FieldsListNames, FieldsRequireAll, Gives, Has, HasBy, HasField, HasFieldsBy, Included, IncludedByParts, IsInhabited, IsNeverThere, IsSortedByName, IsText, IsValue, IsWellFormed, ListsNames, NamesBelow, NamesListed, OpenAttributes, OpenTag, OpennessBelow, PartsTellInclusion, Permissive, PlainName, RequiresAll, SubtypingIsInclusion, SubtypingIsInclusionAndNames, Text, Tree, Trees, True, Ty, ValuesIncluded, any_entity, any_set, call_value, core_extension, end, entry, entry_at, entry_names, extension_of, field, field_names, is_open, long, map_value, never, no_tree, number_value, record_of, result_type, set_of, set_value, text, text_value, tree, truth, truth_value, uid_value, union_of}
-use Rattle.cedar_below.proofs.ValueLemmas.{stretch_name, IsText-nil, IsName-stretch}
+use Rattle.cedar_ast.proofs.Inclusion.{Included-cons}
+use Rattle.cedar_ast.proofs.Lists.{Contains-cons}
+use Rattle.cedar_ast.proofs.ValueLemmas.{stretch_name, IsText-nil, IsName-stretch}
 use Rattle.cedar_type_rules.proofs.AgreeLaws.{HasField-once, AreWellFormed-of}
 use Rattle.cedar_type_rules.proofs.Decisions.{decide_among}
 use Rattle.cedar_type_rules.proofs.MemberLaws.{EachTree-weaker, EntryFits-weaker, FlagsBelow-missing, HasBy-above, HasFieldsBy-of, HasTruth-above, NamesListed-above}
 use Rattle.cedar_type_rules.proofs.RecordAnswers.{decide_texts}
 use Rattle.cedar_type_rules.proofs.SampleValues.{HasFields-from, fits_some, some_fits, entry_here, entry_there, absent_entry, fresh_text, fresh_name, truth_sample, some_name, uid_is_value, zero_is_value, only_listed, Sample, inhabitant, sample}
 use Rattle.cedar_type_rules.proofs.SubtypeLaws.{FieldsWithin, HasField-name, HasField-named, FieldsBelow-names}
+use Rattle.cedar_type_rules.specs.Words.{AnyBool, AreInhabited, AreTexts, AreWellFormed, Below, BoolType, ClosedAttributes, Entries, EntryFits, Extensions, False, Fields, FieldsBelow, FieldsIncluded, FieldsListNames, FieldsRequireAll, Gives, Has, HasBy, HasField, HasFieldsBy, Included, IncludedByParts, IsInhabited, IsNeverThere, IsSortedByName, IsText, IsValue, IsWellFormed, ListsNames, NamesBelow, NamesListed, OpenAttributes, OpenTag, OpennessBelow, PartsTellInclusion, Permissive, PlainName, RequiresAll, SubtypingIsInclusion, SubtypingIsInclusionAndNames, Text, Tree, Trees, True, Ty, ValuesIncluded, any_entity, any_set, call_value, core_extension, end, entry, entry_at, entry_names, extension_of, field, field_names, is_open, long, map_value, never, no_tree, number_value, record_of, result_type, set_of, set_value, text, text_value, tree, truth, truth_value, uid_value, union_of}
 
 -- the type of an inhabited attribute is inhabited
 AreInhabited-of : (extensions : Extensions) (fields : Fields) (name : Text) (required : Bool) (ty : Ty)

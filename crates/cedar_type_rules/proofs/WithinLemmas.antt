@@ -2,11 +2,11 @@
 use Rattle.std.proofs.Common.{◌≡◌, ◌⊎◌, inl, inr, Bool, true, false, refl, sym, ◌∙◌, if◌then◌else◌, ◌∷◌}
 use Rattle.std.proofs.lemmas.Slice.Eq.{bytes_eq-Decides}
 use Rattle.std.specs.Str.{bytes_eq}
-use Rattle.cedar_type_rules.specs.Words.{Below, Fields, FieldsBelow, FieldsLieWithin, HasField, Included, IsEither, IsElementOf, IsLeastOwnBound, IsNamedIn, IsOwnBound, IsSortedByName, LiesWithin, OpenTag, Strict, Text, Ty, ValidationMode, end, field, field_names, record_of, set_of}
 use Rattle.cedar_type_rules.proofs.AgreeLaws.{HasField-once}
 use Rattle.cedar_type_rules.proofs.OwnBoundLemmas.{LiesWithin-more}
 use Rattle.cedar_type_rules.proofs.SubtypeLaws.{HasBelow-of}
 use Rattle.cedar_type_rules.proofs.SubtypeLemmas.{HasBelow, chosen_first}
+use Rattle.cedar_type_rules.specs.Words.{Below, Fields, FieldsBelow, FieldsLieWithin, HasField, Included, IsEither, IsElementOf, IsLeastOwnBound, IsNamedIn, IsOwnBound, IsSortedByName, LiesWithin, OpenTag, Strict, Text, Ty, ValidationMode, end, field, field_names, record_of, set_of}
 
 -- attributes are below others if there is one below each of those
 pub FieldsBelow-from : (mode : ValidationMode) (lower upper : Fields)
@@ -32,7 +32,8 @@ FieldsLieWithin-of Among (field other flag of rest) name required ty within (inl
 FieldsLieWithin-of Among (field other flag of rest) name required ty within (inr there) =
     FieldsLieWithin-of Among rest name required ty within.1 there
 
--- what lies within the types of a name of two records lies within the two types that they have there
+-- what lies within the types of a name of two records lies within the two types that they have
+-- there
 pub within_both : (fa fb : Fields) (ta tb : OpenTag) (name : Text) (ra rb : Bool) (a b ty : Ty) → IsSortedByName fa
     → IsSortedByName fb → HasField fa name ra a → HasField fb name rb b
     → LiesWithin (IsNamedIn (IsEither (record_of fa ta) (record_of fb tb)) name) ty → LiesWithin (IsEither a b) ty
@@ -47,7 +48,8 @@ within_both fa fb ta tb name ra rb a b ty first second has also =
           (HasField-once fb name named.2 rb of b second (rw same at named.4) also).1)
     ])
 
--- what lies within the two types that two records have at a name lies within their types of that name
+-- what lies within the two types that two records have at a name lies within their types of that
+-- name
 pub within_named : (fa fb : Fields) (ta tb : OpenTag) (name : Text) (ra rb : Bool) (a b ty : Ty) → HasField fa name ra a
     → HasField fb name rb b → LiesWithin (IsEither a b) ty → LiesWithin (IsNamedIn (IsEither (record_of fa ta) (record_of fb tb)) name) ty
 within_named fa fb ta tb name ra rb a b ty has also =
@@ -115,7 +117,8 @@ replaced_above fa fj name ra a ty sorted_by_name has below h =
       | inr old ↦ HasBelow-of Strict fa fj n r t h old
     ])
 
--- the type at a name of a least own bound of two records is the least own bound of the types there, in strict mode
+-- the type at a name of a least own bound of two records is the least own bound of the types there,
+-- in strict mode
 pub least_at_name : (fa fb fj : Fields) (ta tb tj : OpenTag) (name : Text) (ra rb rj : Bool) (a b join : Ty)
     → IsSortedByName fa → IsSortedByName fb → IsSortedByName fj → HasField fa name ra a → HasField fb name rb b → HasField fj name rj join
     → IsLeastOwnBound Strict (record_of fa ta) (record_of fb tb) (record_of fj tj) → IsLeastOwnBound Strict a b join

@@ -1,7 +1,7 @@
 use Rattle.std.specs.Prelude.{◌≡◌, Bool}
-use Rattle.cedar_below.specs.Lists.{Included}
-use Rattle.cedar_type_rules.specs.Fields.{field_names}
+use Rattle.cedar_ast.specs.Lists.{Included}
 use Rattle.cedar_type_rules.specs.Below.{HasField}
+use Rattle.cedar_type_rules.specs.Fields.{field_names}
 use Rattle.cedar_type_rules.specs.Ty.{Ty, any_entity, union_of, set_of, record_of, Fields, end, field}
 
 abbrev mutual

@@ -1,7 +1,7 @@
 use Rattle.std.specs.Prelude.{◌≡◌, ◌⊎◌, Bool, IsTrue}
-use Rattle.cedar_below.specs.Words.{Included, Text}
-use Rattle.cedar_below.specs.declared.validation_mode.ValidationMode.{ValidationMode}
-use Rattle.cedar_below.specs.declared.validation_mode.ValidationMode.TheVariants.{Strict, Permissive}
+use Rattle.cedar_ast.specs.Words.{Included, Text}
+use Rattle.cedar_ast.specs.declared.validation_mode.ValidationMode.{ValidationMode}
+use Rattle.cedar_ast.specs.declared.validation_mode.ValidationMode.TheVariants.{Strict, Permissive}
 use Rattle.cedar_type_rules.specs.Fields.{field_names}
 use Rattle.cedar_type_rules.specs.Ty.{Ty, never, truth, long, text, any_entity, union_of, any_set, set_of, record_of, extension_of, Fields, end, field}
 use Rattle.cedar_type_rules.specs.declared.bool_type.BoolType.TheVariants.{AnyBool}

@@ -1,5 +1,5 @@
 use Rattle.std.specs.Prelude.{codes}
-use Rattle.cedar_below.specs.Text.{Text}
+use Rattle.cedar_ast.specs.Text.{Text}
 use Rattle.cedar_type_rules.specs.declared.bool_type.BoolType.{BoolType}
 use Rattle.cedar_type_rules.specs.declared.bool_type.BoolType.TheVariants as bool_type
 

@@ -1,6 +1,6 @@
-use Rattle.std.specs.Prelude.{List}
 use Rattle.std.specs.List.{AllByRecursion}
-use Rattle.cedar_below.specs.declared.validation_mode.ValidationMode.{ValidationMode}
+use Rattle.std.specs.Prelude.{List}
+use Rattle.cedar_ast.specs.declared.validation_mode.ValidationMode.{ValidationMode}
 use Rattle.cedar_type_rules.specs.Below.{Below}
 use Rattle.cedar_type_rules.specs.Clean.{IsClean}
 use Rattle.cedar_type_rules.specs.Ty.{Ty}

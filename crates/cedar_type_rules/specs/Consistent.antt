@@ -1,7 +1,7 @@
 use Rattle.std.specs.Prelude.{◌≡◌, ◌⊎◌, Bool, true, false, List, Contains}
-use Rattle.cedar_below.specs.Words.{CoreFields, CoreTy, Text, core_empty_set, core_end, core_entity, core_extension, core_field, core_long, core_names, core_record, core_set, core_text, core_truth}
-use Rattle.cedar_type_rules.specs.Fields.{field_names}
+use Rattle.cedar_ast.specs.Words.{CoreFields, CoreTy, Text, core_empty_set, core_end, core_entity, core_extension, core_field, core_long, core_names, core_record, core_set, core_text, core_truth}
 use Rattle.cedar_type_rules.specs.Below.{HasField}
+use Rattle.cedar_type_rules.specs.Fields.{field_names}
 use Rattle.cedar_type_rules.specs.Ty.{Ty, truth, long, text, any_entity, union_of, any_set, set_of, record_of, extension_of, Fields, end, field}
 use Rattle.cedar_type_rules.specs.declared.open_tag.OpenTag.TheVariants.{OpenAttributes}
 

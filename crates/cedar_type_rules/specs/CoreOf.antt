@@ -1,9 +1,9 @@
-use Rattle.std.specs.Prelude.{◌≡◌, ◌↔◌, Option, Some, None}
 use Rattle.std.specs.Option.{option_map, option_zip}
-use Rattle.cedar_below.specs.CoreTy.{CoreTy, CoreFields, core_truth, core_long, core_text, core_set, core_empty_set, core_record, core_entity, core_extension, core_end, core_field}
+use Rattle.std.specs.Prelude.{◌≡◌, ◌↔◌, Option, Some, None}
+use Rattle.cedar_ast.specs.CoreTy.{CoreTy, CoreFields, core_truth, core_long, core_text, core_set, core_empty_set, core_record, core_entity, core_extension, core_end, core_field}
 use Rattle.cedar_type_rules.specs.EntityUnion.{only_name}
-use Rattle.cedar_type_rules.specs.StandsIn.{StandsIn}
 use Rattle.cedar_type_rules.specs.OpenTag.{is_open}
+use Rattle.cedar_type_rules.specs.StandsIn.{StandsIn}
 use Rattle.cedar_type_rules.specs.Ty.{Ty, never, truth, long, text, any_entity, union_of, any_set, set_of, record_of, extension_of, Fields, end, field}
 
 abbrev mutual

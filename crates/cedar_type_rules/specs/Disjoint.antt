@@ -1,5 +1,5 @@
-use Rattle.cedar_below.specs.Tree.{Tree}
-use Rattle.cedar_below.specs.declared.extension.Extensions.{Extensions}
+use Rattle.cedar_ast.specs.Tree.{Tree}
+use Rattle.cedar_ast.specs.declared.extension.Extensions.{Extensions}
 use Rattle.cedar_type_rules.specs.EntityUnion.{AreDisjoint}
 use Rattle.cedar_type_rules.specs.Has.{Has}
 use Rattle.cedar_type_rules.specs.Ty.{Ty, union_of}

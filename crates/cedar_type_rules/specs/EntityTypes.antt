@@ -1,5 +1,5 @@
 use Rattle.std.specs.Prelude.{Bool, true, false, List, Option, Some, None}
-use Rattle.cedar_below.specs.PlainName.{PlainName}
+use Rattle.cedar_ast.specs.PlainName.{PlainName}
 use Rattle.cedar_type_rules.specs.Ty.{Ty, any_entity, union_of, set_of}
 
 -- whether the values of a type are entities

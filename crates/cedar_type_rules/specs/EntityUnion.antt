@@ -1,5 +1,5 @@
 use Rattle.std.specs.Prelude.{◌⊎◌, ◌↔◌, List, [], ◌∷◌, Option, Some, None, Contains}
-use Rattle.cedar_below.specs.PlainName.{PlainName}
+use Rattle.cedar_ast.specs.PlainName.{PlainName}
 
 -- the only name, where there is just one
 abbrev pub only_name : List PlainName → Option PlainName

@@ -1,6 +1,6 @@
-use Rattle.std.specs.Prelude.{◌≡◌, Bool, List, [], ◌∷◌}
 use Rattle.std.specs.List.Sorted.{IsStrictlySortedBy}
-use Rattle.cedar_below.specs.Words.{Text, last_named, text_cmp}
+use Rattle.std.specs.Prelude.{◌≡◌, Bool, List, [], ◌∷◌}
+use Rattle.cedar_ast.specs.Words.{Text, last_named, text_cmp}
 use Rattle.cedar_type_rules.specs.Ty.{Ty, record_of, Fields, end, field, field_at}
 use Rattle.cedar_type_rules.specs.declared.open_tag.OpenTag.{OpenTag}
 

@@ -1,8 +1,8 @@
 use Rattle.std.specs.Prelude.{◌≡◌, ◌⊎◌, Bool, true, false, Contains, Option, Some, None}
-use Rattle.cedar_below.specs.Words.{EachTree, Entries, EntryFits, Gives, IsUnknown, NamesListed, PlainName, PlainUid, SomeTree, Tree, Trees, call_value, entry_at, entry_names, map_value, number_value, set_value, text_value, truth_value, uid_value}
-use Rattle.cedar_below.specs.declared.extension.Extensions.{Extensions}
-use Rattle.cedar_type_rules.specs.OpenTag.{is_open}
+use Rattle.cedar_ast.specs.Words.{EachTree, Entries, EntryFits, Gives, IsUnknown, NamesListed, PlainName, PlainUid, SomeTree, Tree, Trees, call_value, entry_at, entry_names, map_value, number_value, set_value, text_value, truth_value, uid_value}
+use Rattle.cedar_ast.specs.declared.extension.Extensions.{Extensions}
 use Rattle.cedar_type_rules.specs.Fields.{field_names}
+use Rattle.cedar_type_rules.specs.OpenTag.{is_open}
 use Rattle.cedar_type_rules.specs.Ty.{Ty, truth, long, text, any_entity, union_of, any_set, set_of, record_of, extension_of, Fields, end, field}
 use Rattle.cedar_type_rules.specs.declared.bool_type.BoolType.{BoolType}
 use Rattle.cedar_type_rules.specs.declared.bool_type.BoolType.TheVariants as bool_type

@@ -1,9 +1,9 @@
 use Rattle.std.specs.Prelude.{◌≡◌, ◌≢◌, ◌⊎◌, Bool, length, Contains}
-use Rattle.cedar_below.specs.Text.{Text}
-use Rattle.cedar_below.specs.declared.validation_mode.ValidationMode.{ValidationMode}
-use Rattle.cedar_below.specs.declared.validation_mode.ValidationMode.TheVariants.{Strict}
-use Rattle.cedar_type_rules.specs.Fields.{field_names}
+use Rattle.cedar_ast.specs.Text.{Text}
+use Rattle.cedar_ast.specs.declared.validation_mode.ValidationMode.{ValidationMode}
+use Rattle.cedar_ast.specs.declared.validation_mode.ValidationMode.TheVariants.{Strict}
 use Rattle.cedar_type_rules.specs.Below.{HasField}
+use Rattle.cedar_type_rules.specs.Fields.{field_names}
 use Rattle.cedar_type_rules.specs.OwnBound.{HaveOwnBound}
 use Rattle.cedar_type_rules.specs.Ty.{Ty, any_entity, union_of, set_of, record_of, Fields, end, field}
 use Rattle.cedar_type_rules.specs.declared.join_error.LubHelp.{LubHelp}

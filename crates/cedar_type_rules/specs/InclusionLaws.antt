@@ -1,9 +1,9 @@
 use Rattle.std.specs.Prelude.{◌↔◌, Bool}
-use Rattle.cedar_below.specs.Words.{Included, IsValue, Tree}
-use Rattle.cedar_below.specs.declared.extension.Extensions.{Extensions}
-use Rattle.cedar_below.specs.declared.validation_mode.ValidationMode.TheVariants.{Permissive}
-use Rattle.cedar_type_rules.specs.Fields.{field_names}
+use Rattle.cedar_ast.specs.Words.{Included, IsValue, Tree}
+use Rattle.cedar_ast.specs.declared.extension.Extensions.{Extensions}
+use Rattle.cedar_ast.specs.declared.validation_mode.ValidationMode.TheVariants.{Permissive}
 use Rattle.cedar_type_rules.specs.Below.{HasField, Below}
+use Rattle.cedar_type_rules.specs.Fields.{field_names}
 use Rattle.cedar_type_rules.specs.Has.{Has}
 use Rattle.cedar_type_rules.specs.IncludedByParts.{IncludedByParts}
 use Rattle.cedar_type_rules.specs.Stated.{IsInhabited, IsStated}

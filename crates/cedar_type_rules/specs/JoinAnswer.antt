@@ -1,5 +1,5 @@
 use Rattle.std.specs.Prelude.{List, [], ◌∷◌, ◌≡◌, ◌⊎◌, Result, Ok, Err}
-use Rattle.cedar_below.specs.declared.validation_mode.ValidationMode.{ValidationMode}
+use Rattle.cedar_ast.specs.declared.validation_mode.ValidationMode.{ValidationMode}
 use Rattle.cedar_type_rules.specs.Bound.{IsLeast}
 use Rattle.cedar_type_rules.specs.Help.{IsHelp}
 use Rattle.cedar_type_rules.specs.OwnBound.{HaveOwnBound, IsLeastOwnBound}

@@ -1,5 +1,5 @@
 use Rattle.std.specs.Prelude.{◌++◌, codes}
-use Rattle.cedar_below.specs.Text.{Text}
+use Rattle.cedar_ast.specs.Text.{Text}
 use Rattle.cedar_type_rules.specs.declared.join_error.JoinError.{JoinError}
 use Rattle.cedar_type_rules.specs.declared.join_error.JoinError.TheVariants as error
 use Rattle.cedar_type_rules.specs.declared.join_error.LubHelp.{LubHelp}

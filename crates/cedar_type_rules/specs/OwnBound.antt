@@ -1,6 +1,6 @@
 use Rattle.std.specs.Prelude.{◌≡◌, ◌⊎◌, Bool, [], ◌∷◌}
-use Rattle.cedar_below.specs.Text.{Text}
-use Rattle.cedar_below.specs.declared.validation_mode.ValidationMode.{ValidationMode}
+use Rattle.cedar_ast.specs.Text.{Text}
+use Rattle.cedar_ast.specs.declared.validation_mode.ValidationMode.{ValidationMode}
 use Rattle.cedar_type_rules.specs.Below.{HasField}
 use Rattle.cedar_type_rules.specs.Bound.{IsBound, IsLeast}
 use Rattle.cedar_type_rules.specs.Ty.{Ty, any_set, set_of, record_of, Fields, end, field}

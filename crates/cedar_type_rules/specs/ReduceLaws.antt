@@ -1,7 +1,7 @@
-use Rattle.std.specs.Prelude.{◌≡◌, ◌++◌, ◌∷◌, List, [], Ok, Err, IfOk}
 use Rattle.std.specs.List.{AllByRecursion}
-use Rattle.cedar_below.specs.Lists.{Included}
-use Rattle.cedar_below.specs.declared.validation_mode.ValidationMode.{ValidationMode}
+use Rattle.std.specs.Prelude.{◌≡◌, ◌++◌, ◌∷◌, List, [], Ok, Err, IfOk}
+use Rattle.cedar_ast.specs.Lists.{Included}
+use Rattle.cedar_ast.specs.declared.validation_mode.ValidationMode.{ValidationMode}
 use Rattle.cedar_type_rules.specs.Bound.{IsCleanBound}
 use Rattle.cedar_type_rules.specs.Clean.{IsClean}
 use Rattle.cedar_type_rules.specs.Help.{IsHelp}

@@ -1,6 +1,6 @@
 use Rattle.std.specs.Prelude.{IsTrue, List, Contains}
-use Rattle.cedar_below.specs.Words.{IsValue, Tree}
-use Rattle.cedar_below.specs.declared.extension.Extensions.{Extensions}
+use Rattle.cedar_ast.specs.Words.{IsValue, Tree}
+use Rattle.cedar_ast.specs.declared.extension.Extensions.{Extensions}
 use Rattle.cedar_type_rules.specs.Has.{Has}
 use Rattle.cedar_type_rules.specs.Ty.{Ty, never, set_of, record_of, extension_of, Fields, end, field}
 

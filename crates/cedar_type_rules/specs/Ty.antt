@@ -1,6 +1,6 @@
 use Rattle.std.specs.Prelude.{Bool, if◌then◌else◌, List, [], ◌∷◌, Option, None, Some}
 use Rattle.std.specs.Str.{bytes_eq}
-use Rattle.cedar_below.specs.Words.{PlainName, Text}
+use Rattle.cedar_ast.specs.Words.{PlainName, Text}
 use Rattle.cedar_type_rules.specs.declared.bool_type.BoolType.{BoolType}
 use Rattle.cedar_type_rules.specs.declared.open_tag.OpenTag.{OpenTag}
 

@@ -1,5 +1,5 @@
 use Rattle.std.specs.Prelude.{Bool, true, false, List, [], ◌∷◌, ◌++◌, codes}
-use Rattle.cedar_below.specs.Words.{PlainName, Text, name_text}
+use Rattle.cedar_ast.specs.Words.{PlainName, Text, name_text}
 use Rattle.cedar_type_rules.specs.BoolType.{bool_text}
 use Rattle.cedar_type_rules.specs.Ty.{Ty, never, truth, long, text, any_entity, union_of, any_set, set_of, record_of, extension_of, Fields, end, field}
 use Rattle.cedar_type_rules.specs.declared.open_tag.OpenTag.{OpenTag}

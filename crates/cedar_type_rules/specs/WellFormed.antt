@@ -1,6 +1,6 @@
-use Rattle.std.specs.Prelude.{◌≢◌, List, [], Contains}
 use Rattle.std.specs.List.Sorted.{IsStrictlySortedBy}
-use Rattle.cedar_below.specs.Words.{IsName, IsText, PlainName, Text, name_cmp}
+use Rattle.std.specs.Prelude.{◌≢◌, List, [], Contains}
+use Rattle.cedar_ast.specs.Words.{IsName, IsText, PlainName, Text, name_cmp}
 use Rattle.cedar_type_rules.specs.Fields.{IsSortedByName, field_names}
 use Rattle.cedar_type_rules.specs.Ty.{Ty, union_of, set_of, record_of, extension_of, Fields, end, field}
 

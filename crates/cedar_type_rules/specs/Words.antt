@@ -1,11 +1,21 @@
 -- The words of clauses, from one place.
 pub use Rattle.std.specs.List.{AllByRecursion}
 pub use Rattle.std.specs.Prelude.{Some}
-pub use Rattle.cedar_below.specs.Words.{AreEntries, CoreFields, CoreTy, EachTree, Entries, EntryFits, FeedsVariantFirst, Gives, HoldsPairwise, Included, IsName, IsText, IsValue, NamesListed, PlainName, Text, Tree, Trees, call_value, core_end, core_entity, core_extension, core_field, core_fields_from, core_names, core_record, core_set, entry, entry_at, entry_names, last_named, map_value, name_cmp, no_entry, no_tree, number_value, plain_name, result_type, set_value, text_cmp, text_value, tree, truth_value, uid_value}
-pub use Rattle.cedar_below.specs.declared.extension.Extensions.{Extensions}
-pub use Rattle.cedar_below.specs.declared.name.Name.{Name}
-pub use Rattle.cedar_below.specs.declared.validation_mode.ValidationMode.{ValidationMode}
-pub use Rattle.cedar_below.specs.declared.validation_mode.ValidationMode.TheVariants.{Permissive, Strict}
+pub use Rattle.cedar_ast.specs.CoreSchemaType.{result_type}
+pub use Rattle.cedar_ast.specs.CoreTy.{CoreFields, CoreTy, core_end, core_entity, core_extension, core_field, core_fields_from, core_names, core_record, core_set}
+pub use Rattle.cedar_ast.specs.FeedsVariant.{FeedsVariantFirst}
+pub use Rattle.cedar_ast.specs.Fits.{EntryFits, Gives, NamesListed}
+pub use Rattle.cedar_ast.specs.IsValue.{AreEntries, IsName, IsText, IsValue}
+pub use Rattle.cedar_ast.specs.LastNamed.{last_named}
+pub use Rattle.cedar_ast.specs.Lists.{HoldsPairwise, Included}
+pub use Rattle.cedar_ast.specs.Name.{plain_name}
+pub use Rattle.cedar_ast.specs.PlainName.{PlainName, name_cmp}
+pub use Rattle.cedar_ast.specs.Text.{Text, text_cmp}
+pub use Rattle.cedar_ast.specs.Tree.{EachTree, Entries, Tree, Trees, call_value, entry, entry_at, entry_names, map_value, no_entry, no_tree, number_value, set_value, text_value, tree, truth_value, uid_value}
+pub use Rattle.cedar_ast.specs.declared.extension.Extensions.{Extensions}
+pub use Rattle.cedar_ast.specs.declared.name.Name.{Name}
+pub use Rattle.cedar_ast.specs.declared.validation_mode.ValidationMode.{ValidationMode}
+pub use Rattle.cedar_ast.specs.declared.validation_mode.ValidationMode.TheVariants.{Permissive, Strict}
 pub use Rattle.cedar_type_rules.specs.Agree.{Agree, FieldsAgree}
 pub use Rattle.cedar_type_rules.specs.Below.{AttributeBelow, Below, FieldsBelow, FlagsBelow, HasField, NamesBelow, OpennessBelow}
 pub use Rattle.cedar_type_rules.specs.BoolType.{bool_text}

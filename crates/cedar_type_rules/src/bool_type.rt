@@ -2,7 +2,7 @@
 
 ghost use Rattle.std.specs.Prelude.{◌≡◌};
 
-use cedar_below::M;
+use cedar_ast::M;
 use std::fmt;
 
 /// What is known of a truth value.

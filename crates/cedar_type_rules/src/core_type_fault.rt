@@ -1,6 +1,6 @@
 //! Why a type has no core type.
 
-use cedar_below::Memory;
+use cedar_ast::Memory;
 use thiserror::Error;
 
 /// Why a type has no core type: what stands in it, or out of memory.

@@ -1,6 +1,6 @@
 //! Why two types have no join.
 
-use cedar_below::Memory;
+use cedar_ast::Memory;
 use std::error::Error;
 use std::fmt;
 

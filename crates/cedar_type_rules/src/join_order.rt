@@ -4,7 +4,7 @@ ghost use Rattle.std.specs.Prelude.{Err, IsTrue, Ok, Result, ◌↔◌, ◌∷�
 ghost use Rattle.cedar_type_rules.specs.Words.{AllByRecursion, IsFoldOfJoins, IsGivenOrMemory, IsLeastClean, LubHelp, ValidationMode};
 
 use crate::join_error::JoinError;
-use cedar_below::ValidationMode;
+use cedar_ast::ValidationMode;
 use std::alloc::Global;
 
 /// What is ordered in each mode, and can be joined.

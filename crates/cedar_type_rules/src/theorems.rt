@@ -2,7 +2,7 @@
 
 ghost use Rattle.std.specs.Prelude.{◌↔◌, ◌≡◌};
 ghost use Rattle.cedar_type_rules.specs.Words.{Agree, Below, CleanAreReducedInAnyOrder, CleanAreReducedToLeastClean, CleanBoundsAreOwn, CleanIsWithoutAnySet, ComparesBy, CoreIsLackedExactly, DisjointTypesShareNoValue, EmptyIsReducedToNever, Extensions, FeedsVariantFirst, Has, IncludedByParts, IsWellFormed, JoinsAreAnswered, JoinsAreBelowCleanBounds, JoinsAreCommutative, JoinsAreGivenExactly, JoinsAreUnique, JoinsOfCleanAreLeastClean, MayHave, OwnBoundsOfCleanAreClean, PartsTellInclusion, ReductionsAreAnswered, ReductionsAreUnique, ReductionsAreWellFormed, RefusalsAreOfTheFirst, StrictJoinsArePermissive, SubtypingIsInclusion, SubtypingIsInclusionAndNames, Tree, Ty, UpperTypesAreJoins, ValidationMode, openness_cmp, truth_cmp};
-ghost use Rattle.cedar_below.specs.declared.validation_mode.ValidationMode.TheVariants as mode;
+ghost use Rattle.cedar_ast.specs.declared.validation_mode.ValidationMode.TheVariants as mode;
 
 use crate::bool_type::BoolType;
 use crate::open_tag::OpenTag;

@@ -2,9 +2,9 @@
 use Rattle.std.proofs.Common.{◌≡◌, ◌↔◌, ◌∙◌, false, List, ◌∷◌, sym, ap, subst, Global}
 use Rattle.std.specs.Bool.{Decides}
 use Rattle.std.specs.declared.string.String.{String}
-use Rattle.cedar_below.proofs.Inclusion.{rest_alone, part_fails}
-use Rattle.cedar_types.specs.Words.{AreClean, AttributeType, Attributes, IsClean, «Type», attribute_of, fields_from, fields_of, fields_of-pairs, out-AttributeType, pairs_of, plain_attributes, ty_of}
+use Rattle.cedar_ast.proofs.Inclusion.{rest_alone, part_fails}
 use Rattle.cedar_types.proofs.EqualityLaws.{attribute_of-parts}
+use Rattle.cedar_types.specs.Words.{AreClean, AttributeType, Attributes, IsClean, «Type», attribute_of, fields_from, fields_of, fields_of-pairs, out-AttributeType, pairs_of, plain_attributes, ty_of}
 
 -- the types of the attributes that are left are clean exactly where all are
 abbrev pub IsCleanLeft : Attributes → List (String Global × AttributeType) → Type 0

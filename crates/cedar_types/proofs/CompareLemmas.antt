@@ -2,10 +2,10 @@
 use Rattle.std.proofs.Common.{◌≡◌, ◌↔◌, refl, sym, ap, ◌∙◌, IsTrue}
 use Rattle.std.specs.Cmp.Derive.Mapped.{lex_map}
 use Rattle.std.specs.Cmp.Lexicographic.{slice_cmp}
-use Rattle.cedar_below.proofs.Names.{entity_type_eq-same, entity_type_ord-name_cmp}
-use Rattle.cedar_types.specs.Words.{ComparesBy, EntityKind, EntityLUB, kind_ty, lub_names, name_cmp, ty_cmp, type_name, union_cmp, union_of}
+use Rattle.cedar_ast.proofs.Names.{entity_type_eq-same, entity_type_ord-name_cmp}
 use Rattle.cedar_type_rules.proofs.CompareLemmas.{ties_from}
 use Rattle.cedar_type_rules.proofs.SubtypeLemmas.{pointwise-map_Decides}
+use Rattle.cedar_types.specs.Words.{ComparesBy, EntityKind, EntityLUB, kind_ty, lub_names, name_cmp, ty_cmp, type_name, union_cmp, union_of}
 use Rattle.cedar_types.specs.contracts.entity_kind.EntityKindHash.TheImpl as kind_hash
 use Rattle.cedar_types.specs.contracts.entity_kind.EntityKindOrd.TheImpl as kind_ord
 use Rattle.cedar_types.specs.contracts.entity_kind.EntityKindPartialEq.TheImpl as kind_eq

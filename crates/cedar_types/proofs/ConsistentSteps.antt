@@ -9,17 +9,17 @@ use Rattle.std.specs.Map.{keys_of}
 use Rattle.std.specs.String.{string_cmp}
 use Rattle.std.specs.declared.cmp.Ordering.TheVariants.{Less}
 use Rattle.std.specs.declared.string.String.{String}
-use Rattle.cedar_below.proofs.Inclusion.{rest_alone, part_fails}
-use Rattle.cedar_below.proofs.Ordered.{IsStrictlySortedBy-map}
-use Rattle.cedar_below.proofs.Texts.{text_cmp-total}
-use Rattle.cedar_below.proofs.TreeLemmas.{core_attribute_of-parts, drop-at}
-use Rattle.cedar_types.specs.Words.{AreSortedByName, AttributeType, Attributes, CoreAttributeType, IsConsistent, Text, «Type», attribute_of, core_attribute_of, core_fields_from, core_names, core_ty_of, entry_texts, field_names, field_names-entries, fields_from, fields_of, fields_of-pairs, out-AttributeType, out-Attributes, pairs_of, plain_attributes, plain_entry, text_cmp, ty_of}
-use Rattle.cedar_type_rules.proofs.ConsistentWalk.{AreConsistent, consistent-other, consistent-both, consistent-front, consistent-left, MayBeMissing}
+use Rattle.cedar_ast.proofs.Inclusion.{rest_alone, part_fails}
+use Rattle.cedar_ast.proofs.Ordered.{IsStrictlySortedBy-map}
+use Rattle.cedar_ast.proofs.Texts.{text_cmp-total}
+use Rattle.cedar_ast.proofs.TreeLemmas.{core_attribute_of-parts, drop-at}
 use Rattle.cedar_name_map.proofs.RisingLemmas.{Ahead, AllBelow, Ahead-first, Ahead-next, Ahead-past, Ahead-sought, missed, below_all, below_each-apart, taken-all, rises-from, seen-from}
 use Rattle.cedar_name_map.proofs.SearchLemmas.{text_of, text_at}
+use Rattle.cedar_type_rules.proofs.ConsistentWalk.{AreConsistent, consistent-other, consistent-both, consistent-front, consistent-left, MayBeMissing}
 use Rattle.cedar_types.proofs.CoredWalk.{core_entry}
 use Rattle.cedar_types.proofs.EqualityLaws.{attribute_of-parts}
 use Rattle.cedar_types.proofs.SubtypeSteps.{Sought, IsAt}
+use Rattle.cedar_types.specs.Words.{AreSortedByName, AttributeType, Attributes, CoreAttributeType, IsConsistent, Text, «Type», attribute_of, core_attribute_of, core_fields_from, core_names, core_ty_of, entry_texts, field_names, field_names-entries, fields_from, fields_of, fields_of-pairs, out-AttributeType, out-Attributes, pairs_of, plain_attributes, plain_entry, text_cmp, ty_of}
 
 -- the name of an attribute of a core record type
 abbrev pub core_text : String Global × CoreAttributeType → Text
@@ -76,7 +76,8 @@ consistent-first attrs own left IsOpen IsCoreOpen is sorted =
           ((λ whole. whole), (λ whole. whole)));
     }
 
--- a walk that goes on to a place for the next attribute of the other record, and tells whether what it passes may be missing
+-- a walk that goes on to a place for the next attribute of the other record, and tells whether what
+-- it passes may be missing
 pub record ConsistentStep (own : List (String Global × AttributeType)) (IsOpen IsCoreOpen Whole : Type 0) (at place : ℕ)
     (item : String Global × CoreAttributeType) (rest : List (String Global × CoreAttributeType)) (may : Bool) : Type 0 where
   pub up : AreSortedByName own
@@ -196,7 +197,8 @@ module _ {own : List (String Global × AttributeType)} {IsOpen IsCoreOpen Whole 
       }
 
     module _ (alone : found ≡ false) (b : Bool) (lacks : Decides b ((item.1.required ≡ false) ⊎ IsOpen)) where
-      -- where the name is in the other record alone, whether it may be missing and what is left tell the whole
+      -- where the name is in the other record alone, whether it may be missing and what is left
+      -- tell the whole
       alone-tells : (((item.1.required ≡ false) ⊎ IsOpen) × AreLeft IsOpen IsCoreOpen (drop place own) rest) ↔ Whole
       alone-tells =
           let fresh : ¬ Contains (field_names (fields_from (plain_attributes (drop place own)))) (core_text item) =

@@ -8,12 +8,12 @@ use Rattle.std.specs.Map.{keys_of}
 use Rattle.std.specs.String.{string_cmp}
 use Rattle.std.specs.declared.cmp.Ordering.TheVariants.{Greater}
 use Rattle.std.specs.declared.string.String.{String}
-use Rattle.cedar_below.proofs.Ordered.{above_front, insert_entry-end}
-use Rattle.cedar_below.proofs.Texts.{text_cmp-total}
-use Rattle.cedar_below.proofs.TreeLemmas.{core_attribute_of-parts}
-use Rattle.cedar_types.specs.Words.{AreSortedByName, AttributeType, CoreAttributeType, CoreTy, CoreTypeFault, HoldsPairwise, IsCoreFault, IsFieldsFault, Text, Ty, attribute_of, core_attribute_of, core_fields, core_fields_from, core_of, core_ty_of, entry_texts, fields_from, out-AttributeType, plain_attributes, plain_entry, text_cmp, ty_of}
+use Rattle.cedar_ast.proofs.Ordered.{above_front, insert_entry-end}
+use Rattle.cedar_ast.proofs.Texts.{text_cmp-total}
+use Rattle.cedar_ast.proofs.TreeLemmas.{core_attribute_of-parts}
 use Rattle.cedar_type_rules.proofs.CoreSteps.{IsCored, cored-fields, cored-more, cored-names, fault-middle}
 use Rattle.cedar_types.proofs.EqualityLaws.{attribute_of-parts}
+use Rattle.cedar_types.specs.Words.{AreSortedByName, AttributeType, CoreAttributeType, CoreTy, CoreTypeFault, HoldsPairwise, IsCoreFault, IsFieldsFault, Text, Ty, attribute_of, core_attribute_of, core_fields, core_fields_from, core_of, core_ty_of, entry_texts, fields_from, out-AttributeType, plain_attributes, plain_entry, text_cmp, ty_of}
 
 -- what an entry of a core record type stands for
 abbrev pub core_entry : String Global × CoreAttributeType → Text × (Bool × CoreTy)

@@ -13,11 +13,11 @@ use Rattle.std.specs.String.{string_cmp}
 use Rattle.std.specs.declared.alloc.Global.{Global}
 use Rattle.std.specs.declared.cmp.Ordering.TheVariants.{Less, Equal, Greater}
 use Rattle.std.specs.declared.string.String.{String}
-use Rattle.cedar_below.proofs.Ordered.{apart, IsStrictlySortedBy-map}
-use Rattle.cedar_below.proofs.Texts.{text_cmp-total, text_cmp-Equal}
-use Rattle.cedar_types.specs.Words.{AreSortedByName, EntriesLeft, RestrictedExpr, Text, entries_left, entry_texts, text_cmp, value_at}
+use Rattle.cedar_ast.proofs.Ordered.{apart, IsStrictlySortedBy-map}
+use Rattle.cedar_ast.proofs.Texts.{text_cmp-total, text_cmp-Equal}
 use Rattle.cedar_name_map.proofs.MadeLemmas.{value_at-cons}
 use Rattle.cedar_name_map.proofs.SearchLemmas.{same-found, value_at-missed}
+use Rattle.cedar_types.specs.Words.{AreSortedByName, EntriesLeft, RestrictedExpr, Text, entries_left, entry_texts, text_cmp, value_at}
 use denote.Ref.{Bor}
 
 -- pairs whose keys are sorted without duplicates have names that do
@@ -42,7 +42,8 @@ pub entries_left-next : (all : List (String Global × RestrictedExpr)) (first : 
 entries_left-next all None rest takes = sym takes.0
 entries_left-next all (Some entry) rest takes = sym takes
 
--- a walk that passes only lesser names: what is left is sorted, and each name that isn't less finds what it did before
+-- a walk that passes only lesser names: what is left is sorted, and each name that isn't less finds
+-- what it did before
 pub record IsPast {V : Type 0} (name : Text) (all left : List (String Global × V)) : Type 0 where
   pub ascend : AreSortedByName left
   pub keeps : (other : Text) → text_cmp other name ≢ Less → value_at other left ≡ value_at other all
@@ -91,8 +92,8 @@ module _ {V : Type 0} (name : Text) (all : List (String Global × V)) where
   pub IsPast-none : IsPast name all [] → None ≡ value_at name all
   IsPast-none past = past.keeps name (λ less. let tied = tied_itself text_cmp-total name in cc)
 
--- what is left of entries serves each of the names that are left to look up: it is sorted, as they do, and each of them
--- finds what it does among all
+-- what is left of entries serves each of the names that are left to look up: it is sorted, as they
+-- do, and each of them finds what it does among all
 pub record Serves {V W : Type 0} (all left : List (String Global × V)) (names : List (String Global × W)) : Type 0 where
   pub ascend : AreSortedByName left
   pub sought : AreSortedByName names

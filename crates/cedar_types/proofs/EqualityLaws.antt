@@ -4,10 +4,10 @@ use Rattle.std.proofs.lemmas.Bool.Decides.{Decides-and, Decides-like}
 use Rattle.std.specs.Bool.{Decides}
 use Rattle.std.specs.Cmp.Lexicographic.{pointwise}
 use Rattle.std.specs.declared.string.String.{String}
-use Rattle.cedar_below.proofs.Names.{name_eq-same}
-use Rattle.cedar_below.proofs.Texts.{text_eq-Decides}
-use Rattle.cedar_types.specs.Words.{AttributeType, Attributes, Fields, Text, Ty, «Type», attribute_of, attribute_step, attributes_step, end, extension_of, field, fields_from, fields_of, fields_of-rolled, fold-roll-Type, fold_out-AttributeType, folded_layer, ind-AttributeType, ind-Attributes, ind-Type, kind_rank, map-AttributeType, map-Attributes, map-Type, never, out-AttributeType, out-Attributes, out-Type, out-roll-Attributes, plain_entry, record_of, roll-AttributeType, roll-Attributes, roll-Type, roll-out-Attributes, roll-out-Type, set_of, truth, ty_of, type_step}
+use Rattle.cedar_ast.proofs.Names.{name_eq-same}
+use Rattle.cedar_ast.proofs.Texts.{text_eq-Decides}
 use Rattle.cedar_type_rules.proofs.CompareLemmas.{bool_eq-same}
+use Rattle.cedar_types.specs.Words.{AttributeType, Attributes, Fields, Text, Ty, «Type», attribute_of, attribute_step, attributes_step, end, extension_of, field, fields_from, fields_of, fields_of-rolled, fold-roll-Type, fold_out-AttributeType, folded_layer, ind-AttributeType, ind-Attributes, ind-Type, kind_rank, map-AttributeType, map-Attributes, map-Type, never, out-AttributeType, out-Attributes, out-Type, out-roll-Attributes, plain_entry, record_of, roll-AttributeType, roll-Attributes, roll-Type, roll-out-Attributes, roll-out-Type, set_of, truth, ty_of, type_step}
 pub use Rattle.cedar_type_rules.proofs.CompareLemmas.{none, open_tag-Decides}
 use Rattle.cedar_types.proofs.CompareLemmas.{kind_eq-same}
 use Rattle.cedar_types.specs.contracts.attributes.AttributeTypePartialEq.TheImpl as attribute_type_eq

@@ -10,7 +10,8 @@ use Rattle.std.specs.declared.rc.Rc.{Rc}
 use Rattle.std.specs.declared.string.String.{String}
 use Rattle.cedar_types.specs.Words.{AttributeType, Attributes, ByName, Fields, HoldsLast, IsSortedByName, IsSortedByName-fields, KeepsLast, Text, Ty, attribute_of, end, entry_texts, field, field_at, field_names, field_names-pairs, fields_from, fields_of, fields_of-pairs, last_named, located, located_attributes, out-Attributes, out-roll-Attributes, pairs_of, plain_attributes, roll-Attributes, value_at, with_texts}
 
--- a choice between an attribute and what an option stands for is what the choice of the two stands for
+-- a choice between an attribute and what an option stands for is what the choice of the two stands
+-- for
 option_map-chosen : {A B : Type 0} (f : A → B) (b : Bool) (x : A) (m : Option B) (n : Option A) → m ≡ option_map f n
     → (if b then Some (f x) else m) ≡ option_map f (cond b (Some x) n)
 option_map-chosen f true x m n h = refl
@@ -24,7 +25,8 @@ field_at-entries name (entry ∷ rest) =
     rw (is_eq-slice_cmp name (string_bytes entry.0))
     (option_map-chosen attribute_of (bytes_eq name (string_bytes entry.0)) entry.1 _ _ (field_at-entries name rest))
 
--- the attribute of a name among those that attributes stand for is what the pair of the name stands for
+-- the attribute of a name among those that attributes stand for is what the pair of the name stands
+-- for
 pub field_at-pairs : (name : Text) (all : Attributes) → field_at name (fields_of all) ≡ option_map attribute_of (value_at name (pairs_of all))
 field_at-pairs name all = ap (field_at name) (fields_of-pairs all) ∙ field_at-entries name (pairs_of all)
 

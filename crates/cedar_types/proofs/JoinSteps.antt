@@ -7,8 +7,9 @@ use Rattle.std.specs.List.Sorted.{IsStrictlySortedBy}
 use Rattle.std.specs.Option.{option_map}
 use Rattle.std.specs.declared.alloc.Global.{Global}
 use Rattle.std.specs.declared.string.String.{String}
-use Rattle.cedar_below.proofs.Texts.{text_cmp-total, text_cmp-Equal}
-use Rattle.cedar_types.specs.Words.{AreSortedByName, AttributeType, Attributes, ClosedAttributes, Fields, HasField, HaveOwnBound, Included, IsAnswerOrMemory, IsFlagHelp, IsHelp, IsHelpAtName, IsJoinAnswer, IsLeastOwnBound, IsPermissiveAttribute, IsSortedByName, IsSortedByName-fields, IsStrictAttribute, IsWellFormed, IsWellFormed-type, JoinError, LubHelp, OpenAttributes, OpenTag, Permissive, Strict, Text, Ty, attribute_loc, attribute_of, attribute_ty, either_open, field, field_names, field_names-entries, field_names-pairs, fields_from, fields_of, fields_of-pairs, located, out-AttributeType, out-Attributes, pairs_of, plain_attributes, record_of, text_cmp, ty_of, value_at}
+use Rattle.cedar_ast.proofs.Texts.{text_cmp-total, text_cmp-Equal}
+use Rattle.cedar_name_map.proofs.RisingLemmas.{Ahead, AllBelow, Included-back, Included-length, Ahead-first, Ahead-next, Ahead-sought, missed}
+use Rattle.cedar_name_map.proofs.SearchLemmas.{text_of, value_at-place}
 use Rattle.cedar_type_rules.proofs.AgreeLaws.{HasField-once}
 use Rattle.cedar_type_rules.proofs.Decisions.{all_among}
 use Rattle.cedar_type_rules.proofs.RecordAnswers.{PermissiveJoin, NothingDropped, no_permissive, drop_one, keep_one, permissive_names, permissive_second, permissive_closed, permissive_open}
@@ -17,11 +18,10 @@ use Rattle.cedar_type_rules.proofs.SubtypeLaws.{HasField-name, HasField-named}
 use Rattle.cedar_type_rules.proofs.SubtypeLemmas.{HasField-found}
 use Rattle.cedar_type_rules.specs.declared.join_error.JoinError.TheVariants as error
 use Rattle.cedar_type_rules.specs.declared.join_error.LubHelp.TheVariants as help
-use Rattle.cedar_types.proofs.FieldLemmas.{field_at-pairs, length-fields}
 use Rattle.cedar_types.proofs.EqualityLaws.{attribute_of-parts}
-use Rattle.cedar_name_map.proofs.RisingLemmas.{Ahead, AllBelow, Included-back, Included-length, Ahead-first, Ahead-next, Ahead-sought, missed}
-use Rattle.cedar_name_map.proofs.SearchLemmas.{text_of, value_at-place}
+use Rattle.cedar_types.proofs.FieldLemmas.{field_at-pairs, length-fields}
 use Rattle.cedar_types.proofs.SubtypeSteps.{Sought, IsAt}
+use Rattle.cedar_types.specs.Words.{AreSortedByName, AttributeType, Attributes, ClosedAttributes, Fields, HasField, HaveOwnBound, Included, IsAnswerOrMemory, IsFlagHelp, IsHelp, IsHelpAtName, IsJoinAnswer, IsLeastOwnBound, IsPermissiveAttribute, IsSortedByName, IsSortedByName-fields, IsStrictAttribute, IsWellFormed, IsWellFormed-type, JoinError, LubHelp, OpenAttributes, OpenTag, Permissive, Strict, Text, Ty, attribute_loc, attribute_of, attribute_ty, either_open, field, field_names, field_names-entries, field_names-pairs, fields_from, fields_of, fields_of-pairs, located, out-AttributeType, out-Attributes, pairs_of, plain_attributes, record_of, text_cmp, ty_of, value_at}
 
 -- pairs of a name and an attribute
 abbrev pub Pairs : Type 0
@@ -103,14 +103,16 @@ module _ (b : Attributes) (at place : ℕ) (item : String Global × AttributeTyp
       (field_at-pairs (string_bytes item.0) b ∙ ap (option_map attribute_of)
       (value_at-place (pairs_of b) (out-Attributes b).attrs.value.sorted_by_name (string_bytes item.0) place d here.0 (here.1 d)))
 
--- a walk that goes on to a place for the next attribute of the one record, and tells whether its name is there in the other
+-- a walk that goes on to a place for the next attribute of the one record, and tells whether its
+-- name is there in the other
 pub record JoinStep (SoFar : Attributes → Attributes → ℕ → Pairs → Pairs → Type 0) (a b : Attributes) (at place : ℕ)
     (item : String Global × AttributeType) (rest joined : Pairs) (found : Bool) : Type 0 where
   pub so_far : SoFar a b at (item ∷ rest) joined
   pub sought : Sought b at place (string_bytes item.0)
   pub here : Decides found (IsAt (pairs_of b) place (string_bytes item.0))
 
--- a walk of a permissive join: with the join of what is left behind them, the pairs so far are the join of the whole
+-- a walk of a permissive join: with the join of what is left behind them, the pairs so far are the
+-- join of the whole
 pub record PermissiveSoFar (a b : Attributes) (at : ℕ) (rest joined : Pairs) : Type 0 where
   pub unplaced : AreUnplaced joined
   pub ahead : Ahead text_of text_of text_cmp (pairs_of b) at rest
@@ -231,7 +233,8 @@ module _ (a b : Attributes) (ta tb : OpenTag) (joined : Pairs) (all : Permissive
     ),
   )
 
-  -- a record with the attributes of a permissive join that is closed exactly then is the least own bound
+  -- a record with the attributes of a permissive join that is closed exactly then is the least own
+  -- bound
   pub permissive-least : (openness : OpenTag) → (openness ≡ ClosedAttributes) ↔ IsWhole
       → IsLeastOwnBound Permissive (record_of (fields_of a) ta) (record_of (fields_of b) tb) (record_of (fields_at joined) openness)
   permissive-least OpenAttributes closed =
@@ -241,8 +244,8 @@ module _ (a b : Attributes) (ta tb : OpenTag) (joined : Pairs) (all : Permissive
       rw is at (permissive_closed (fields_of a) (fields_of b) ta tb all (IsSortedByName-fields a) (IsSortedByName-fields b)
       (nothing_dropped (closed.0 refl)))
 
--- a walk of a strict join: with the join of what is left behind them, the pairs so far are the join of the whole, and a
--- help that is found in what is left is one of the whole
+-- a walk of a strict join: with the join of what is left behind them, the pairs so far are the join
+-- of the whole, and a help that is found in what is left is one of the whole
 pub record StrictSoFar (a b : Attributes) (at : ℕ) (rest joined : Pairs) : Type 0 where
   pub unplaced : AreUnplaced joined
   pub ahead : Ahead text_of text_of text_cmp (pairs_of b) at rest
@@ -315,7 +318,8 @@ module _ (a b : Attributes) (ta tb : OpenTag) (same : length (pairs_of a) ≡ le
       sym (length-fields a (out-Attributes a).attrs.value refl)
       ∙ (same ∙ length-fields b (out-Attributes b).attrs.value refl)
 
-  -- a record with the attributes of a strict join, which is open if either is, is the least own bound
+  -- a record with the attributes of a strict join, which is open if either is, is the least own
+  -- bound
   pub strict-least : (joined : Pairs) (all : StrictJoin (fields_of a) (fields_of b)) → all.fields ≡ fields_at joined
       → IsLeastOwnBound Strict (record_of (fields_of a) ta) (record_of (fields_of b) tb) (record_of (fields_at joined) (either_open ta tb))
   strict-least joined all is =

@@ -1,12 +1,12 @@
 -- Joins of types that aren't records: the upper of two, unions, and sets.
 use Rattle.std.proofs.Common.{◌≡◌, inl, inr, refl, ap, ◌∙◌, false, List, Result, Err}
 use mathlib.Core.Bool.{beq}
-use Rattle.cedar_types.specs.Words.{AttributeType, Below, HaveOwnBound, IsAnswerOrMemory, IsFlagHelp, IsJoinAnswer, IsLeastOwnBound, IsOwnBound, IsUnionOf, JoinError, Permissive, PlainName, Strict, Ty, «Type», ValidationMode, any_entity, any_set, attribute_of, out-AttributeType, set_of, ty_of, union_of}
 use Rattle.cedar_type_rules.proofs.JoinLemmas.{upper_is_join}
 use Rattle.cedar_type_rules.proofs.WithinLemmas.{within_elements, within_sets}
 use Rattle.cedar_type_rules.specs.declared.join_error.JoinError.TheVariants as error
 use Rattle.cedar_type_rules.specs.declared.join_error.LubHelp.TheVariants as help
 use Rattle.cedar_types.proofs.EqualityLaws.{attribute_of-parts, flags-Decides}
+use Rattle.cedar_types.specs.Words.{AttributeType, Below, HaveOwnBound, IsAnswerOrMemory, IsFlagHelp, IsJoinAnswer, IsLeastOwnBound, IsOwnBound, IsUnionOf, JoinError, Permissive, PlainName, Strict, Ty, «Type», ValidationMode, any_entity, any_set, attribute_of, out-AttributeType, set_of, ty_of, union_of}
 
 -- the union of two unions is their join in permissive mode
 pub unions_join : (a b all : List PlainName) → IsUnionOf a b all → IsLeastOwnBound Permissive (union_of a) (union_of b) (union_of all)

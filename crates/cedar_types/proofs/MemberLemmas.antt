@@ -4,10 +4,10 @@ use Rattle.std.proofs.lemmas.List.{get_or-map, length-map}
 use Rattle.std.proofs.lemmas.List.Elements.{Contains-get_or}
 use Rattle.std.specs.Bool.{Decides}
 use Rattle.std.specs.List.{list_any}
+use Rattle.cedar_ast.proofs.Lists.{list_any-Contains}
+use Rattle.cedar_ast.proofs.Names.{entity_type_eq-same}
+use Rattle.cedar_ast.specs.contracts.entity_type.EntityTypePartialEq.TheImpl as entity_type_eq
 use Rattle.cedar_types.specs.Words.{EntityType, PlainName, type_name}
-use Rattle.cedar_below.specs.contracts.entity_type.EntityTypePartialEq.TheImpl as entity_type_eq
-use Rattle.cedar_below.proofs.Lists.{list_any-Contains}
-use Rattle.cedar_below.proofs.Names.{entity_type_eq-same}
 
 -- whether an entity type equals a given one decides whether the two have one name
 pub eq-Decides : (ty each : EntityType) → Decides ((entity_type_eq.ghosts).eq ty each) (type_name each ≡ type_name ty)

@@ -1,14 +1,14 @@
 -- What an answer of membership says of elements, of attributes and of uids.
 use Rattle.std.proofs.Common.{Bor, refl, ◌≡◌, ℕ, ◌<◌, ◌+◌, Bool, false, not, List, length, get_or, drop, Ok, Option, Some, None, ap, sym, ◌∙◌}
-use Rattle.std.specs.Option.{option_map, option_copied}
 use Rattle.std.specs.BTreeMap.{BTreeMap, get_by_text}
+use Rattle.std.specs.Bool.{Decides}
+use Rattle.std.specs.Option.{option_map, option_copied}
 use Rattle.std.specs.declared.alloc.Global.{Global}
 use Rattle.std.specs.declared.rc.Rc.{Rc}
 use Rattle.std.specs.declared.string.String.{String}
-use Rattle.cedar_below.proofs.TreeLemmas.{drop-at, entry_at-entries, not-Decides}
-use Rattle.cedar_types.specs.Words.{Answer, AttributeType, Attributes, EachTree, EntityKind, Entries, EntryFits, Extensions, Fields, FieldsMeet, Gives, Has, HasFieldsBy, HasUid, IsMembership, MayGive, MayHave, Meets, Name, NamesListed, OpenTag, PlainUid, RestrictedExpr, SomeEntry, SomeTree, Text, Tree, Trees, Ty, «Type», attribute_of, attribute_step, attributes_step, entries_of, entry_at, entry_names, extension_of, field, field_names, fields_of, fold-roll-Type, fold_out-AttributeType, is_open, kind_ty, map_value, out-AttributeType, plain_name, record_of, roll-Type, set_of, tree_of, trees_of, ty_of, type_step, uid_value}
+use Rattle.cedar_ast.proofs.TreeLemmas.{drop-at, entry_at-entries, not-Decides}
 use Rattle.cedar_types.proofs.MembershipLemmas.{IsBoth, IsMembershipSoFar, IsMembershipSoFar-more, IsMembership-test}
-use Rattle.std.specs.Bool.{Decides}
+use Rattle.cedar_types.specs.Words.{Answer, AttributeType, Attributes, EachTree, EntityKind, Entries, EntryFits, Extensions, Fields, FieldsMeet, Gives, Has, HasFieldsBy, HasUid, IsMembership, MayGive, MayHave, Meets, Name, NamesListed, OpenTag, PlainUid, RestrictedExpr, SomeEntry, SomeTree, Text, Tree, Trees, Ty, «Type», attribute_of, attribute_step, attributes_step, entries_of, entry_at, entry_names, extension_of, field, field_names, fields_of, fold-roll-Type, fold_out-AttributeType, is_open, kind_ty, map_value, out-AttributeType, plain_name, record_of, roll-Type, set_of, tree_of, trees_of, ty_of, type_step, uid_value}
 use Rattle.cedar_types.specs.declared.types.Type.TheOpen as layer
 use Rattle.cedar_types.specs.declared.types.Type.TheVariants as type
 

@@ -16,14 +16,15 @@ IsMembership-test false H M decides = record {
   fault = tt;
 }
 
--- what two answers give together: yes where both are yes, no where one is no, and else the fault of one of them
+-- what two answers give together: yes where both are yes, no where one is no, and else the fault of
+-- one of them
 pub record IsBoth (first second both : Answer) : Type 0 where
   pub yes : (both ≡ Ok true) ↔ ((first ≡ Ok true) × (second ≡ Ok true))
   pub no : (both ≡ Ok false) ↔ ((first ≡ Ok false) ⊎ (second ≡ Ok false))
   pub fault : IfErr both (λ error. (first ≡ Err error) ⊎ (second ≡ Err error))
 
--- an answer is right so far: what is left decides about the whole where the answer isn't no, and the fault is one of
--- the whole
+-- an answer is right so far: what is left decides about the whole where the answer isn't no, and
+-- the fault is one of the whole
 pub record IsMembershipSoFar (so_far : Answer) (H U : Type 0) (M : PlainName → Type 0) (Whole MayWhole : Type 0)
     (Meeting : PlainName → Type 0) : Type 0 where
   pub yes : so_far ≡ Ok true → H → Whole

@@ -1,25 +1,25 @@
 -- Entity types of two lists that are put together in order, without repeats.
 use Rattle.std.proofs.Common.{Bor, Bool, true, false, cond, ◌+◌, ◌<◌, ◌↔◌, length, ap, ◌≡◌, ◌≢◌, inl, inr, List, [], ◌∷◌, ◌++◌, map, Contains, sym, ◌∙◌, refl, arith}
+use Rattle.std.proofs.lemmas.List.{get_or-map, length-map, map-append}
 use Rattle.std.proofs.lemmas.List.Elements.{Contains-append_left, Contains-append_right, Contains-append_cases}
 use Rattle.std.proofs.lemmas.List.Filters.{dedup_is}
 use Rattle.std.proofs.lemmas.List.Kept.{Any-dedup, Contains-from_dedup, IsStrictlySortedBy-dedup}
 use Rattle.std.proofs.lemmas.List.Sorted.{Contains-permutation, IsPermutation-sym, IsPermutation-map}
-use Rattle.std.proofs.lemmas.List.{get_or-map, length-map, map-append}
 use Rattle.std.proofs.lemmas.Simd.{map-map}
 use Rattle.std.specs.List.{dedup, dedup_from}
-use Rattle.std.specs.Ordering.{is_lt}
 use Rattle.std.specs.List.Retain.{IsFiltered, DiffersFromLast}
 use Rattle.std.specs.List.Sorted.{IsPermutation, IsSorted, IsStrictlySortedBy}
-use Rattle.cedar_types.specs.Words.{EntityType, Included, IsUnionOf, PlainName, name_cmp, type_name}
-use Rattle.cedar_below.specs.contracts.entity_type.EntityTypeEq.TheImpl as entity_type_equal
-use Rattle.cedar_below.specs.contracts.entity_type.EntityTypeOrd.TheImpl as entity_type_ord
-use Rattle.cedar_below.specs.contracts.entity_type.EntityTypePartialEq.TheImpl as entity_type_eq
-use Rattle.cedar_below.proofs.Names.{entity_type_eq-same, entity_type_ord-name_cmp}
-use Rattle.cedar_below.proofs.Lists.{Contains-cons}
-use Rattle.cedar_below.proofs.Ordered.{IsStrictlySortedBy-map}
+use Rattle.std.specs.Ordering.{is_lt}
+use Rattle.cedar_ast.proofs.Lists.{Contains-cons}
+use Rattle.cedar_ast.proofs.Names.{entity_type_eq-same, entity_type_ord-name_cmp}
+use Rattle.cedar_ast.proofs.Ordered.{IsStrictlySortedBy-map}
+use Rattle.cedar_ast.specs.contracts.entity_type.EntityTypeEq.TheImpl as entity_type_equal
+use Rattle.cedar_ast.specs.contracts.entity_type.EntityTypeOrd.TheImpl as entity_type_ord
+use Rattle.cedar_ast.specs.contracts.entity_type.EntityTypePartialEq.TheImpl as entity_type_eq
 use Rattle.cedar_name_map.proofs.RisingLemmas.{some_item}
 use Rattle.cedar_types.proofs.MemberLemmas.{Contains-named}
 use Rattle.cedar_types.proofs.UnionLemmas.{Contains-names}
+use Rattle.cedar_types.specs.Words.{EntityType, Included, IsUnionOf, PlainName, name_cmp, type_name}
 
 -- the name of one of some entity types is among their names
 Contains-name : (types : List EntityType) (ty : EntityType) (name : PlainName) → type_name ty ≡ name → Contains types ty
@@ -109,7 +109,8 @@ referred_names-distinct sorted all filtered =
     sym (map-map type_name (λ ty. ty.now) all)
     ∙ (ap (λ refs. map type_name (referred refs)) (dedup_is _ _ _ filtered) ∙ ap (map type_name) (referred-distinct sorted))
 
--- entity types that are referred to in order without repeats have names that are sorted without duplicates
+-- entity types that are referred to in order without repeats have names that are sorted without
+-- duplicates
 pub IsStrictlySortedBy-distinct : (sorted all : List (Bor EntityType))
     → IsSorted (λ a b. (entity_type_ord.ghosts).cmp a.now b.now) sorted
     → IsFiltered (DiffersFromLast same_type) [] sorted all → IsStrictlySortedBy name_cmp (referred_names all)

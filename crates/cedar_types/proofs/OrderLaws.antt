@@ -4,17 +4,17 @@ use Rattle.std.specs.Cmp.Lexicographic.{slice_cmp}
 use Rattle.std.specs.Ordering.{bool_cmp, nat_cmp, ordering_then}
 use Rattle.std.specs.declared.cmp.Ordering.{Ordering}
 use Rattle.std.specs.declared.string.String.{String}
-use Rattle.cedar_below.proofs.Names.{name_ord-name_cmp}
-use Rattle.cedar_types.specs.Words.{AttributeType, Attributes, ComparesBy, Fields, Ty, «Type», any_entity, any_set, attribute_cmp, attribute_of, attribute_step, attributes_step, extension_of, fields_cmp, fields_from, fields_of, fields_of-rolled, fold-roll-Type, folded_layer, ind-AttributeType, ind-Attributes, ind-Type, kind_rank, map-AttributeType, map-Attributes, map-Type, out-AttributeType, out-Attributes, out-Type, out-roll-Attributes, plain_entry, record_of, roll-AttributeType, roll-Attributes, roll-Type, roll-out-Attributes, roll-out-Type, set_of, text_cmp, truth, ty_cmp, ty_of, type_step, union_of}
+use Rattle.cedar_ast.proofs.Names.{name_ord-name_cmp}
 use Rattle.cedar_type_rules.proofs.CompareLemmas.{ties_from, bool_cmp-is, open_tag_cmp-is}
 use Rattle.cedar_types.proofs.CompareLemmas.{kind_cmp-is}
 use Rattle.cedar_types.proofs.EqualityLaws.{layer_shape, shape-folded_layer, attribute_of-parts, types-Decides, attributes-Decides, attribute-Decides}
-use Rattle.cedar_types.specs.contracts.attributes.AttributesHash.TheImpl as attributes_hash
-use Rattle.cedar_types.specs.contracts.attributes.AttributesOrd.TheImpl as attributes_ord
-use Rattle.cedar_types.specs.contracts.attributes.AttributesPartialEq.TheImpl as attributes_eq
+use Rattle.cedar_types.specs.Words.{AttributeType, Attributes, ComparesBy, Fields, Ty, «Type», any_entity, any_set, attribute_cmp, attribute_of, attribute_step, attributes_step, extension_of, fields_cmp, fields_from, fields_of, fields_of-rolled, fold-roll-Type, folded_layer, ind-AttributeType, ind-Attributes, ind-Type, kind_rank, map-AttributeType, map-Attributes, map-Type, out-AttributeType, out-Attributes, out-Type, out-roll-Attributes, plain_entry, record_of, roll-AttributeType, roll-Attributes, roll-Type, roll-out-Attributes, roll-out-Type, set_of, text_cmp, truth, ty_cmp, ty_of, type_step, union_of}
 use Rattle.cedar_types.specs.contracts.attributes.AttributeTypeHash.TheImpl as attribute_type_hash
 use Rattle.cedar_types.specs.contracts.attributes.AttributeTypeOrd.TheImpl as attribute_type_ord
 use Rattle.cedar_types.specs.contracts.attributes.AttributeTypePartialEq.TheImpl as attribute_type_eq
+use Rattle.cedar_types.specs.contracts.attributes.AttributesHash.TheImpl as attributes_hash
+use Rattle.cedar_types.specs.contracts.attributes.AttributesOrd.TheImpl as attributes_ord
+use Rattle.cedar_types.specs.contracts.attributes.AttributesPartialEq.TheImpl as attributes_eq
 use Rattle.cedar_types.specs.contracts.types.TypeHash.TheImpl as type_hash
 use Rattle.cedar_types.specs.contracts.types.TypeOrd.TheImpl as type_ord
 use Rattle.cedar_types.specs.contracts.types.TypePartialEq.TheImpl as type_eq

@@ -1,10 +1,10 @@
 -- Types that are folded by joins.
 use Rattle.std.proofs.Common.{◌≢◌, Result, IsOkAnd, ◌≡◌, refl, ap, sym, ◌∙◌, Bool, List, map, Ok, Err}
 use Rattle.std.specs.List.{AllByRecursion}
-use Rattle.cedar_types.specs.Words.{AnswersJoinOf, Fields, Included, IsAnswerOrMemory, IsClean, IsFoldOfJoins, IsGivenOrMemory, IsReduceAnswer, IsWellFormed-type, JoinError, Ty, «Type», ValidationMode, attribute_step, attributes_step, fold-roll-Type, never, roll-Type, ty_of, type_step}
-use Rattle.cedar_type_rules.proofs.ReduceLemmas.{reduce_any_order}
 use Rattle.cedar_type_rules.proofs.JoinsOf.{answers_by, joined_reduced}
+use Rattle.cedar_type_rules.proofs.ReduceLemmas.{reduce_any_order}
 use Rattle.cedar_type_rules.specs.declared.join_error.JoinError.TheVariants as error
+use Rattle.cedar_types.specs.Words.{AnswersJoinOf, Fields, Included, IsAnswerOrMemory, IsClean, IsFoldOfJoins, IsGivenOrMemory, IsReduceAnswer, IsWellFormed-type, JoinError, Ty, «Type», ValidationMode, attribute_step, attributes_step, fold-roll-Type, never, roll-Type, ty_of, type_step}
 use Rattle.cedar_types.specs.declared.types.Type.TheOpen as layer
 use Rattle.cedar_types.specs.declared.types.Type.TheVariants as type
 

@@ -3,9 +3,9 @@ use Rattle.std.proofs.Common.{◌≡◌, ◌↔◌, ◌∙◌, inl, inr, false, 
 use Rattle.std.specs.Bool.{Decides}
 use Rattle.std.specs.Option.{is_some}
 use Rattle.std.specs.declared.string.String.{String}
-use Rattle.cedar_below.proofs.Lists.{Contains-cons, Contains-cons_cases}
-use Rattle.cedar_types.specs.Words.{AttributeType, Attributes, Extensions, Fields, FieldsRequireAll, Has, IsSampled, RequiresAll, Tree, Ty, «Type», Value, attribute_of, fields_from, fields_of, fields_of-pairs, out-AttributeType, pairs_of, plain_attributes, ty_of, value_tree, value_trees}
+use Rattle.cedar_ast.proofs.Lists.{Contains-cons, Contains-cons_cases}
 use Rattle.cedar_types.proofs.EqualityLaws.{attribute_of-parts}
+use Rattle.cedar_types.specs.Words.{AttributeType, Attributes, Extensions, Fields, FieldsRequireAll, Has, IsSampled, RequiresAll, Tree, Ty, «Type», Value, attribute_of, fields_from, fields_of, fields_of-pairs, out-AttributeType, pairs_of, plain_attributes, ty_of, value_tree, value_trees}
 
 -- the attributes that are left tell a fact of all of them
 abbrev pub TellsLeft : (Fields → Type 0) → Attributes → List (String Global × AttributeType) → Type 0

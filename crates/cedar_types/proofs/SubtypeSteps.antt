@@ -6,21 +6,22 @@ use Rattle.std.specs.Option.{option_map}
 use Rattle.std.specs.declared.alloc.Global.{Global}
 use Rattle.std.specs.declared.cmp.Ordering.TheVariants.{Less}
 use Rattle.std.specs.declared.string.String.{String}
-use Rattle.cedar_below.proofs.Inclusion.{rest_alone, part_fails}
-use Rattle.cedar_below.proofs.Texts.{text_cmp-total}
-use Rattle.cedar_types.specs.Words.{AttributeBelow, AttributeType, Attributes, ByName, ClosedAttributes, Fields, FieldsBelow, Included, IsSortedByName, IsSortedByName-fields, NamesBelow, OpenTag, Permissive, Strict, Text, ValidationMode, attribute_of, field_at, field_names, field_names-pairs, fields_from, fields_of, fields_of-pairs, out-Attributes, pairs_of, plain_attributes, text_cmp}
+use Rattle.cedar_ast.proofs.Inclusion.{rest_alone, part_fails}
+use Rattle.cedar_ast.proofs.Texts.{text_cmp-total}
+use Rattle.cedar_name_map.proofs.RisingLemmas.{Included-back, Ahead, AllBelow, Ahead-first, Ahead-sought, Ahead-next, sought-Decides, sought-next}
+use Rattle.cedar_name_map.proofs.SearchLemmas.{text_of, text_at, value_at-place, value_at-missed}
 use Rattle.cedar_type_rules.proofs.AntisymmetryLaws.{Included-same}
 use Rattle.cedar_type_rules.proofs.SubtypeLaws.{FieldsBelow-names}
 use Rattle.cedar_type_rules.proofs.SubtypeLemmas.{HasBelow, HasBelow-Decides, HasBelow-none}
 use Rattle.cedar_types.proofs.FieldLemmas.{field_at-pairs, length-fields}
-use Rattle.cedar_name_map.proofs.RisingLemmas.{Included-back, Ahead, AllBelow, Ahead-first, Ahead-sought, Ahead-next, sought-Decides, sought-next}
-use Rattle.cedar_name_map.proofs.SearchLemmas.{text_of, text_at, value_at-place, value_at-missed}
+use Rattle.cedar_types.specs.Words.{AttributeBelow, AttributeType, Attributes, ByName, ClosedAttributes, Fields, FieldsBelow, Included, IsSortedByName, IsSortedByName-fields, NamesBelow, OpenTag, Permissive, Strict, Text, ValidationMode, attribute_of, field_at, field_names, field_names-pairs, fields_from, fields_of, fields_of-pairs, out-Attributes, pairs_of, plain_attributes, text_cmp}
 
 -- pairs of a name and an attribute
 abbrev Pairs : Type 0
 Pairs = List (String Global × AttributeType)
 
--- a walk over both records: what is left of the upper decides about the whole, and its names are ahead
+-- a walk over both records: what is left of the upper decides about the whole, and its names are
+-- ahead
 abbrev pub WalkedBelow : ValidationMode → Attributes → Attributes → ℕ → Pairs → Type 0
 WalkedBelow mode lower upper at rest =
     (FieldsBelow mode (fields_of lower) (fields_from (plain_attributes rest)) ↔ FieldsBelow mode (fields_of lower) (fields_of upper))
@@ -55,7 +56,8 @@ Sought-held lower at place held text name is same passed stays =
 abbrev pub IsAt : List (String Global × AttributeType) → ℕ → Text → Type 0
 IsAt all place name = (place < length all) × ((d : String Global × AttributeType) → text_at all place d ≡ name)
 
--- whether a name is at a place of the list that a record holds tells whether it is at that place of its pairs
+-- whether a name is at a place of the list that a record holds tells whether it is at that place of
+-- its pairs
 pub IsAt-held : (lower : Attributes) (place : ℕ) (held : ByName AttributeType) (text name : Text) (b : Bool)
     → held ≡ (out-Attributes lower).attrs.value → text ≡ name → Decides b (IsAt held.entries.items place text)
     → Decides b (IsAt (pairs_of lower) place name)
@@ -64,7 +66,8 @@ IsAt-held lower place held text name b is same decides = rw (is, same) at decide
 module _ (attrs : Attributes) (at place : ℕ) (name : String Global) (rest : List (String Global))
     (ahead : Ahead text_of string_bytes text_cmp (pairs_of attrs) at (name ∷ rest))
     (sought : Sought attrs at place (string_bytes name)) where
-  -- whether a name is at the place that a walk over names came to decides whether it is one of a record's
+  -- whether a name is at the place that a walk over names came to decides whether it is one of a
+  -- record's
   pub sought-name : (b : Bool) → Decides b (IsAt (pairs_of attrs) place (string_bytes name))
       → Decides b (Contains (field_names (fields_of attrs)) (string_bytes name))
   sought-name b decides =

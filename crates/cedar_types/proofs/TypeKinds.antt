@@ -1,13 +1,13 @@
 -- The kinds of types, and joins of types of unlike kinds.
 use Rattle.std.proofs.Common.{◌≡◌, ◌≢◌, ℕ, refl, sym, ap, ◌∙◌, arith, Bool, Option}
-use Rattle.cedar_types.specs.Words.{AttributeType, Attributes, Below, BoolType, EntityKind, Fields, HaveOwnBound, IsHelp, OpenTag, PlainName, Ty, «Type», ValidationMode, any_entity, any_set, attribute_step, attributes_step, extension_of, fold-roll-Type, kind_rank, long, never, out-Type, record_of, roll-Type, roll-out-Type, set_of, text, truth, ty_of, type_step, union_of}
+use Rattle.std.specs.declared.alloc.Global.{Global}
+use Rattle.std.specs.declared.rc.Rc.{Rc}
 use Rattle.cedar_type_rules.proofs.AnsweredLemmas.{unlike_shapes}
 use Rattle.cedar_type_rules.specs.declared.join_error.LubHelp.TheVariants as help
 use Rattle.cedar_types.proofs.EqualityLaws.{layer_shape, shape-folded_layer}
+use Rattle.cedar_types.specs.Words.{AttributeType, Attributes, Below, BoolType, EntityKind, Fields, HaveOwnBound, IsHelp, OpenTag, PlainName, Ty, «Type», ValidationMode, any_entity, any_set, attribute_step, attributes_step, extension_of, fold-roll-Type, kind_rank, long, never, out-Type, record_of, roll-Type, roll-out-Type, set_of, text, truth, ty_of, type_step, union_of}
 use Rattle.cedar_types.specs.declared.types.Type.TheOpen as layer
 use Rattle.cedar_types.specs.declared.types.Type.TheVariants as type
-use Rattle.std.specs.declared.alloc.Global.{Global}
-use Rattle.std.specs.declared.rc.Rc.{Rc}
 
 -- two kinds, as numbers, whose types join in no mode where none is below the other
 pub record IsUnlike (m n : ℕ) : Type 0 where
@@ -109,7 +109,8 @@ place-not-Record it other e = at_layer (out-Type it) refl
         other attrs openness (sym (roll-out-Type it) ∙ (ap roll-Type is ∙ type.rolls-Record attrs openness))
     at_layer x is = omega (arith, e, place_out it x is)
 
--- kinds that are unlike since the first is of one kind, and the second isn't of one that goes with it
+-- kinds that are unlike since the first is of one kind, and the second isn't of one that goes with
+-- it
 pub unlike-Bool : (m n : ℕ) → m ≡ 1 → n ≢ 1 → IsUnlike m n
 unlike-Bool m n is other = record {
   truths = λ _. other;

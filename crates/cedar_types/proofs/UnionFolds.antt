@@ -9,13 +9,13 @@ use Rattle.std.specs.List.{filter, flat_map, list_any}
 use Rattle.std.specs.Ordering.{is_eq}
 use Rattle.std.specs.declared.cmp.Ordering.{Ordering}
 use Rattle.std.specs.declared.cmp.Ordering.TheVariants.{Less, Equal, Greater}
-use Rattle.cedar_below.proofs.Lists.{Contains-cons, Contains-cons_cases, list_any-Contains}
-use Rattle.cedar_below.proofs.PlainNames.{name_cmp-total, name_cmp-Equal}
-use Rattle.cedar_types.specs.Words.{Included, IsReduceAnswer, IsUnionOf, IsWellFormed, Permissive, PlainName, name_cmp, never, union_of}
+use Rattle.cedar_ast.proofs.Lists.{Contains-cons, Contains-cons_cases, list_any-Contains}
+use Rattle.cedar_ast.proofs.PlainNames.{name_cmp-total, name_cmp-Equal}
 use Rattle.cedar_type_rules.proofs.AntisymmetryLaws.{Included-same}
 use Rattle.cedar_type_rules.proofs.JoinLemmas.{upper_is_join}
 use Rattle.cedar_types.proofs.KindJoins.{unions_join}
 use Rattle.cedar_types.proofs.MergedLemmas.{nonempty_above}
+use Rattle.cedar_types.specs.Words.{Included, IsReduceAnswer, IsUnionOf, IsWellFormed, Permissive, PlainName, name_cmp, never, union_of}
 
 -- what is level is `Equal`
 level_is_Equal : (order : Ordering) → is_eq order ≡ true → order ≡ Equal

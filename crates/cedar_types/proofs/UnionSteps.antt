@@ -9,13 +9,13 @@ use Rattle.std.specs.Ordering.{is_lt, ordering_reverse}
 use Rattle.std.specs.Result.{is_ok}
 use Rattle.std.specs.declared.cmp.Ordering.{Ordering}
 use Rattle.std.specs.declared.cmp.Ordering.TheVariants.{Equal}
-use Rattle.cedar_below.proofs.Inclusion.{Included-none}
-use Rattle.cedar_below.proofs.Lists.{Contains-preimage}
-use Rattle.cedar_below.proofs.Names.{entity_type_ord-name_cmp, entity_type_ord-Equal}
-use Rattle.cedar_below.proofs.PlainNames.{name_cmp-total, name_cmp-Equal}
-use Rattle.cedar_types.specs.Words.{EntityType, Included, PlainName, name_cmp, type_name}
-use Rattle.cedar_below.specs.contracts.entity_type.EntityTypeOrd.TheImpl as entity_type_ord
+use Rattle.cedar_ast.proofs.Inclusion.{Included-none}
+use Rattle.cedar_ast.proofs.Lists.{Contains-preimage}
+use Rattle.cedar_ast.proofs.Names.{entity_type_ord-name_cmp, entity_type_ord-Equal}
+use Rattle.cedar_ast.proofs.PlainNames.{name_cmp-total, name_cmp-Equal}
+use Rattle.cedar_ast.specs.contracts.entity_type.EntityTypeOrd.TheImpl as entity_type_ord
 use Rattle.cedar_name_map.proofs.RisingLemmas.{seen_at-rises, Contains-seen_at}
+use Rattle.cedar_types.specs.Words.{EntityType, Included, PlainName, name_cmp, type_name}
 
 module _ (types : List EntityType) (up : IsStrictlySortedBy name_cmp (map type_name types)) (ty : EntityType) where
   -- entity types that rise by their names are sorted

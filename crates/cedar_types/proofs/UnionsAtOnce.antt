@@ -6,12 +6,12 @@ use Rattle.std.proofs.lemmas.List.Elements.{Contains-append_cases, Contains-appe
 use Rattle.std.proofs.lemmas.Simd.{map-map}
 use Rattle.std.specs.List.{flat_map}
 use Rattle.std.specs.List.Sorted.{IsStrictlySortedBy}
-use Rattle.cedar_below.proofs.PlainNames.{name_cmp-total}
-use Rattle.cedar_types.specs.Words.{EntityLUB, EntityType, Included, IsReduceAnswer, Permissive, PlainName, Ty, «Type», lub_formed, lub_names, lub_ty, lub_types, name_cmp, never, ty_of, type_name}
+use Rattle.cedar_ast.proofs.PlainNames.{name_cmp-total}
 use Rattle.cedar_name_map.proofs.RisingLemmas.{Included-back}
 use Rattle.cedar_types.proofs.MemberParts.{ty_of-entity}
 use Rattle.cedar_types.proofs.MergedLemmas.{nonempty_above, referred, referred_names}
 use Rattle.cedar_types.proofs.UnionFolds.{unions_reduced}
+use Rattle.cedar_types.specs.Words.{EntityLUB, EntityType, Included, IsReduceAnswer, Permissive, PlainName, Ty, «Type», lub_formed, lub_names, lub_ty, lub_types, name_cmp, never, ty_of, type_name}
 use Rattle.cedar_types.specs.declared.entity_kind.EntityKind.TheVariants as kind
 use Rattle.cedar_types.specs.declared.types.Type.TheVariants as type
 
@@ -125,7 +125,8 @@ module _ (unions : List (Bor EntityLUB)) (all distinct : List (Bor EntityType))
 abbrev pub tys_of_all : List (Bor EntityLUB) → List Ty
 tys_of_all unions = map (λ lub. lub_ty lub.now) unions
 
--- types that are each of a union, of which there are some, are reduced to the type of the union of all their names
+-- types that are each of a union, of which there are some, are reduced to the type of the union of
+-- all their names
 pub unions_joined : (types : List «Type») (unions : List (Bor EntityLUB)) (all : EntityLUB) → unions ≢ []
     → map ty_of types ≡ tys_of_all unions → ((name : PlainName) → Contains (lub_names all) name ↔ Contains (names_of_all unions) name)
     → IsReduceAnswer Permissive never (map ty_of types) (Ok (ty_of (type.Entity (kind.Entity all))))

@@ -1,5 +1,5 @@
 use Rattle.std.specs.Prelude.{◌≡◌, ◌⊎◌, ◌&&◌, Bool, Option, Some, None, Result, Ok, Err}
-use Rattle.cedar_below.specs.declared.validation_mode.ValidationMode.TheVariants.{Strict, Permissive}
+use Rattle.cedar_ast.specs.declared.validation_mode.ValidationMode.TheVariants.{Strict, Permissive}
 use Rattle.cedar_type_rules.specs.Words.{HaveOwnBound, IsFlagHelp, IsHelp, IsLeastOwnBound, Ty}
 use Rattle.cedar_type_rules.specs.declared.join_error.JoinError.{JoinError}
 use Rattle.cedar_type_rules.specs.declared.join_error.JoinError.TheVariants as error

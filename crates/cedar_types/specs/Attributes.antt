@@ -2,9 +2,9 @@ use Rattle.std.specs.Prelude.{Bool, true, List, map, string_bytes}
 use Rattle.std.specs.declared.alloc.Global.{Global}
 use Rattle.std.specs.declared.rc.Rc.{Rc}
 use Rattle.std.specs.declared.string.String.{String}
-use Rattle.cedar_below.specs.Text.{Text}
-use Rattle.cedar_types.specs.Meaning.{ty_of, attribute_of}
+use Rattle.cedar_ast.specs.Text.{Text}
 use Rattle.cedar_type_rules.specs.Ty.{Ty}
+use Rattle.cedar_types.specs.Meaning.{ty_of, attribute_of}
 use Rattle.cedar_types.specs.declared.attributes.AttributeType.{AttributeType}
 use Rattle.cedar_types.specs.declared.types.Type.{«Type»}
 

@@ -1,6 +1,6 @@
 use Rattle.std.specs.Prelude.{Bool, false, true}
-use Rattle.cedar_types.specs.EntityLUB.{lub_names}
 use Rattle.cedar_type_rules.specs.Ty.{Ty, any_entity, union_of}
+use Rattle.cedar_types.specs.EntityLUB.{lub_names}
 use Rattle.cedar_types.specs.declared.entity_kind.EntityKind.{EntityKind}
 use Rattle.cedar_types.specs.declared.entity_kind.EntityKind.TheVariants as kind
 

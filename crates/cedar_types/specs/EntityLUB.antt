@@ -1,6 +1,6 @@
 use Rattle.std.specs.Prelude.{List, [], ◌∷◌, Option, None, Some, map}
-use Rattle.cedar_below.specs.Words.{PlainName, type_name}
-use Rattle.cedar_below.specs.declared.entity_type.EntityType.{EntityType}
+use Rattle.cedar_ast.specs.Words.{PlainName, type_name}
+use Rattle.cedar_ast.specs.declared.entity_type.EntityType.{EntityType}
 use Rattle.cedar_type_rules.specs.Ty.{Ty, union_of}
 use Rattle.cedar_types.specs.declared.entity_lub.EntityLUB.{EntityLUB}
 

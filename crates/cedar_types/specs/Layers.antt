@@ -2,9 +2,9 @@ use Rattle.std.proofs.Common.{◌≡◌, Bool, List, [], ◌∷◌, map, refl, s
 use Rattle.std.proofs.lemmas.Simd.{map-map}
 use Rattle.std.specs.List.Sorted.{IsStrictlySortedBy}
 use Rattle.std.specs.declared.string.String.{String}
-use Rattle.cedar_below.specs.Text.{Text, text_cmp}
-use Rattle.cedar_type_rules.specs.Words.{Fields, IsSortedByName, Ty, field_names, fields_from}
+use Rattle.cedar_ast.specs.Text.{Text, text_cmp}
 use Rattle.cedar_name_map.specs.ByName.{entry_texts}
+use Rattle.cedar_type_rules.specs.Words.{Fields, IsSortedByName, Ty, field_names, fields_from}
 use Rattle.cedar_types.specs.Attributes.{plain_attributes}
 use Rattle.cedar_types.specs.Meaning.{ty_of, attribute_of, fields_of, type_step, attribute_step, attributes_step}
 use Rattle.cedar_types.specs.declared.attributes.AttributeType.{AttributeType}

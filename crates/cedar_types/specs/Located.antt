@@ -1,10 +1,10 @@
-use Rattle.std.specs.Prelude.{◌≡◌, Bool, true, List, map, Option, None, IfSome, string_bytes}
 use Rattle.std.specs.Option.{option_map}
+use Rattle.std.specs.Prelude.{◌≡◌, Bool, true, List, map, Option, None, IfSome, string_bytes}
 use Rattle.std.specs.declared.alloc.Global.{Global}
 use Rattle.std.specs.declared.rc.Rc.{Rc}
 use Rattle.std.specs.declared.string.String.{String}
-use Rattle.cedar_below.specs.Words.{Text, last_named}
-use Rattle.cedar_below.specs.declared.loc.Loc.{Loc}
+use Rattle.cedar_ast.specs.Words.{Text, last_named}
+use Rattle.cedar_ast.specs.declared.loc.Loc.{Loc}
 use Rattle.cedar_name_map.specs.ByName.{value_at}
 use Rattle.cedar_types.specs.Meaning.{ty_of}
 use Rattle.cedar_types.specs.declared.attributes.AttributeType.{AttributeType, out-AttributeType}

@@ -1,10 +1,10 @@
 use Rattle.std.specs.Prelude.{Bool, map, Option, Some, None, string_bytes}
-use Rattle.cedar_below.specs.declared.loc.Loc.{Loc}
-use Rattle.cedar_below.specs.Name.{plain_name}
-use Rattle.cedar_types.specs.EntityKind.{kind_ty}
+use Rattle.cedar_ast.specs.Name.{plain_name}
+use Rattle.cedar_ast.specs.declared.loc.Loc.{Loc}
 use Rattle.cedar_type_rules.specs.Ty.{Ty, never, truth, long, text, any_set, set_of, record_of, extension_of, Fields, fields_from}
-use Rattle.cedar_types.specs.declared.attributes.Attributes.{Attributes, fold-Attributes}
+use Rattle.cedar_types.specs.EntityKind.{kind_ty}
 use Rattle.cedar_types.specs.declared.attributes.AttributeType.{AttributeType, fold-AttributeType, out-AttributeType}
+use Rattle.cedar_types.specs.declared.attributes.Attributes.{Attributes, fold-Attributes}
 use Rattle.cedar_types.specs.declared.types.Type.{«Type», fold-Type}
 use Rattle.cedar_types.specs.declared.types.Type.TheOpen as layer
 

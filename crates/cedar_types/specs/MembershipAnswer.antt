@@ -1,6 +1,6 @@
 use Rattle.std.specs.Prelude.{◌≡◌, ◌↔◌, Bool, true, false, Result, Ok, IfErr}
-use Rattle.cedar_below.specs.Words.{PlainName, plain_name}
-use Rattle.cedar_below.specs.declared.extension.ExtensionFunctionLookupError.{ExtensionFunctionLookupError}
+use Rattle.cedar_ast.specs.Words.{PlainName, plain_name}
+use Rattle.cedar_ast.specs.declared.extension.ExtensionFunctionLookupError.{ExtensionFunctionLookupError}
 
 -- what a test of membership answers
 abbrev pub Answer : Type 0

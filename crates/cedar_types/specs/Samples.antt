@@ -1,6 +1,6 @@
 use Rattle.std.specs.Prelude.{List, map}
-use Rattle.cedar_below.specs.Words.{Tree, tree_of, value_expr}
-use Rattle.cedar_below.specs.declared.value.Value.{Value}
+use Rattle.cedar_ast.specs.Words.{Tree, tree_of, value_expr}
+use Rattle.cedar_ast.specs.declared.value.Value.{Value}
 
 -- what a value stands for, as of the expression that it is given by
 abbrev pub value_tree : Value → Tree

@@ -1,7 +1,7 @@
-use Rattle.std.specs.Prelude.{List, map}
 use Rattle.std.specs.List.Sorted.{IsStrictlySortedBy, IsStrictlySortedBy-prop}
-use Rattle.cedar_below.specs.Words.{name_cmp, type_name}
-use Rattle.cedar_below.specs.declared.entity_type.EntityType.{EntityType}
+use Rattle.std.specs.Prelude.{List, map}
+use Rattle.cedar_ast.specs.Words.{name_cmp, type_name}
+use Rattle.cedar_ast.specs.declared.entity_type.EntityType.{EntityType}
 
 -- entity types stand in the order of their names, each once
 abbrev pub AreInOrder : List EntityType → Type 0

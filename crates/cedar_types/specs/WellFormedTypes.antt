@@ -1,12 +1,12 @@
 use Rattle.std.proofs.Common.{◌≡◌, ◌≢◌, Bool, Some, None, List, [], ◌∷◌, map, refl, sym, subst, string_bytes, Global}
 use Rattle.std.proofs.lemmas.Str.{IsUtf8-string_bytes}
 use Rattle.std.specs.declared.string.String.{String}
-use Rattle.cedar_below.proofs.Lists.{Contains-preimage}
-use Rattle.cedar_below.proofs.ValueLemmas.{IsName-type_name, IsName-plain_name}
-use Rattle.cedar_below.specs.Words.{IsName, IsText, type_name}
-use Rattle.cedar_below.specs.declared.entity_type.EntityType.{EntityType}
-use Rattle.cedar_type_rules.specs.Words.{AreNames, AreTexts, AreWellFormed, Fields, IsWellFormed, Ty, field_names, fields_from}
+use Rattle.cedar_ast.proofs.Lists.{Contains-preimage}
+use Rattle.cedar_ast.proofs.ValueLemmas.{IsName-type_name, IsName-plain_name}
+use Rattle.cedar_ast.specs.Words.{IsName, IsText, type_name}
+use Rattle.cedar_ast.specs.declared.entity_type.EntityType.{EntityType}
 use Rattle.cedar_name_map.specs.ByName.{entry_texts}
+use Rattle.cedar_type_rules.specs.Words.{AreNames, AreTexts, AreWellFormed, Fields, IsWellFormed, Ty, field_names, fields_from}
 use Rattle.cedar_types.specs.EntityKind.{kind_ty}
 use Rattle.cedar_types.specs.EntityLUB.{lub_names, lub_ty}
 use Rattle.cedar_types.specs.Layers.{folded_layer, fields_of-rolled, plain_entry, pairs_of, field_names-pairs, IsSortedByName-fields}

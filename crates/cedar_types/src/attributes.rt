@@ -7,7 +7,7 @@ ghost use Rattle.cedar_types.specs.Words.{AreSortedByName, HoldsLast, HoldsOfAll
 
 use crate::show::write_attribute;
 use crate::types::Type;
-use cedar_below::{Loc, M};
+use cedar_ast::{Loc, M};
 use cedar_name_map::{ByName, Entries, Names};
 use std::alloc::Global;
 use std::fmt;

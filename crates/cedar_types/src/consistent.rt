@@ -7,7 +7,7 @@ ghost use Rattle.cedar_types.specs.Words.{IsConsistent, OpenAttributes, core_ent
 use crate::attributes::{AttributeType, Attributes};
 use crate::entity_kind::EntityKind;
 use crate::types::Type;
-use cedar_below::{CoreAttributeType, CoreSchemaType, EntityType};
+use cedar_ast::{CoreAttributeType, CoreSchemaType, EntityType};
 use cedar_type_rules::OpenTag;
 use std::collections::BTreeMap;
 

@@ -11,7 +11,7 @@ ghost use Rattle.cedar_type_rules.specs.declared.core_type_fault.CoreTypeFault.T
 use crate::attributes::Attributes;
 use crate::entity_kind::EntityKind;
 use crate::types::Type;
-use cedar_below::{CoreAttributeType, CoreSchemaType, M};
+use cedar_ast::{CoreAttributeType, CoreSchemaType, M};
 use cedar_type_rules::{CoreTypeFault, OpenTag};
 use std::alloc::Global;
 use std::collections::BTreeMap;

@@ -1,7 +1,7 @@
 //! Kinds of entities: any, or those of a union.
 
 use crate::entity_lub::EntityLUB;
-use cedar_below::M;
+use cedar_ast::M;
 
 /// What is known of an entity: nothing, or that its type is one of a union.
 #[derive(Debug, Drop, PartialEq, Eq, PartialOrd, Ord, Hash)]

@@ -2,11 +2,11 @@
 
 ghost use Rattle.std.specs.Prelude.{◌≡◌, ◌≢◌, ◌↔◌, ◌++◌, [], Contains, length, map, true, IfOk};
 ghost use Rattle.std.specs.List.Sorted.{IsPermutation, IsSorted, IsStrictlySortedBy};
-ghost use Rattle.cedar_below.specs.Words.{PlainName, name_cmp, type_name};
+ghost use Rattle.cedar_ast.specs.Words.{PlainName, name_cmp, type_name};
 ghost use Rattle.cedar_types.specs.TypesInOrder.{AreInOrder, AreInOrder-prop as one_order};
 
 use crate::subtype::is_same;
-use cedar_below::{EntityType, Held, M};
+use cedar_ast::{EntityType, M, MaybeShared};
 use itertools::Itertools;
 use std::alloc::Global;
 use std::cmp::Ordering;
@@ -16,7 +16,7 @@ use std::slice;
 /// shared, so that a copy of their union only counts one more owner.
 #[derive(Debug, PartialEq, Eq, PartialOrd, Ord, Hash)]
 pub struct EntityLUB {
-    lub_elements: Held<Vec<EntityType>>,
+    lub_elements: MaybeShared<Vec<EntityType>>,
     ghost nonempty: { lub_elements.value.items ≢ [] },
     ghost sorted: { AreInOrder lub_elements.value.items } by { one_order lub_elements.value.items },
     ghost single_owned: { lub_elements.is_shared ≡ true → length lub_elements.value.items ≢ 1 },
@@ -103,7 +103,7 @@ impl EntityLUB {
         let mut lub_elements = Vec::with_capacity(alloc, 1)?;
         lub_elements.push(ty)?;
         Ok(EntityLUB {
-            lub_elements: Held::new(lub_elements),
+            lub_elements: MaybeShared::new(lub_elements),
         })
     }
 
@@ -115,7 +115,7 @@ impl EntityLUB {
     {
         let alloc = *types.allocator();
         let alone = types.len() == 1;
-        let held = Held::new(types);
+        let held = MaybeShared::new(types);
         Ok(EntityLUB {
             lub_elements: if alone {
                 held
@@ -267,7 +267,7 @@ impl EntityLUB {
     {
         let lub_elements = match self.lub_elements.other_owner()? {
             Some(shared) => shared,
-            None => Held::new(clone_each(self.lub_elements.value())?),
+            None => MaybeShared::new(clone_each(self.lub_elements.value())?),
         };
         Ok(EntityLUB { lub_elements })
     }

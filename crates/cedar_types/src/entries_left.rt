@@ -5,7 +5,7 @@ ghost use Rattle.std.specs.Option.{option_copied};
 ghost use Rattle.std.specs.declared.cmp.Ordering.TheVariants.{Less};
 ghost use Rattle.cedar_types.specs.Words.{AreSortedByName, Text, entries_left, text_cmp, value_at};
 
-use cedar_below::RestrictedExpr;
+use cedar_ast::RestrictedExpr;
 use std::cmp::Ordering;
 use std::collections::{BTreeMap, btree_map};
 

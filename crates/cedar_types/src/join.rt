@@ -4,14 +4,14 @@ ghost use Rattle.std.specs.Prelude.{◌≡◌, ◌<◌, ◌&&◌, ◌↔◌, ◌
 ghost use Rattle.std.specs.declared.alloc.Global.{Global};
 ghost use Rattle.std.specs.declared.string.String.{String};
 ghost use Rattle.cedar_types.specs.Words.{Below, ClosedAttributes, IsAnswerOrMemory, IsHandedOn, IsJoinAnswer, IsLeastOwnBound, IsPermissiveAttribute, IsReduceAnswer, IsStrictAttribute, IsUnplaced, Text, attribute_loc, attribute_of, either_open, fields_of, kind_ty, listed_at, located_at, lub_ty, never, record_of, ty_of};
-ghost use Rattle.cedar_below.specs.declared.validation_mode.ValidationMode.TheVariants as mode;
+ghost use Rattle.cedar_ast.specs.declared.validation_mode.ValidationMode.TheVariants as mode;
 
 use crate::attributes::{AttributeType, Attributes};
 use crate::entity_kind::EntityKind;
 use crate::entity_lub::EntityLUB;
 use crate::subtype::union_fits;
 use crate::types::Type;
-use cedar_below::{M, Memory, ValidationMode};
+use cedar_ast::{M, Memory, ValidationMode};
 use cedar_type_rules::{JoinError, LubHelp, OpenTag, reduce};
 use std::alloc::Global;
 use std::rc::Rc;

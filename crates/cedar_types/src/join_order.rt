@@ -10,7 +10,7 @@ use crate::entity_lub::EntityLUB;
 use crate::join::join_unions;
 use crate::subtype::union_fits;
 use crate::types::Type;
-use cedar_below::ValidationMode;
+use cedar_ast::ValidationMode;
 use cedar_type_rules::{JoinError, JoinOrder};
 use std::alloc::Global;
 

@@ -7,9 +7,7 @@ use crate::attributes::Attributes;
 use crate::entity_kind::EntityKind;
 use crate::entries_left::EntriesLeft;
 use crate::types::Type;
-use cedar_below::{
-    EntityUID, ExtensionFunctionLookupError, Extensions, Name, RestrictedExpr, Value,
-};
+use cedar_ast::{EntityUID, ExtensionFunctionLookupError, Extensions, Name, RestrictedExpr, Value};
 use cedar_type_rules::{BoolType, OpenTag};
 use std::collections::BTreeMap;
 

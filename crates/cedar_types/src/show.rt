@@ -9,7 +9,7 @@ use crate::attributes::AttributeType;
 use crate::entity_kind::EntityKind;
 use crate::entity_lub::EntityLUB;
 use crate::types::Type;
-use cedar_below::EntityType;
+use cedar_ast::EntityType;
 use cedar_type_rules::OpenTag;
 use std::fmt;
 use std::fmt::Display;

@@ -6,7 +6,7 @@ ghost use Rattle.cedar_types.specs.Words.{AreInhabitedWith, FieldsRequireAll, Ha
 
 use crate::attributes::Attributes;
 use crate::types::Type;
-use cedar_below::{Extensions, Value};
+use cedar_ast::{Extensions, Value};
 
 /// Whether the type of each attribute is inhabited by the samples.
 #[cycle(sampled)]

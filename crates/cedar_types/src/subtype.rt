@@ -7,7 +7,7 @@ use crate::attributes::{AttributeType, Attributes};
 use crate::entity_kind::EntityKind;
 use crate::entity_lub::EntityLUB;
 use crate::types::Type;
-use cedar_below::ValidationMode;
+use cedar_ast::ValidationMode;
 use cedar_type_rules::{BoolType, OpenTag};
 
 /// Whether an attribute's flag fits below another's.

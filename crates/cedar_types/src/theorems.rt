@@ -3,7 +3,7 @@
 ghost use Rattle.std.specs.Prelude.{◌≡◌, ◌≢◌, ◌↔◌, [], ◌∷◌, map, Result, Ok, Err, IsOkAnd};
 ghost use Rattle.std.specs.List.{AllByRecursion};
 ghost use Rattle.cedar_types.specs.Words.{Agree, AreTexts, AreWellFormed, Attributes, Below, ComparesBy, EntityKind, FeedsVariantFirst, Included, IsAnswerOrMemory, IsClean, IsCleanBound, IsJoinAnswer, IsLeastAnswer, IsLeastOwnBound, IsReduceAnswer, IsSortedByName, IsWellFormed, JoinAnswer, JoinError, SubtypingIsInclusionAndNamesOf, SubtypingIsInclusionOf, «Type», ValidationMode, attribute_cmp, attribute_of, field_names, fields_cmp, fields_of, is_of_union, kind_rank, kind_ty, lub_names, never, ty_cmp, ty_of, union_cmp};
-ghost use Rattle.cedar_below.specs.declared.validation_mode.ValidationMode.TheVariants as mode;
+ghost use Rattle.cedar_ast.specs.declared.validation_mode.ValidationMode.TheVariants as mode;
 ghost use Rattle.cedar_type_rules.specs.declared.join_error.JoinError.TheVariants as error;
 
 use crate::attributes::{AttributeType, Attributes};

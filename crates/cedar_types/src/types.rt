@@ -8,7 +8,7 @@ ghost use Rattle.cedar_type_rules.specs.declared.bool_type.BoolType.TheVariants 
 use crate::attributes::{AttributeType, Attributes};
 use crate::entity_kind::EntityKind;
 use crate::entity_lub::EntityLUB;
-use cedar_below::{EntityType, M, Name};
+use cedar_ast::{EntityType, M, Name};
 use cedar_type_rules::{BoolType, OpenTag};
 use std::alloc::Global;
 use std::rc::Rc;

@@ -1,12 +1,12 @@
 -- A schema, and the same with its descendants closed: the faults of the one are those of the other.
 use Rattle.std.proofs.Common.{◌≡◌, ◌↔◌, ◌∙◌, List, map, inl, inr, subst, sym, Contains}
-use Rattle.cedar_below.proofs.Chains.{first_step, last_step, refined}
-use Rattle.cedar_below.proofs.Lists.{Contains-preimage}
-use Rattle.cedar_validation.specs.Words.{ActionKind, Chain, ClosesAction, ClosesType, EntityTypeKind, Extensions, Fault, HoldsPairwise, IsContextOf, IsEnumerated, IsExternal, IsPrincipalOrResourceOf, IsSchemaFault, IsTypeIn, IsTypeOfKind, IsUnknownType, ListsDescendant, ListsDescendantAction, PlainName, PlainSchema, PlainUid, SameItems, SchemaAction, SchemaEntityType, Ty, action_cycle, action_entity_type, action_shadowing, enumerated_below, external_below_enumerated, invalid_action_type, one, type_shadowing, undeclared_action_descendant, undeclared_entity_types, unknown_extension_type}
-use Rattle.cedar_declarations.proofs.OccurrenceLemmas.{Contains-image}
-use Rattle.cedar_declarations.proofs.TurnLemmas.{turn_back, turn_forth}
-use Rattle.cedar_below.proofs.TurnLemmas.{turn_weaker}
+use Rattle.cedar_ast.proofs.Chains.{first_step, last_step, refined}
+use Rattle.cedar_ast.proofs.Lists.{Contains-preimage}
+use Rattle.cedar_ast.proofs.TurnLemmas.{turn_weaker}
+use Rattle.cedar_schema_semantics.proofs.OccurrenceLemmas.{Contains-image}
+use Rattle.cedar_schema_semantics.proofs.TurnLemmas.{turn_back, turn_forth}
 use Rattle.cedar_validation.proofs.Pairwise.{pairwise_back}
+use Rattle.cedar_validation.specs.Words.{ActionKind, Chain, ClosesAction, ClosesType, EntityTypeKind, Extensions, Fault, HoldsPairwise, IsContextOf, IsEnumerated, IsExternal, IsPrincipalOrResourceOf, IsSchemaFault, IsTypeIn, IsTypeOfKind, IsUnknownType, ListsDescendant, ListsDescendantAction, PlainName, PlainSchema, PlainUid, SameItems, SchemaAction, SchemaEntityType, Ty, action_cycle, action_entity_type, action_shadowing, enumerated_below, external_below_enumerated, invalid_action_type, one, type_shadowing, undeclared_action_descendant, undeclared_entity_types, unknown_extension_type}
 
 -- what items list, and of what kinds they are
 pub record Shape (P Q T : Type 0) : Type 0 where
@@ -30,7 +30,8 @@ pub record Found {P Q T : Type 0} (shape : Shape P Q T) (items others : List (P 
   pub at : (it : P × Q) → Contains items it → (other : P × Q) × Contains others other × (it.0 ≡ other.0)
       × (shape.kind it.1 ≡ shape.kind other.1)
 
--- each of the items stands among the others and the other way round, and chains of the others lead as far
+-- each of the items stands among the others and the other way round, and chains of the others lead
+-- as far
 pub record Agrees {P Q T : Type 0} (shape : Shape P Q T) (items others : List (P × Q)) : Type 0 where
   pub forth : Found shape items others
   pub back : Found shape others items
@@ -144,7 +145,8 @@ agrees_alike shape items others alike = record {
   chain = chain_forth shape items others alike;
 }
 
--- the items have one name and are of one kind, and the second lists just what chains lead to from that name
+-- the items have one name and are of one kind, and the second lists just what chains lead to from
+-- that name
 pub record Closes {P Q T : Type 0} (shape : Shape P Q T) (items : List (P × Q)) (it other : P × Q) : Type 0 where
   pub key : it.0 ≡ other.0
   pub kind : shape.kind it.1 ≡ shape.kind other.1

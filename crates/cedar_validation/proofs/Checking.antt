@@ -1,6 +1,6 @@
 -- What is made sure of the items of a list, one after another.
 use Rattle.std.proofs.Common.{◌≡◌, ◌⊎◌, List, [], ◌∷◌, refl, inl, inr, subst, sym, arith, Contains}
-use Rattle.cedar_below.proofs.Lists.{Contains-cons, Contains-cons_cases}
+use Rattle.cedar_ast.proofs.Lists.{Contains-cons, Contains-cons_cases}
 
 -- of each item it is made sure, but of those that are left, which are items too
 pub record Checking {A : Type 0} (P : A → Type 0) (all left : List A) : Type 0 where

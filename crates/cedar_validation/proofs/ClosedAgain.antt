@@ -1,8 +1,8 @@
 -- A schema that closes a closed one: what is at fault in it, and what it closes.
 use Rattle.std.proofs.Common.{◌∙◌}
-use Rattle.cedar_validation.specs.Words.{ClosesAction, ClosesSchema, ClosesType, Extensions, Fault, IsSchemaFault, PlainName, PlainSchema, PlainUid, SchemaAction, SchemaEntityType}
 use Rattle.cedar_validation.proofs.Agreeing.{action_shape, actions_closed, fault_back as closed_fault, leads_back, type_shape, types_closed}
 use Rattle.cedar_validation.proofs.Pairwise.{pairwise_joined}
+use Rattle.cedar_validation.specs.Words.{ClosesAction, ClosesSchema, ClosesType, Extensions, Fault, IsSchemaFault, PlainName, PlainSchema, PlainUid, SchemaAction, SchemaEntityType}
 
 module _ (schema closed : PlainSchema) (closes : ClosesSchema schema closed) where
   -- what is at fault in the closed one is at fault

@@ -1,10 +1,10 @@
--- A schema, and copies of its entity types and actions: a fault of the one is a fault of the other, and what closes the one closes
--- the other.
+-- A schema, and copies of its entity types and actions: a fault of the one is a fault of the other,
+-- and what closes the one closes the other.
 use Rattle.std.proofs.Common.{◌≡◌, ◌↔◌, ◌∙◌, List, map, sym, Contains}
-use Rattle.cedar_validation.specs.Words.{ActionEntity, Chain, ClosesAction, ClosesSchema, ClosesType, EntityType, EntityUID, Extensions, Fault, HoldsPairwise, IsActionCopied, IsSchemaFault, IsTypeCopied, IsValidSchema, PlainSchema, ValidatorActionId, ValidatorEntityType, plain_action_entry, plain_entry, plain_schema}
-use Rattle.cedar_below.proofs.TurnLemmas.{turn_weaker}
+use Rattle.cedar_ast.proofs.TurnLemmas.{turn_weaker}
 use Rattle.cedar_validation.proofs.Agreeing.{IsAlike, Lists, Shape, action_shape, agrees_alike, alike_back, chain_forth, fault_carried, type_shape}
 use Rattle.cedar_validation.proofs.Pairwise.{pairwise_joined, pairwise_map}
+use Rattle.cedar_validation.specs.Words.{ActionEntity, Chain, ClosesAction, ClosesSchema, ClosesType, EntityType, EntityUID, Extensions, Fault, HoldsPairwise, IsActionCopied, IsSchemaFault, IsTypeCopied, IsValidSchema, PlainSchema, ValidatorActionId, ValidatorEntityType, plain_action_entry, plain_entry, plain_schema}
 
 -- an item and another are alike and have one name of their own
 record IsNamedAlike {P Q T : Type 0} (shape : Shape P Q T) (own : Q → P) (it other : P × Q) : Type 0 where

@@ -1,10 +1,10 @@
 -- Copies of entity types and of actions are pairwise the same.
 use Rattle.std.proofs.Common.{List, map, sym, ◌∙◌}
 use Rattle.cedar_schema_elements.specs.ValidatorActionId as action_specs
-use Rattle.cedar_validation.specs.Words.{EntityType, EntityUID, HoldsPairwise, IsActionCopied, IsTypeCopied, SameAction, SameEntityType, ValidatorActionId, ValidatorEntityType, plain_action_entry, plain_entry}
-use Rattle.cedar_declarations.proofs.TurnLemmas.{turn_back}
 use Rattle.cedar_schema_elements.specs.ValidatorEntityType as type_specs
+use Rattle.cedar_schema_semantics.proofs.TurnLemmas.{turn_back}
 use Rattle.cedar_validation.proofs.Pairwise.{pairwise_back, pairwise_map}
+use Rattle.cedar_validation.specs.Words.{EntityType, EntityUID, HoldsPairwise, IsActionCopied, IsTypeCopied, SameAction, SameEntityType, ValidatorActionId, ValidatorEntityType, plain_action_entry, plain_entry}
 
 -- copies of entity types are pairwise the same
 pub types_same : (types copies : List (EntityType × ValidatorEntityType)) → HoldsPairwise IsTypeCopied types copies

@@ -1,7 +1,8 @@
--- Entries whose edges between keys list names, and the same entries closed, whatever the keys and the nodes are.
+-- Entries whose edges between keys list names, and the same entries closed, whatever the keys and
+-- the nodes are.
 use Rattle.std.proofs.Common.{◌≡◌, ◌↔◌, Bool, IsTrue, List, ap, sym, refl, Contains}
 use Rattle.std.specs.Cmp.{IsEquivalence}
-use Rattle.cedar_below.proofs.Chains.{first_step, joined, last_step}
+use Rattle.cedar_ast.proofs.Chains.{first_step, joined, last_step}
 use Rattle.cedar_validation.specs.Words.{Chain, HasCycle, HasEntry, IsClosedOf, IsClosedTo, IsListFault, IsTableFault, Lacks, ListsIn, Memory, StepsTo, TableFault, more, one}
 
 -- keys and nodes, with what the keys stand for, and what the nodes list

@@ -7,15 +7,15 @@ use Rattle.std.specs.BTreeMap.{is_at}
 use Rattle.std.specs.List.Sorted.{IsStrictlySortedBy}
 use Rattle.std.specs.Map.{keys_of}
 use Rattle.std.specs.Ordering.{is_eq}
-use Rattle.cedar_below.proofs.Lists.{Contains-preimage}
-use Rattle.cedar_below.proofs.Names.{entity_type_ord-Equal}
-use Rattle.cedar_validation.specs.Words.{EntityType, EntityTypeKind, Fault, HasEntityType, IsBelowFault, IsBelowSound, IsEnumerated, IsExternal, IsOfKind, IsPairSound, IsRefusal, IsSchemaFault, ListsDescendant, Parts, PlainName, SchemaEntityType, StandsAt, ValidatorEntityType, descendant_names, entity_type_of, enumerated_below, external_below_enumerated, one, out_of_memory, plain_entry, plain_parts, type_name, undeclared_entity_types}
-use Rattle.cedar_below.specs.contracts.entity_type.EntityTypeOrd.TheImpl as entity_type_ord
-use Rattle.cedar_declarations.proofs.OccurrenceLemmas.{Contains-image}
-use Rattle.cedar_types.proofs.MemberLemmas.{Contains-named}
+use Rattle.cedar_ast.proofs.Lists.{Contains-preimage}
+use Rattle.cedar_ast.proofs.Names.{entity_type_ord-Equal}
+use Rattle.cedar_ast.specs.contracts.entity_type.EntityTypeOrd.TheImpl as entity_type_ord
 use Rattle.cedar_graph.proofs.Numbers.{lookup_agree}
+use Rattle.cedar_schema_semantics.proofs.OccurrenceLemmas.{Contains-image}
+use Rattle.cedar_types.proofs.MemberLemmas.{Contains-named}
 use Rattle.cedar_validation.proofs.Keyed.{type_found}
 use Rattle.cedar_validation.proofs.RequestTypeLemmas.{one_unknown}
+use Rattle.cedar_validation.specs.Words.{EntityType, EntityTypeKind, Fault, HasEntityType, IsBelowFault, IsBelowSound, IsEnumerated, IsExternal, IsOfKind, IsPairSound, IsRefusal, IsSchemaFault, ListsDescendant, Parts, PlainName, SchemaEntityType, StandsAt, ValidatorEntityType, descendant_names, entity_type_of, enumerated_below, external_below_enumerated, one, out_of_memory, plain_entry, plain_parts, type_name, undeclared_entity_types}
 
 abbrev pub Item : Type 0
 Item = EntityType × ValidatorEntityType

@@ -1,7 +1,7 @@
 -- What is known of the types of a schema, where the types of its actions are collected.
 use Rattle.std.proofs.Common.{◌≡◌, ◌⊎◌, ◌↔◌, [], ◌∷◌, List, inl, inr, subst, sym, Contains}
-use Rattle.cedar_validation.specs.Words.{AreMentionsSound, Extensions, Fault, HasAction, HasEntityType, IsSchemaFault, IsTypeIn, MentionsEntity, MentionsExtensionType, PlainName, PlainSchema, PlainUid, Ty, extension_types, out_of_memory, undeclared_entity_types, unknown_extension_type}
 use Rattle.cedar_validation.proofs.RequestTypeLemmas.{one_unknown}
+use Rattle.cedar_validation.specs.Words.{AreMentionsSound, Extensions, Fault, HasAction, HasEntityType, IsSchemaFault, IsTypeIn, MentionsEntity, MentionsExtensionType, PlainName, PlainSchema, PlainUid, Ty, extension_types, out_of_memory, undeclared_entity_types, unknown_extension_type}
 
 module _ (extensions : Extensions) (schema : PlainSchema) (names : List PlainName)
     (exact : (name : PlainName) → Contains names name ↔ ((uid : PlainUid) × HasAction schema uid × (uid.ty ≡ name))) where

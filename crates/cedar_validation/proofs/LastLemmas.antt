@@ -1,4 +1,5 @@
--- Nodes that are put under their names one after another, each in place of an earlier one of its name.
+-- Nodes that are put under their names one after another, each in place of an earlier one of its
+-- name.
 use Rattle.std.proofs.Common.{◌≡◌, ◌++◌, Bool, true, false, cond, Contains, List, [], ◌∷◌, None, Some, refl, ap, sym, subst, ◌∙◌, inl, inr}
 use Rattle.std.specs.BTreeMap.{BTreeMap, get, insert_entry, is_at}
 use Rattle.std.specs.Cmp.{IsTotalOrder}

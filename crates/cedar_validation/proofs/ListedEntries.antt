@@ -1,11 +1,11 @@
 -- What entries of a map list, and what they list as plain data.
 use Rattle.std.proofs.Common.{◌≡◌, ◌↔◌, List, map, ap, sym, ◌∙◌, Contains}
-use Rattle.cedar_below.proofs.Chains.{refined}
-use Rattle.cedar_below.proofs.Lists.{Contains-preimage}
-use Rattle.cedar_validation.specs.Words.{Chain, HoldsPairwise, IsClosedOf, LeadsTo, ListsIn, one}
-use Rattle.cedar_declarations.proofs.OccurrenceLemmas.{Contains-image}
-use Rattle.cedar_below.proofs.TurnLemmas.{turn_weaker}
+use Rattle.cedar_ast.proofs.Chains.{refined}
+use Rattle.cedar_ast.proofs.Lists.{Contains-preimage}
+use Rattle.cedar_ast.proofs.TurnLemmas.{turn_weaker}
+use Rattle.cedar_schema_semantics.proofs.OccurrenceLemmas.{Contains-image}
 use Rattle.cedar_validation.proofs.Pairwise.{pairwise_map}
+use Rattle.cedar_validation.specs.Words.{Chain, HoldsPairwise, IsClosedOf, LeadsTo, ListsIn, one}
 
 module _ {K V P Q : Type 0} (under : K → P) (below : V → List P) (plain : K × V → P × Q) (listed : Q → List P)
     (keyed : (e : K × V) → (plain e).0 ≡ under e.0) (lists : (e : K × V) → listed (plain e).1 ≡ below e.1) (entries : List (K × V)) where

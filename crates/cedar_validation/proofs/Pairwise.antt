@@ -1,10 +1,11 @@
 -- Lists that agree pairwise.
 use Rattle.std.proofs.Common.{◌≡◌, List, [], ◌∷◌, map, inl, inr, refl, Contains}
-use Rattle.cedar_below.proofs.Lists.{Contains-cons}
-use Rattle.cedar_below.specs.Lists.{HoldsPairwise}
-use Rattle.cedar_declarations.proofs.TurnLemmas.{turn_back, turn_forth}
+use Rattle.cedar_ast.proofs.Lists.{Contains-cons}
+use Rattle.cedar_ast.specs.Lists.{HoldsPairwise}
+use Rattle.cedar_schema_semantics.proofs.TurnLemmas.{turn_back, turn_forth}
 
--- where two lists have the same keys in turn, what holds of each two items of one key holds pairwise
+-- where two lists have the same keys in turn, what holds of each two items of one key holds
+-- pairwise
 pub pairwise : {A B P : Type 0} (R : A → B → Type 0) (f : A → P) (g : B → P) (xs : List A) (ys : List B) → map f xs ≡ map g ys
     → ((x : A) (y : B) → Contains xs x → Contains ys y → f x ≡ g y → R x y) → HoldsPairwise R xs ys
 pairwise R f g [] [] same each = tt

@@ -1,9 +1,9 @@
 -- Entity types in sets.
 use Rattle.std.proofs.Common.{◌≡◌, true, cond, List, ◌∷◌, map, sym, ◌∙◌, inl, inr, ⊎_elim, Contains}
 use Rattle.std.specs.List.{list_any}
-use Rattle.cedar_validation.specs.Words.{EntityType, EntityUID, PlainName, PlainUid, type_name, uid_of}
 use Rattle.cedar_schema_elements.proofs.NamedTypes.{inserted_cases, inserted_kept, inserted_new, same_type}
 use Rattle.cedar_validation.proofs.Checking.{Checking, checking_more}
+use Rattle.cedar_validation.specs.Words.{EntityType, EntityUID, PlainName, PlainUid, type_name, uid_of}
 
 -- of some uids the types are collected, and others are left
 pub record TypesSoFar (Has : PlainUid → Type 0) (all : List EntityUID) (names : List PlainName) (left : List EntityUID) : Type 0 where

@@ -1,6 +1,6 @@
 -- A schema of which all is made sure has no fault.
 use Rattle.std.proofs.Common.{[], ◌∷◌, refl, inl, Contains, inr}
-use Rattle.cedar_below.proofs.Lists.{Contains-cons}
+use Rattle.cedar_ast.proofs.Lists.{Contains-cons}
 use Rattle.cedar_validation.specs.Words.{AreMentionsSound, AreNamesSound, ArePlaced, Extensions, IsClosed, IsPairSound, IsUnknownType, IsValidSchema, ListsDescendant, PlainName, PlainSchema, PlainUid, SchemaAction, action_cycle, action_entity_type, action_shadowing, enumerated_below, external_below_enumerated, invalid_action_type, type_shadowing, undeclared_action_descendant, undeclared_entity_types, unknown_extension_type}
 
 module _ (extensions : Extensions) (schema : PlainSchema) (names : AreNamesSound schema) (mentions : AreMentionsSound extensions schema)

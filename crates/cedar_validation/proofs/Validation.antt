@@ -1,8 +1,8 @@
 -- A schema whose parts were closed and checked.
 use Rattle.std.proofs.Common.{◌≡◌, ◌⊎◌, List, [], inl, inr, map}
-use Rattle.cedar_validation.specs.Words.{ActionEntity, AreActionEntities, Chain, ClosesAction, ClosesSchema, ClosesType, EntityType, EntityUID, Extensions, Fault, HoldsPairwise, IsClosed, IsSchemaFault, IsValidSchema, ListsDescendantAction, PlainUid, ValidatorActionId, ValidatorEntityType, out_of_memory, plain_action_entry, plain_entry, plain_schema}
-use Rattle.cedar_below.proofs.Chains.{refined}
+use Rattle.cedar_ast.proofs.Chains.{refined}
 use Rattle.cedar_validation.proofs.Agreeing.{action_shape, actions_closed, chain_listed, fault_back, fault_forth, listed_chain, type_shape, types_closed}
+use Rattle.cedar_validation.specs.Words.{ActionEntity, AreActionEntities, Chain, ClosesAction, ClosesSchema, ClosesType, EntityType, EntityUID, Extensions, Fault, HoldsPairwise, IsClosed, IsSchemaFault, IsValidSchema, ListsDescendantAction, PlainUid, ValidatorActionId, ValidatorEntityType, out_of_memory, plain_action_entry, plain_entry, plain_schema}
 
 abbrev Types : Type 0
 Types = List (EntityType × ValidatorEntityType)

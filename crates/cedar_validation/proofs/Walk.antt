@@ -1,7 +1,7 @@
 -- What stands in types, as their attributes are gone through.
 use Rattle.std.proofs.Common.{◌≡◌, ◌⊎◌, ◌≤◌, ◌+◌, ℕ, inl, inr, arith}
-use Rattle.cedar_validation.specs.Words.{Fields, FieldsMentionEntity, FieldsMentionExtensionType, MentionsEntity, MentionsExtensionType, PlainName, Text, Ty, end, field, record_of, set_of}
 use Rattle.std.specs.Prelude.{Bool}
+use Rattle.cedar_validation.specs.Words.{Fields, FieldsMentionEntity, FieldsMentionExtensionType, MentionsEntity, MentionsExtensionType, PlainName, Text, Ty, end, field, record_of, set_of}
 
 abbrev mutual
   -- how many parts a type has

@@ -1,13 +1,13 @@
 -- Entity types and actions that are copied.
 use Rattle.std.specs.Prelude.{◌≡◌}
+use Rattle.cedar_ast.specs.Words.{Text, type_loc, uid_loc, uid_type_loc}
+use Rattle.cedar_ast.specs.declared.entity_type.EntityType.{EntityType}
+use Rattle.cedar_ast.specs.declared.entity_uid.EntityUID.{EntityUID}
 use Rattle.cedar_schema_elements.specs.ValidatorActionId as action
 use Rattle.cedar_schema_elements.specs.Words.{action_loc, action_of, attributes_of, name_loc, name_type_loc, plain_action_entry, plain_entry}
 use Rattle.cedar_schema_elements.specs.declared.action_id.ValidatorActionId.{ValidatorActionId}
-use Rattle.cedar_below.specs.Words.{Text, type_loc, uid_loc, uid_type_loc}
-use Rattle.cedar_below.specs.declared.entity_type.EntityType.{EntityType}
-use Rattle.cedar_below.specs.declared.entity_uid.EntityUID.{EntityUID}
-use Rattle.cedar_declarations.specs.SameSchema.{SameAction, SameEntityType}
 use Rattle.cedar_schema_elements.specs.declared.entity_type.ValidatorEntityType.{ValidatorEntityType}
+use Rattle.cedar_schema_semantics.specs.SameSchema.{SameAction, SameEntityType}
 use Rattle.cedar_types.specs.Located.{located_at}
 
 -- an entity type under its name has a copy: the same with the same locations

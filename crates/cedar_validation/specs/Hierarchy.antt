@@ -1,11 +1,11 @@
 -- What is refused of entity types one below the other.
 use Rattle.std.specs.Prelude.{◌≡◌, ◌⊎◌, Contains, Some}
-use Rattle.cedar_below.specs.Words.{PlainName, type_name}
-use Rattle.cedar_below.specs.contracts.entity_type.EntityTypeOrd.TheImpl as entity_type_ord
-use Rattle.cedar_below.specs.declared.entity_type.EntityType.{EntityType}
-use Rattle.cedar_declarations.specs.Words.{EntityTypeKind, Fault, HasEntityType, IsEnumerated, IsExternal, IsOfKind, PlainSchema, enumerated_below, external_below_enumerated}
+use Rattle.cedar_ast.specs.Words.{PlainName, type_name}
+use Rattle.cedar_ast.specs.contracts.entity_type.EntityTypeOrd.TheImpl as entity_type_ord
+use Rattle.cedar_ast.specs.declared.entity_type.EntityType.{EntityType}
 use Rattle.cedar_schema_elements.specs.ValidatorEntityType.{entity_type_of}
 use Rattle.cedar_schema_elements.specs.declared.entity_type.ValidatorEntityType.{ValidatorEntityType}
+use Rattle.cedar_schema_semantics.specs.Words.{EntityTypeKind, Fault, HasEntityType, IsEnumerated, IsExternal, IsOfKind, PlainSchema, enumerated_below, external_below_enumerated}
 use Rattle.cedar_table.specs.Entries.{get_by}
 use Rattle.cedar_validation.specs.declared.parts.Parts.{Parts}
 

@@ -1,11 +1,11 @@
 -- The last of some items that passes a test, and the last entity type of a name, or action of a
 -- uid.
-use Rattle.std.specs.Prelude.{Bool, cond, List, [], ◌∷◌, Option, None, Some}
 use Rattle.std.specs.Option.{option_or}
 use Rattle.std.specs.Ordering.{is_eq}
+use Rattle.std.specs.Prelude.{Bool, cond, List, [], ◌∷◌, Option, None, Some}
+use Rattle.cedar_ast.specs.Words.{PlainName, PlainUid, name_cmp, uid_cmp}
 use Rattle.cedar_schema_elements.specs.Words.{action_of, entity_type_of}
 use Rattle.cedar_schema_elements.specs.declared.action_id.ValidatorActionId.{ValidatorActionId}
-use Rattle.cedar_below.specs.Words.{PlainName, PlainUid, name_cmp, uid_cmp}
 use Rattle.cedar_schema_elements.specs.declared.entity_type.ValidatorEntityType.{ValidatorEntityType}
 
 -- the last of some items that passes a test

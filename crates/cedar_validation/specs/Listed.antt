@@ -1,7 +1,7 @@
 -- What the nodes under the keys of a map list by name, and the same nodes with all that chains of
 -- these lead to.
 use Rattle.std.specs.Prelude.{◌≡◌, ◌↔◌, Bool, Contains, IsTrue, List, ⊤}
-use Rattle.cedar_below.specs.Chain.{Chain}
+use Rattle.cedar_ast.specs.Chain.{Chain}
 use Rattle.cedar_graph.specs.declared.table_fault.TableFault.{TableFault}
 use Rattle.cedar_graph.specs.declared.table_fault.TableFault.TheVariants.{HasCycle, Lacks, Memory}
 

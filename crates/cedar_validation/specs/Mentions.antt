@@ -1,7 +1,7 @@
 -- What types may name, and what they name that isn't known.
 use Rattle.std.specs.Prelude.{◌≡◌, ◌⊎◌, [], ◌∷◌, Contains, map}
-use Rattle.cedar_below.specs.Words.{PlainName, extension_types, type_name}
-use Rattle.cedar_declarations.specs.Words.{Fault, HasEntityType, MentionsEntity, MentionsExtensionType, out_of_memory, undeclared_entity_types, unknown_extension_type}
+use Rattle.cedar_ast.specs.Words.{PlainName, extension_types, type_name}
+use Rattle.cedar_schema_semantics.specs.Words.{Fault, HasEntityType, MentionsEntity, MentionsExtensionType, out_of_memory, undeclared_entity_types, unknown_extension_type}
 use Rattle.cedar_type_rules.specs.Ty.{Ty}
 use Rattle.cedar_validation.specs.Parts.{plain_parts}
 use Rattle.cedar_validation.specs.declared.known.Known.{Known}

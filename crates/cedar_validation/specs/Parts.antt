@@ -1,15 +1,15 @@
 -- The entity types and the actions of a schema as plain data, and what is made sure of them.
 use Rattle.std.specs.Prelude.{◌≡◌, ◌⊎◌, ◌∷◌, List, [], map}
-use Rattle.cedar_schema_elements.specs.declared.action_id.ValidatorActionId.{ValidatorActionId}
-use Rattle.cedar_below.specs.Words.{Chain, PlainName, PlainUid, type_name, uid_of}
-use Rattle.cedar_below.specs.declared.entity_type.EntityType.{EntityType}
-use Rattle.cedar_below.specs.declared.entity_uid.EntityUID.{EntityUID}
-use Rattle.cedar_below.specs.declared.extension.Extensions.{Extensions}
+use Rattle.cedar_ast.specs.Words.{Chain, PlainName, PlainUid, type_name, uid_of}
+use Rattle.cedar_ast.specs.declared.entity_type.EntityType.{EntityType}
+use Rattle.cedar_ast.specs.declared.entity_uid.EntityUID.{EntityUID}
+use Rattle.cedar_ast.specs.declared.extension.Extensions.{Extensions}
 use Rattle.cedar_graph.specs.declared.table_fault.TableFault.{TableFault}
 use Rattle.cedar_graph.specs.declared.table_fault.TableFault.TheVariants as refused
-use Rattle.cedar_declarations.specs.Words.{ActionEntity, Fault, IsSchemaFault, ListsDescendant, ListsDescendantAction, PlainSchema, action_cycle, out_of_memory, undeclared_action_descendant, undeclared_entity_types}
 use Rattle.cedar_schema_elements.specs.Words.{plain_entry, schema_listing, schema_with}
+use Rattle.cedar_schema_elements.specs.declared.action_id.ValidatorActionId.{ValidatorActionId}
 use Rattle.cedar_schema_elements.specs.declared.entity_type.ValidatorEntityType.{ValidatorEntityType}
+use Rattle.cedar_schema_semantics.specs.Words.{ActionEntity, Fault, IsSchemaFault, ListsDescendant, ListsDescendantAction, PlainSchema, action_cycle, out_of_memory, undeclared_action_descendant, undeclared_entity_types}
 use Rattle.cedar_validation.specs.declared.parts.Parts.{Parts}
 
 -- the schema of some entity types, some actions, and these entities of actions

@@ -1,7 +1,7 @@
 -- Principals, resources and descendants of actions that have to be of the schema.
 use Rattle.std.specs.Prelude.{◌≡◌, ◌⊎◌, [], ◌∷◌, Contains}
-use Rattle.cedar_below.specs.Words.{PlainName, PlainUid}
-use Rattle.cedar_declarations.specs.Words.{Fault, HasAction, HasEntityType, IsPrincipalOrResourceOf, PlainSchema, SchemaAction, out_of_memory, undeclared_action_descendant, undeclared_entity_types}
+use Rattle.cedar_ast.specs.Words.{PlainName, PlainUid}
+use Rattle.cedar_schema_semantics.specs.Words.{Fault, HasAction, HasEntityType, IsPrincipalOrResourceOf, PlainSchema, SchemaAction, out_of_memory, undeclared_action_descendant, undeclared_entity_types}
 
 -- the principals and resources of the action are entity types of the schema, and its descendants
 -- actions

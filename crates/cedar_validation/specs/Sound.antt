@@ -1,8 +1,8 @@
 -- What is made sure of a schema, step by step.
 use Rattle.std.specs.Prelude.{Contains}
-use Rattle.cedar_below.specs.Words.{IsActionType, PlainName, PlainUid, extension_types}
-use Rattle.cedar_below.specs.declared.extension.Extensions.{Extensions}
-use Rattle.cedar_declarations.specs.Words.{HasAction, HasEntityType, IsKnownType, IsTypeIn, MentionsEntity, MentionsExtensionType, PlainSchema, ShadowsAction, ShadowsType}
+use Rattle.cedar_ast.specs.Words.{IsActionType, PlainName, PlainUid, extension_types}
+use Rattle.cedar_ast.specs.declared.extension.Extensions.{Extensions}
+use Rattle.cedar_schema_semantics.specs.Words.{HasAction, HasEntityType, IsKnownType, IsTypeIn, MentionsEntity, MentionsExtensionType, PlainSchema, ShadowsAction, ShadowsType}
 use Rattle.cedar_type_rules.specs.Ty.{Ty}
 
 -- no entity type has the base name of actions' types, which each action's type has; and nothing is

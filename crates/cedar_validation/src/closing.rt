@@ -4,16 +4,16 @@ ghost use Rattle.std.specs.Prelude.{◌≡◌, Contains, IfErr, IfOk, IsTrue, Li
 ghost use Rattle.cedar_schema_elements.specs.ValidatorActionId as action_specs;
 ghost use Rattle.cedar_validation.specs.Words.{ActionEntity, Chain, ClosesAction, ClosesType, HoldsPairwise, IsClosedOf, IsListFault, IsRefusal, LeadsTo, ListsDescendantAction, PlainUid, action_graph_fault, fault_of, plain_action_entry, plain_entry, plain_schema, type_graph_fault};
 ghost use Rattle.cedar_schema_elements.specs.declared.action_id.ValidatorActionId.{ValidatorActionId as Action};
-ghost use Rattle.cedar_below.specs.declared.entity_type.EntityType.{EntityType as Name};
-ghost use Rattle.cedar_below.specs.declared.entity_uid.EntityUID.{EntityUID as Uid};
+ghost use Rattle.cedar_ast.specs.declared.entity_type.EntityType.{EntityType as Name};
+ghost use Rattle.cedar_ast.specs.declared.entity_uid.EntityUID.{EntityUID as Uid};
 ghost use Rattle.cedar_schema_elements.specs.ValidatorEntityType as type_specs;
 ghost use Rattle.cedar_schema_elements.specs.declared.entity_type.ValidatorEntityType.{ValidatorEntityType as Node};
 
 use crate::parts::{Actions, Types};
-use cedar_below::{EntityType, EntityUID, Memory, NonEmpty, QuickHash};
-use cedar_declarations::SchemaError;
+use cedar_ast::{EntityType, EntityUID, Memory, NonEmpty, QuickHash};
 use cedar_graph::{TableFault, close_table};
 use cedar_schema_elements::{SchemaNode, ValidatorActionId, ValidatorEntityType};
+use cedar_schema_semantics::SchemaError;
 use cedar_table::Table;
 use std::alloc::Global;
 use std::hash::Hash;

@@ -4,7 +4,7 @@ ghost use Rattle.std.specs.Prelude.{IfOk};
 ghost use Rattle.cedar_validation.specs.Words.{HoldsPairwise, IsActionCopied, IsTypeCopied};
 
 use crate::parts::{Actions, Types};
-use cedar_below::{EntityType, EntityUID, M};
+use cedar_ast::{EntityType, EntityUID, M};
 use cedar_schema_elements::{ValidatorActionId, ValidatorEntityType};
 use cedar_table::{Table, copied_table};
 

@@ -5,9 +5,9 @@ ghost use Rattle.cedar_validation.specs.Words.{IsBelowFault, IsBelowSound, IsKin
 
 use crate::parts::Parts;
 use crate::request_types::check_declared;
-use cedar_below::EntityType;
-use cedar_declarations::SchemaError;
+use cedar_ast::EntityType;
 use cedar_schema_elements::ValidatorEntityType;
+use cedar_schema_semantics::SchemaError;
 use std::alloc::Global;
 
 /// Refuses an enumerated entity type below another, and an external one below an enumerated one.

@@ -4,8 +4,8 @@ ghost use Rattle.std.specs.Prelude.{◌≡◌, ◌⊎◌, ◌↔◌, [], ◌∷�
 ghost use Rattle.cedar_validation.specs.Words.{HasAction, IsKnownThroughout, IsUnknownIn, Knows, PlainName, PlainUid, extension_types, fault_of, kind_ty, lub_names, out_of_memory, plain_name, plain_parts, type_name, undeclared_entity_types, unknown_extension_type};
 
 use crate::parts::Parts;
-use cedar_below::{EntityType, Extensions, M, Name, NonEmpty};
-use cedar_declarations::SchemaError;
+use cedar_ast::{EntityType, Extensions, M, Name, NonEmpty};
+use cedar_schema_semantics::SchemaError;
 use cedar_types::{EntityKind, EntityLUB};
 use std::alloc::Global;
 use std::collections::HashSet;

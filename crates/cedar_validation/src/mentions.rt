@@ -4,9 +4,9 @@ ghost use Rattle.std.specs.Prelude.{◌≡◌, ◌⊎◌, Contains, IfErr, OnOk}
 ghost use Rattle.cedar_validation.specs.Words.{ClosedAttributes, IsContextOf, IsKnownThroughout, IsTypeIn, IsTypeOfKind, IsUnknownIn, Ty, action_of, entity_type_of, fault_of, fields_of, out_of_memory, plain_parts, record_of, ty_of};
 
 use crate::known::Known;
-use cedar_below::QuickHash;
-use cedar_declarations::SchemaError;
+use cedar_ast::QuickHash;
 use cedar_schema_elements::{ValidatorActionId, ValidatorEntityType};
+use cedar_schema_semantics::SchemaError;
 use cedar_table::Table;
 use cedar_types::{Attributes, Type};
 

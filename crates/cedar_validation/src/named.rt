@@ -3,14 +3,14 @@
 ghost use Rattle.std.specs.Prelude.{◌≡◌, Contains, IfOk};
 ghost use Rattle.cedar_validation.specs.Words.{action_of, entity_type_of, get_by, is_eq, last_named, last_of_uid, last_that, name_cmp, type_name, uid_cmp, uid_of};
 ghost use Rattle.cedar_schema_elements.specs.declared.action_id.ValidatorActionId.{ValidatorActionId as ActionOfSchema};
-ghost use Rattle.cedar_below.specs.declared.entity_type.EntityType.{EntityType as Name};
-ghost use Rattle.cedar_below.specs.declared.entity_uid.EntityUID.{EntityUID as Uid};
+ghost use Rattle.cedar_ast.specs.declared.entity_type.EntityType.{EntityType as Name};
+ghost use Rattle.cedar_ast.specs.declared.entity_uid.EntityUID.{EntityUID as Uid};
 ghost use Rattle.cedar_schema_elements.specs.ValidatorActionId as action_specs;
 ghost use Rattle.cedar_schema_elements.specs.ValidatorEntityType as type_specs;
 ghost use Rattle.cedar_schema_elements.specs.declared.entity_type.ValidatorEntityType.{ValidatorEntityType as EntityTypeOfSchema};
 
 use crate::parts::{Actions, Types};
-use cedar_below::{EntityType, EntityUID, M, QuickHash};
+use cedar_ast::{EntityType, EntityUID, M, QuickHash};
 use cedar_schema_elements::{SchemaNode, ValidatorActionId, ValidatorEntityType};
 use cedar_table::Table;
 use std::alloc::Global;

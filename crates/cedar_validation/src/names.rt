@@ -4,8 +4,8 @@ ghost use Rattle.std.specs.Prelude.{◌≡◌, [], IfErr, IfOk, OnOk};
 ghost use Rattle.cedar_validation.specs.Words.{HasAction, HasEntityType, IsActionType, IsRefusal, PlainName, PlainUid, ShadowsAction, ShadowsType, fault_of, plain_parts, type_name};
 
 use crate::parts::Parts;
-use cedar_below::{EntityType, EntityUID, InternalName, M, Name};
-use cedar_declarations::SchemaError;
+use cedar_ast::{EntityType, EntityUID, InternalName, M, Name};
+use cedar_schema_semantics::SchemaError;
 use std::alloc::Global;
 
 /// Refuses an entity type with the base name of actions' types.

@@ -1,6 +1,6 @@
 //! The entity types and the actions of a schema.
 
-use cedar_below::{EntityType, EntityUID};
+use cedar_ast::{EntityType, EntityUID};
 use cedar_schema_elements::{ValidatorActionId, ValidatorEntityType};
 use cedar_table::Table;
 

@@ -5,9 +5,9 @@ ghost use Rattle.cedar_validation.specs.Words.{ArePlaced, HasAction, HasEntityTy
 
 use crate::known::undeclared;
 use crate::parts::Parts;
-use cedar_below::{EntityType, QuickHash};
-use cedar_declarations::SchemaError;
+use cedar_ast::{EntityType, QuickHash};
 use cedar_schema_elements::{RequestTypes, ValidatorActionId};
+use cedar_schema_semantics::SchemaError;
 use cedar_table::Table;
 use std::alloc::Global;
 use std::collections::hash_set;

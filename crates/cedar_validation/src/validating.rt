@@ -15,9 +15,9 @@ use crate::names::{
 };
 use crate::parts::Parts;
 use crate::request_types::check_actions;
-use cedar_below::{EntityType, EntityUID, Extensions};
-use cedar_declarations::SchemaError;
+use cedar_ast::{EntityType, EntityUID, Extensions};
 use cedar_schema_elements::{ValidatorActionId, ValidatorEntityType};
+use cedar_schema_semantics::SchemaError;
 use cedar_table::Table;
 use std::alloc::Global;
 

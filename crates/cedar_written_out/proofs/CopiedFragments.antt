@@ -4,31 +4,31 @@ use Rattle.std.specs.List.{flat_map}
 use Rattle.std.specs.Option.{is_some, option_map}
 use Rattle.std.specs.declared.alloc.Global.{Global}
 use Rattle.std.specs.declared.string.String.{String}
-use Rattle.cedar_below.specs.Words.{HoldsOfBoth, HoldsPairwise, PlainName, plain_name, unreserved_id_text}
-use Rattle.cedar_below.specs.declared.name.Name.{Name}
-use Rattle.cedar_below.specs.declared.unreserved_id.UnreservedId.{UnreservedId}
-use Rattle.cedar_names.specs.CommonTypeId.{common_type_text}
-use Rattle.cedar_names.specs.Copies.{AlikeRaw, IsTypeCopy}
-use Rattle.cedar_names.specs.Declaration.{Declaration}
-use Rattle.cedar_names.specs.DeclarationCopies.{IsActionReferenceCopy, IsActionTypeCopy, IsApplySpecCopy, IsCommonIdCopy, IsCommonTypeCopy, IsDefinitionCopy, IsEntityTypeCopy, IsFragmentCopy, IsIdCopy, IsKindCopy, IsNamespaceCopy, IsTextCopy}
-use Rattle.cedar_names.specs.ActionBody.{action_body, applies_to, parent_action, parent_actions, parent_type, requests_by}
-use Rattle.cedar_names.specs.EntityBody.{entity_body, kind_body}
-use Rattle.cedar_names.specs.Words.{action, common_type, entity_type, enumerated, external, raw_declarations, raw_fragment, raw_reference, requests, standard, type_expr}
-use Rattle.cedar_names.specs.Reference.{reference_to}
-use Rattle.cedar_names.specs.declared.json_schema.action_type.ActionEntityUID.{ActionEntityUID}
-use Rattle.cedar_names.specs.declared.json_schema.action_type.ActionType.{ActionType}
-use Rattle.cedar_names.specs.declared.json_schema.action_type.ApplySpec.{ApplySpec}
-use Rattle.cedar_names.specs.declared.json_schema.common_type_id.CommonTypeId.{CommonTypeId}
-use Rattle.cedar_names.specs.declared.json_schema.entity_type.EntityType.{EntityType}
-use Rattle.cedar_names.specs.declared.json_schema.entity_type.EntityTypeKind.{EntityTypeKind}
-use Rattle.cedar_names.specs.declared.json_schema.entity_type.EntityTypeKind.TheVariants as variant
-use Rattle.cedar_names.specs.declared.json_schema.fragment.CommonType.{CommonType}
-use Rattle.cedar_names.specs.declared.json_schema.fragment.Fragment.{Fragment}
-use Rattle.cedar_names.specs.declared.json_schema.fragment.NamespaceDefinition.{NamespaceDefinition}
-use Rattle.cedar_names.specs.declared.json_schema.raw_name.RawName.{RawName}
-use Rattle.cedar_names.specs.declared.json_schema.reference_type.ReferenceType.{ReferenceType}
-use Rattle.cedar_names.specs.declared.json_schema.reference_type.ReferenceType.TheVariants.{Entity}
-use Rattle.cedar_names.specs.declared.json_schema.type_of.Type.{«Type»}
+use Rattle.cedar_ast.specs.Words.{HoldsOfBoth, HoldsPairwise, PlainName, plain_name, unreserved_id_text}
+use Rattle.cedar_ast.specs.declared.name.Name.{Name}
+use Rattle.cedar_ast.specs.declared.unreserved_id.UnreservedId.{UnreservedId}
+use Rattle.cedar_schema_ast.specs.ActionBody.{action_body, applies_to, parent_action, parent_actions, parent_type, requests_by}
+use Rattle.cedar_schema_ast.specs.CommonTypeId.{common_type_text}
+use Rattle.cedar_schema_ast.specs.Copies.{AlikeRaw, IsTypeCopy}
+use Rattle.cedar_schema_ast.specs.Declaration.{Declaration}
+use Rattle.cedar_schema_ast.specs.DeclarationCopies.{IsActionReferenceCopy, IsActionTypeCopy, IsApplySpecCopy, IsCommonIdCopy, IsCommonTypeCopy, IsDefinitionCopy, IsEntityTypeCopy, IsFragmentCopy, IsIdCopy, IsKindCopy, IsNamespaceCopy, IsTextCopy}
+use Rattle.cedar_schema_ast.specs.EntityBody.{entity_body, kind_body}
+use Rattle.cedar_schema_ast.specs.Reference.{reference_to}
+use Rattle.cedar_schema_ast.specs.Words.{action, common_type, entity_type, enumerated, external, raw_declarations, raw_fragment, raw_reference, requests, standard, type_expr}
+use Rattle.cedar_schema_ast.specs.declared.json_schema.action_type.ActionEntityUID.{ActionEntityUID}
+use Rattle.cedar_schema_ast.specs.declared.json_schema.action_type.ActionType.{ActionType}
+use Rattle.cedar_schema_ast.specs.declared.json_schema.action_type.ApplySpec.{ApplySpec}
+use Rattle.cedar_schema_ast.specs.declared.json_schema.common_type_id.CommonTypeId.{CommonTypeId}
+use Rattle.cedar_schema_ast.specs.declared.json_schema.entity_type.EntityType.{EntityType}
+use Rattle.cedar_schema_ast.specs.declared.json_schema.entity_type.EntityTypeKind.{EntityTypeKind}
+use Rattle.cedar_schema_ast.specs.declared.json_schema.entity_type.EntityTypeKind.TheVariants as variant
+use Rattle.cedar_schema_ast.specs.declared.json_schema.fragment.CommonType.{CommonType}
+use Rattle.cedar_schema_ast.specs.declared.json_schema.fragment.Fragment.{Fragment}
+use Rattle.cedar_schema_ast.specs.declared.json_schema.fragment.NamespaceDefinition.{NamespaceDefinition}
+use Rattle.cedar_schema_ast.specs.declared.json_schema.raw_name.RawName.{RawName}
+use Rattle.cedar_schema_ast.specs.declared.json_schema.reference_type.ReferenceType.{ReferenceType}
+use Rattle.cedar_schema_ast.specs.declared.json_schema.reference_type.ReferenceType.TheVariants.{Entity}
+use Rattle.cedar_schema_ast.specs.declared.json_schema.type_of.Type.{«Type»}
 
 -- what items give, others give that are related to them in turn
 map_same : {A B : Type 0} (R : A → A → Type 0) (f : A → B) → ((x y : A) → R x y → f y ≡ f x) → (xs ys : List A)

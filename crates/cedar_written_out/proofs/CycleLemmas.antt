@@ -1,13 +1,13 @@
 -- Common types whose places lead back to themselves are elaborated as no type.
 use Rattle.std.proofs.Common.{◌≡◌, ℕ, zero, suc, List, [], ◌∷◌, Vec, length, Some, ap, sym, subst, refl, inl, inr, Contains, arith}
 use Rattle.std.specs.Prelude.{slice_get}
-use Rattle.cedar_below.proofs.Chains.{joined}
-use Rattle.cedar_declarations.proofs.OccurrenceLemmas.{value_once}
-use Rattle.cedar_declarations.proofs.ResolutionLemmas.{IsFirst-same}
-use Rattle.cedar_written_out.specs.Words.{AddsIndices, AreIndices, Chain, Defined, DefinesJust, ElaboratesTo, Expr, HoldsPairwise, IsCommon, IsDefined, LeadsTo, MayNameCommon, Members, MembersElaborateTo, MembersRefer, Names, PlainName, Reference, Refers, ResolvesTo, as_common, as_entity, as_extension, as_long, as_member, as_no_member, as_record, as_set, as_text, as_truth, item_names, items_at, more, names_of, one}
+use Rattle.cedar_ast.proofs.Chains.{joined}
+use Rattle.cedar_schema_semantics.proofs.OccurrenceLemmas.{value_once}
+use Rattle.cedar_schema_semantics.proofs.ResolutionLemmas.{IsFirst-same}
 use Rattle.cedar_type_rules.specs.Ty.{Fields, Ty}
 use Rattle.cedar_written_out.proofs.IndexLemmas.{Contains-at}
 use Rattle.cedar_written_out.proofs.MeasureLemmas.{item_at, resolves_alike}
+use Rattle.cedar_written_out.specs.Words.{AddsIndices, AreIndices, Chain, Defined, DefinesJust, ElaboratesTo, Expr, HoldsPairwise, IsCommon, IsDefined, LeadsTo, MayNameCommon, Members, MembersElaborateTo, MembersRefer, Names, PlainName, Reference, Refers, ResolvesTo, as_common, as_entity, as_extension, as_long, as_member, as_no_member, as_record, as_set, as_text, as_truth, item_names, items_at, more, names_of, one}
 
 -- what holds pairwise holds of the item at an index and of the list there
 turn_at : {A Z : Type 0} (S : A → List ℕ → Type 0) (xs : List A) (vs : List (Vec ℕ Z)) → HoldsPairwise (λ x v. S x v.items) xs vs

@@ -12,7 +12,7 @@ use Rattle.std.specs.Option.{is_some, unwrap_or}
 use Rattle.std.specs.Ordering.{is_eq, match_ordering}
 use Rattle.std.specs.declared.cmp.Ordering.{Ordering}
 use Rattle.std.specs.declared.cmp.Ordering.TheVariants.{Less, Equal, Greater}
-use Rattle.cedar_below.proofs.Lists.{Contains-cons, Contains-cons_cases, list_any-Contains}
+use Rattle.cedar_ast.proofs.Lists.{Contains-cons, Contains-cons_cases, list_any-Contains}
 
 -- entries as their keys and values are seen
 abbrev pub seen : {K V P W : Type 0} → (K → P) → (V → W) → List (K × V) → List (P × W)

@@ -5,15 +5,15 @@ use Rattle.std.proofs.lemmas.List.Elements.{Contains-append_cases, Contains-get_
 use Rattle.std.proofs.lemmas.Option.{slice_get-map, slice_get_within}
 use Rattle.std.specs.Option.{option_map}
 use Rattle.std.specs.Prelude.{slice_get}
-use Rattle.cedar_declarations.proofs.OccurrenceLemmas.{Contains-single}
-use Rattle.cedar_below.specs.declared.internal_name.InternalName.{InternalName}
-use Rattle.cedar_names.specs.declared.json_schema.type_of.Type.{«Type»}
-use Rattle.cedar_written_out.specs.Words.{AreFigures, AreIndices, Chain, Defined, DefinesJust, Expr, HoldsJust, IsLowestFirst, IsMeasured, Knows, LeadsTo, MayNameCommon, Names, PlainName, RawName, Reference, Refers, ResolvesTo, Written, figure_at, held_names, indexed_names, item_names, items_at, name_of, names_of, raw_reference, written_common, written_expr}
-use Rattle.cedar_written_out.specs.declared.figure.Figure.{Figure}
-use Rattle.cedar_written_out.specs.declared.measuring.FigureScope.{FigureScope}
+use Rattle.cedar_ast.specs.declared.internal_name.InternalName.{InternalName}
+use Rattle.cedar_schema_ast.specs.declared.json_schema.type_of.Type.{«Type»}
+use Rattle.cedar_schema_semantics.proofs.OccurrenceLemmas.{Contains-single}
 use Rattle.cedar_written_out.proofs.CycleLemmas.{AreTargets, as_many, no_type_on_cycle, same_length, targets_at}
 use Rattle.cedar_written_out.proofs.IndexLemmas.{Contains-at, index_once}
 use Rattle.cedar_written_out.proofs.MeasureLemmas.{resolves_alike}
+use Rattle.cedar_written_out.specs.Words.{AreFigures, AreIndices, Chain, Defined, DefinesJust, Expr, HoldsJust, IsLowestFirst, IsMeasured, Knows, LeadsTo, MayNameCommon, Names, PlainName, RawName, Reference, Refers, ResolvesTo, Written, figure_at, held_names, indexed_names, item_names, items_at, name_of, names_of, raw_reference, written_common, written_expr}
+use Rattle.cedar_written_out.specs.declared.figure.Figure.{Figure}
+use Rattle.cedar_written_out.specs.declared.measuring.FigureScope.{FigureScope}
 
 -- a number is another or isn't
 same_or_not : (a b : ℕ) → (a ≡ b) ⊎ (a ≢ b)
@@ -51,7 +51,8 @@ name_at : (items : List (PlainName × Expr)) (place : ℕ) (item : PlainName × 
 name_at items place item is = slice_get-map (λ it. it.0) items place ∙ ap (option_map (λ it. it.0)) is
 
 module _ (defined : Defined) (items : List (PlainName × Expr)) where
-  -- the figures of some places are found, and no other place has one that isn't that of its common type
+  -- the figures of some places are found, and no other place has one that isn't that of its common
+  -- type
   pub record FiguresSoFar (before : List ℕ) (figures : List (Option Figure)) : Type 0 where
     pub measured : (place : ℕ) → Contains before place → (item : PlainName × Expr) → slice_get items place ≡ Some item
         → IsMeasured defined item.1 (figure_at figures place)

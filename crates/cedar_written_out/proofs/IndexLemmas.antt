@@ -8,12 +8,12 @@ use Rattle.std.proofs.lemmas.Option.{slice_get-get_or, slice_get-map}
 use Rattle.std.specs.BTreeMap.{insert_entry}
 use Rattle.std.specs.Option.{option_map}
 use Rattle.std.specs.Prelude.{slice_get}
-use Rattle.cedar_below.proofs.Lists.{Contains-cons, Contains-cons_cases}
-use Rattle.cedar_below.proofs.Names.{internal_name_ord-Equal}
-use Rattle.cedar_written_out.specs.Words.{AreIndices, InternalName, PlainName, Reference, ReferenceType, Twice, «Type», Written, item_names, name_of, written_common, written_expr}
-use Rattle.cedar_below.specs.contracts.internal_name.InternalNameOrd.TheImpl as order
-use Rattle.cedar_declarations.proofs.OccurrenceLemmas.{Contains-single, Twice-append, Twice-both}
+use Rattle.cedar_ast.proofs.Lists.{Contains-cons, Contains-cons_cases}
+use Rattle.cedar_ast.proofs.Names.{internal_name_ord-Equal}
+use Rattle.cedar_ast.specs.contracts.internal_name.InternalNameOrd.TheImpl as order
+use Rattle.cedar_schema_semantics.proofs.OccurrenceLemmas.{Contains-single, Twice-append, Twice-both}
 use Rattle.cedar_written_out.proofs.Entries.{inserted_cases, inserted_names, seen, seen_names}
+use Rattle.cedar_written_out.specs.Words.{AreIndices, InternalName, PlainName, Reference, ReferenceType, Twice, «Type», Written, item_names, name_of, written_common, written_expr}
 
 -- an item stays at its place as others come after
 pub slice_get-front : {X : Type 0} (xs ys : List X) (i : ℕ) (x : X) → slice_get xs i ≡ Some x → slice_get (xs ++ ys) i ≡ Some x
@@ -129,8 +129,8 @@ repeated_name front rest name indices so_far among =
       | inr later ↦ let it = index_of_name entries each later in (it.0, Contains-cons entry entries (each, it.0) (inr it.1))
     ]
 
--- declared common types over names of some form, where it is given what a name refers to in a namespace
--- at a place of each kind
+-- declared common types over names of some form, where it is given what a name refers to in a
+-- namespace at a place of each kind
 module _ (N : Type 0) (refer : Option PlainName → ReferenceType → N → Reference) where
   -- the declared common types up to an index, and the one at it
   pub items_more : (declared : List (InternalName × Written («Type» N))) (item_index : ℕ) (item : InternalName × Written («Type» N))

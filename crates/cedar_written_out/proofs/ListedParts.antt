@@ -2,22 +2,22 @@
 use Rattle.std.proofs.Common.{◌≡◌, ◌++◌, List, [], ◌∷◌, Option, None, Some, Vec, ap, ◌∙◌}
 use Rattle.std.specs.Option.{option_map}
 use Rattle.std.specs.declared.alloc.Global.{Global}
-use Rattle.cedar_below.specs.declared.entity_type.EntityType.{EntityType}
-use Rattle.cedar_below.specs.declared.entity_uid.EntityUID.{EntityUID}
+use Rattle.cedar_ast.specs.declared.entity_type.EntityType.{EntityType}
+use Rattle.cedar_ast.specs.declared.entity_uid.EntityUID.{EntityUID}
 use Rattle.cedar_fragments.specs.ActionDeclarations.{fragment_requests}
 use Rattle.cedar_fragments.specs.TypeDeclarations.{fragment_body}
 use Rattle.cedar_fragments.specs.declared.namespace.actions.ActionFragment.{ActionFragment}
 use Rattle.cedar_fragments.specs.declared.namespace.actions.ActionRequests.{ActionRequests}
 use Rattle.cedar_fragments.specs.declared.namespace.entity_types.EntityTypeFragment.{EntityTypeFragment}
 use Rattle.cedar_fragments.specs.declared.namespace.entity_types.EntityTypeFragment.TheVariants as fragment
-use Rattle.cedar_names.specs.declared.json_schema.entity_type.AttributesOrContext.{AttributesOrContext}
-use Rattle.cedar_names.specs.declared.json_schema.type_of.Type.{«Type»}
+use Rattle.cedar_schema_ast.specs.declared.json_schema.entity_type.AttributesOrContext.{AttributesOrContext}
+use Rattle.cedar_schema_ast.specs.declared.json_schema.type_of.Type.{«Type»}
+use Rattle.cedar_written_out.proofs.ListedLemmas.{ListsAlso-as, ListsAlso-both, ListsAlso-one}
 use Rattle.cedar_written_out.specs.Listed.{context, shape, tags}
 use Rattle.cedar_written_out.specs.Words.{Defined, Expr, IsMeasured, ListsAlso, RawName, Written, context_exprs, entity_exprs, raw_reference, tags_exprs, type_expr, type_name, uid_of, written_action_body, written_entity_body, written_namespace}
 use Rattle.cedar_written_out.specs.declared.figure.Figure.{Figure}
 use Rattle.cedar_written_out.specs.declared.listing.DeclaredType.TheVariants as variant
 use Rattle.cedar_written_out.specs.declared.listing.Measured.{Measured}
-use Rattle.cedar_written_out.proofs.ListedLemmas.{ListsAlso-as, ListsAlso-both, ListsAlso-one}
 
 module _ (defined : Defined) (written : Written (EntityTypeFragment RawName)) (attributes : AttributesOrContext RawName) (parents : Vec RawName Global)
     (of_tags : Option («Type» RawName)) (is : written.declared ≡ fragment.Standard attributes parents of_tags) (name ty : EntityType)

@@ -1,20 +1,20 @@
 -- What is measured of types, by what is measured of the types that stand in them.
 use Rattle.std.proofs.Common.{◌≡◌, ◌+◌, ◌≤◌, ℕ, zero, suc, List, [], ◌∷◌, ◌++◌, Option, None, Some, map, max, min, ap, sym, subst, ◌∙◌, refl, inl, inr, append_assoc, arith, Contains, Result, IfOk}
+use Rattle.std.proofs.Common.{string_bytes}
 use Rattle.std.proofs.lemmas.List.{append-nil}
 use Rattle.std.specs.Prelude.{slice_get}
 use Rattle.std.specs.declared.alloc.Global.{Global}
 use Rattle.std.specs.declared.string.String.{String}
-use Rattle.std.proofs.Common.{string_bytes}
+use Rattle.cedar_schema_ast.proofs.ExprLemmas.{record_type_expr-entries}
+use Rattle.cedar_schema_semantics.proofs.OccurrenceLemmas.{Contains-image, value_once}
+use Rattle.cedar_schema_semantics.proofs.ResolutionLemmas.{IsFirst-like, IsFirst-same, first_defined}
 use Rattle.cedar_type_rules.specs.Ty.{Fields, Ty, end, field, record_of, set_of, union_of}
 use Rattle.cedar_type_rules.specs.declared.open_tag.OpenTag.TheVariants.{ClosedAttributes}
-use Rattle.cedar_names.proofs.ExprLemmas.{record_type_expr-entries}
-use Rattle.cedar_declarations.proofs.OccurrenceLemmas.{Contains-image, value_once}
-use Rattle.cedar_declarations.proofs.ResolutionLemmas.{IsFirst-like, IsFirst-same, first_defined}
+use Rattle.cedar_written_out.proofs.IndexLemmas.{Contains-at}
+use Rattle.cedar_written_out.proofs.RecordParts.{Entries, MembersElaborateTo-append, append_fields, append_members, attribute_expr, entries_of, fields_depth-append, fields_size-append, member_elaborated, refer-right, resolved_members, resolved_members-append, resolved_members-one, resolved_record-split}
 use Rattle.cedar_written_out.specs.Words.{Defined, ElaboratesTo, Expr, HoldsJust, IsCommon, IsDefined, IsEntity, IsFigureOf, IsMeasured, IsUnresolved, Knows, KnowsAll, MayNameCommon, Members, MembersElaborateTo, Names, PlainName, RecordType, Reference, ReferenceType, Refers, ResolvesTo, TypeOfAttribute, as_common, as_entity, as_member, as_no_member, as_record, as_set, fields_depth, fields_size, figure_at, held_names, indexed_names, item_names, member, most, named, names_of, no_member, out-RecordType, out-TypeOfAttribute, record_expr, record_type_expr, set_expr, type_depth, type_size}
 use Rattle.cedar_written_out.specs.declared.figure.Figure.{Figure}
 use Rattle.cedar_written_out.specs.declared.measuring.FigureScope.{FigureScope}
-use Rattle.cedar_written_out.proofs.IndexLemmas.{Contains-at}
-use Rattle.cedar_written_out.proofs.RecordParts.{Entries, MembersElaborateTo-append, append_fields, append_members, attribute_expr, entries_of, fields_depth-append, fields_size-append, member_elaborated, refer-right, resolved_members, resolved_members-append, resolved_members-one, resolved_record-split}
 
 -- one more than a number that is cut down is cut down to the same
 cut_more : (limit depth : ℕ) → 1 ≤ limit → max 1 (min (min depth limit + 1) limit) ≡ min (1 + depth) limit
@@ -131,7 +131,8 @@ module _ (defined : Defined) (scope : FigureScope) (reference : Reference) (know
     no_type other ty same (as_common it name body resolved is_common written) =
         let Resolves : Reference → Type 0 = λ each. ResolvesTo (names_of defined) each name in unresolved name (subst Resolves same resolved)
 
-  -- a reference to a name that is that of no common type which the position permits is elaborated as an entity type
+  -- a reference to a name that is that of no common type which the position permits is elaborated
+  -- as an entity type
   pub entity_measured : (name : PlainName) (figure : Figure) → ResolvesTo (held_names scope.defs.now) reference name
       → (MayNameCommon reference.kind → ¬ Contains (map (λ it. it.0) (indexed_names scope.indices.now)) name)
       → figure.depth ≡ 1 → figure.size ≡ 1 → IsMeasured defined (named reference) (Some figure)
@@ -218,7 +219,8 @@ Knows-element defined scope expr element same knows =
     Knows-part defined scope expr element (λ reference refers.
     let Refer : Expr → Type 0 = λ it. Refers it reference in subst Refer (sym same) refers) knows
 
--- attributes over names of some form, where it is given what a name refers to at a place of each kind
+-- attributes over names of some form, where it is given what a name refers to at a place of each
+-- kind
 module _ (N : Type 0) (refer : ReferenceType → N → Reference) where
   -- of a record type some attributes are measured, and others are left
   pub record MeasuredSoFar (scope : FigureScope) (it : RecordType N) (whole : Figure) (left : Entries N refer) : Type 0 where

@@ -2,14 +2,14 @@
 use Rattle.std.proofs.Common.{◌≡◌, ◌≢◌, ◌⊎◌, ◌↔◌, ◌<◌, ◌≤◌, ◌+◌, ℕ, zero, suc, List, [], ◌∷◌, ◌++◌, None, Vec, Contains, length, map, get_or, set, ap, sym, subst, ◌∙◌, refl, inl, inr, ⊎_elim, arith}
 use Rattle.std.proofs.lemmas.List.{map-append, get_or-set_same, get_or-set_other, length-set}
 use Rattle.std.proofs.lemmas.List.Elements.{Contains-append_left, Contains-append_right, Contains-append_cases}
-use Rattle.cedar_below.proofs.Lists.{Contains-cons, Contains-cons_cases}
-use Rattle.cedar_below.specs.Chain.{Chain}
+use Rattle.cedar_ast.proofs.Lists.{Contains-cons, Contains-cons_cases}
+use Rattle.cedar_ast.specs.Chain.{Chain}
+use Rattle.cedar_written_out.proofs.OrderSteps.{number_of, single, image, enter_or_leave, enters_leave_none, AreSteps, steps_before, steps_opened, left_once, left_covered, left_within, leads_back}
 use Rattle.cedar_written_out.specs.Order.{IsLowestFirst, IsTarget, LeadsTo, items_at}
+use Rattle.cedar_written_out.specs.declared.ordering.Mark.{Mark}
+use Rattle.cedar_written_out.specs.declared.ordering.Mark.TheVariants.{Fresh, Open, Done}
 use Rattle.cedar_written_out.specs.declared.ordering.Step.{Step}
 use Rattle.cedar_written_out.specs.declared.ordering.Step.TheVariants.{Enter, Leave}
-use Rattle.cedar_written_out.specs.declared.ordering.Mark.{Mark}
-use Rattle.cedar_written_out.proofs.OrderSteps.{number_of, single, image, enter_or_leave, enters_leave_none, AreSteps, steps_before, steps_opened, left_once, left_covered, left_within, leads_back}
-use Rattle.cedar_written_out.specs.declared.ordering.Mark.TheVariants.{Fresh, Open, Done}
 
 -- the mark of a number
 abbrev pub mark_at : List Mark → ℕ → Mark
@@ -92,7 +92,8 @@ module _ {Z : Type 0} (targets : List (Vec ℕ Z)) where
   past_stays order x n past =
       elim past [ inl there ↦ inl (Contains-append_left order (x ∷ []) n there) | inr cycle ↦ inr cycle ]
 
-  -- how far the numbers are ordered: which are done and open, what is to be done, and the order so far
+  -- how far the numbers are ordered: which are done and open, what is to be done, and the order so
+  -- far
   pub record Progress (marks : List Mark) (steps : List Step) (order : List ℕ) : Type 0 where
     pub len : length marks ≡ length targets
     pub within : (n : ℕ) → Contains order n → n < length targets
@@ -264,8 +265,8 @@ module _ {Z : Type 0} (targets : List (Vec ℕ Z)) where
     after = so_far.after;
   }
 
--- what is still to be paid for a mark of a number that leads to so many: a fresh one will take a step for itself and one
--- for each
+-- what is still to be paid for a mark of a number that leads to so many: a fresh one will take a
+-- step for itself and one for each
 abbrev pub cost : Mark → ℕ → ℕ
 cost Fresh count = suc count
 cost _ count = 0

@@ -2,8 +2,8 @@
 use Rattle.std.proofs.Common.{◌≡◌, ◌⊎◌, ◌<◌, ℕ, List, [], ◌∷◌, ◌++◌, Option, None, Some, Vec, Contains, length, map, ap, sym, subst, refl, inl, inr, arith}
 use Rattle.std.proofs.lemmas.List.{map-append}
 use Rattle.std.proofs.lemmas.List.Elements.{Contains-append_left, Contains-append_right, Contains-append_cases}
-use Rattle.cedar_below.proofs.Lists.{Contains-cons, Contains-cons_cases}
-use Rattle.cedar_below.specs.Chain.{Chain, one, more}
+use Rattle.cedar_ast.proofs.Lists.{Contains-cons, Contains-cons_cases}
+use Rattle.cedar_ast.specs.Chain.{Chain, one, more}
 use Rattle.cedar_written_out.specs.Order.{IsTarget, LeadsTo}
 use Rattle.cedar_written_out.specs.declared.ordering.Step.{Step}
 use Rattle.cedar_written_out.specs.declared.ordering.Step.TheVariants.{Enter, Leave}
@@ -45,8 +45,9 @@ module _ {Z : Type 0} (targets : List (Vec ℕ Z)) where
   Leads None to = Unit {0}
   Leads (Some from) to = IsTarget targets from to
 
-  -- each step is for a number to which the nearest number below leads that is to be left; what a number leads to that is
-  -- to be left is done, or has a step above; and no number is to be left twice
+  -- each step is for a number to which the nearest number below leads that is to be left; what a
+  -- number leads to that is to be left is done, or has a step above; and no number is to be left
+  -- twice
   abbrev pub AreSteps : (ℕ → Type 0) → Option ℕ → List Step → Type 0
   AreSteps IsDone from [] = Unit {0}
   AreSteps IsDone from (Enter n ∷ rest) = Leads from n × AreSteps IsDone from rest
@@ -102,7 +103,8 @@ module _ {Z : Type 0} (targets : List (Vec ℕ Z)) where
     enters_are_steps IsDone n rest (λ to among. each to (Contains-cons m rest to (inr among))),
   )
 
-  -- the last step, which enters a number, may give way to one that leaves it and steps that enter what it leads to
+  -- the last step, which enters a number, may give way to one that leaves it and steps that enter
+  -- what it leads to
   pub steps_opened : (IsDone : ℕ → Type 0) (from : Option ℕ) (rest : List Step) (n : ℕ) (numbers : List ℕ) → n < length targets
       → (¬ Contains rest (Leave n)) → ((to : ℕ) → IsTarget targets n to → Contains numbers to)
       → ((to : ℕ) → Contains numbers to → IsTarget targets n to) → AreSteps IsDone from (rest ++ Enter n ∷ [])

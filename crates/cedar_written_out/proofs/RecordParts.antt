@@ -3,8 +3,8 @@ use Rattle.std.proofs.Common.{◌≡◌, ◌⊎◌, ◌+◌, Bool, List, [], ◌
 use Rattle.std.proofs.lemmas.List.{map-append}
 use Rattle.std.specs.declared.alloc.Global.{Global}
 use Rattle.std.specs.declared.string.String.{String}
+use Rattle.cedar_schema_ast.proofs.ExprLemmas.{record_type_expr-entries, flag_and_expr-parts}
 use Rattle.cedar_type_rules.specs.Ty.{Fields, Ty, end, field}
-use Rattle.cedar_names.proofs.ExprLemmas.{record_type_expr-entries, flag_and_expr-parts}
 use Rattle.cedar_written_out.specs.Words.{Defined, ElaboratesTo, Expr, Members, MembersElaborateTo, MembersRefer, RecordType, Reference, ReferenceType, Text, TypeOfAttribute, as_member, as_no_member, fields_depth, fields_size, flag_and_expr, member, members_from, no_member, out-RecordType, out-TypeOfAttribute, record_expr, record_type_expr, type_expr}
 
 -- the attributes of one record after those of another
@@ -64,7 +64,8 @@ member_elaborated defined no_member name required expr rest fields (as_member {t
 member_elaborated defined (member other flag before front) name required expr rest fields (as_member {fields = fields'} first later) =
     member_elaborated defined front name required expr rest fields' later
 
--- attributes over names of some form, where it is given what a name refers to at a place of each kind
+-- attributes over names of some form, where it is given what a name refers to at a place of each
+-- kind
 module _ (N : Type 0) (refer : ReferenceType → N → Reference) where
   -- the entries of a record type
   abbrev pub Entries : Type 0

@@ -2,13 +2,13 @@
 use Rattle.std.proofs.Common.{◌≡◌, ◌++◌, ℕ, List, take, drop, length, ap, sym, subst, ◌∙◌, refl, append_assoc}
 use Rattle.std.proofs.Math.Seq.{take-append_seam}
 use Rattle.std.proofs.lemmas.List.{map-append, take-append-drop}
-use Rattle.cedar_below.specs.Words.{TypeNamesFit, extension_types}
-use Rattle.cedar_below.specs.declared.internal_name.InternalName.{InternalName}
-use Rattle.cedar_names.specs.declared.json_schema.type_of.Type.{«Type»}
+use Rattle.cedar_ast.specs.Words.{TypeNamesFit, extension_types}
+use Rattle.cedar_ast.specs.declared.internal_name.InternalName.{InternalName}
+use Rattle.cedar_schema_ast.specs.declared.json_schema.type_of.Type.{«Type»}
+use Rattle.cedar_written_out.proofs.GatheredLemmas.{defined_twice}
 use Rattle.cedar_written_out.specs.Words.{AreFigures, AreIndices, Bag, DefinesJust, Expr, Extensions, Fault, HoldsJust, IsFault, IsKnown, KnowsAll, Names, PlainName, RawName, Twice, Written, aliases, built_ins, declared_common, defined_names, definitions, duplicate_common_type, held_names, indexed_names, item_names, raw_reference, written_common}
 use Rattle.cedar_written_out.specs.declared.gathering.Known.{Known}
 use Rattle.cedar_written_out.specs.declared.measuring.FigureScope.{FigureScope}
-use Rattle.cedar_written_out.proofs.GatheredLemmas.{defined_twice}
 
 -- common types as they are written
 abbrev pub Types : Type 0
@@ -16,7 +16,8 @@ Types = List (InternalName × Written («Type» RawName))
 
 module _ (bag : Bag) (extensions : Extensions) (known : Known) (types : Types) (is : IsKnown bag extensions known)
     (are : types ≡ known.declarations.common_types.items ++ known.built_in.items) where
-  -- the common types that are defined are those that are declared, and after them the built-in ones and the aliases
+  -- the common types that are defined are those that are declared, and after them the built-in ones
+  -- and the aliases
   pub all_common : written_common RawName raw_reference types ≡ (definitions bag extensions).common
   all_common =
       ap (written_common RawName raw_reference) are
@@ -37,11 +38,11 @@ module _ (bag : Bag) (extensions : Extensions) (known : Known) (types : Types) (
   knows_all scope once same indices figures =
       let Once : List (PlainName × Expr) → Type 0 = λ items. (name : PlainName) → ¬ Twice (item_names items) name in
       let Indexed : List (PlainName × Expr) → Type 0 = λ items. AreIndices (item_names items) (indexed_names scope.indices.now) in
-      let Held : Names → Type 0 = λ held. HoldsJust held (defined_names bag extensions) in
+      let MaybeShared : Names → Type 0 = λ held. HoldsJust held (defined_names bag extensions) in
       record {
         defines = record {
           common = refl;
-          names = subst Held (sym same) is.names;
+          names = subst MaybeShared (sym same) is.names;
           once = subst Once all_common once;
         };
         indices = subst Indexed all_common indices;

@@ -1,9 +1,9 @@
 -- How deep types are and how many types stand in them, and what is found of that.
-use Rattle.std.specs.Prelude.{◌≡◌, ◌+◌, ◌-◌, ◌^◌, ℕ, List, Option, None, Some, Contains, max, min, slice_get}
 use Rattle.std.specs.Option.{unwrap_or}
-use Rattle.cedar_below.specs.Words.{PlainName}
-use Rattle.cedar_declarations.specs.Words.{Defined, ElaboratesTo}
-use Rattle.cedar_names.specs.Words.{Expr}
+use Rattle.std.specs.Prelude.{◌≡◌, ◌+◌, ◌-◌, ◌^◌, ℕ, List, Option, None, Some, Contains, max, min, slice_get}
+use Rattle.cedar_ast.specs.Words.{PlainName}
+use Rattle.cedar_schema_ast.specs.Words.{Expr}
+use Rattle.cedar_schema_semantics.specs.Words.{Defined, ElaboratesTo}
 use Rattle.cedar_type_rules.specs.Ty.{Fields, Ty, end, field, record_of, set_of}
 use Rattle.cedar_written_out.specs.declared.figure.Figure.{Figure}
 

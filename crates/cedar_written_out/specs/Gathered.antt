@@ -1,17 +1,17 @@
 -- What is taken over of fragments.
 use Rattle.std.specs.Prelude.{◌≡◌, ◌++◌}
-use Rattle.cedar_below.specs.declared.extension.Extensions.{Extensions}
-use Rattle.cedar_declarations.specs.Words.{Bag, aliases, built_ins, defined_names}
+use Rattle.cedar_ast.specs.declared.extension.Extensions.{Extensions}
 use Rattle.cedar_fragments.specs.Words.{HoldsJust, held_names, listed_names, names_given}
 use Rattle.cedar_fragments.specs.WrittenDeclarations.{written_common}
-use Rattle.cedar_names.specs.Words.{raw_reference}
-use Rattle.cedar_names.specs.declared.json_schema.raw_name.RawName.{RawName}
 use Rattle.cedar_resolution.specs.Words.{Collects}
-use Rattle.cedar_resolution.specs.declared.gathering.Gathered.{Gathered}
+use Rattle.cedar_resolution.specs.declared.collected_declarations.CollectedDeclarations.{CollectedDeclarations}
+use Rattle.cedar_schema_ast.specs.Words.{raw_reference}
+use Rattle.cedar_schema_ast.specs.declared.json_schema.raw_name.RawName.{RawName}
+use Rattle.cedar_schema_semantics.specs.Words.{Bag, aliases, built_ins, defined_names}
 use Rattle.cedar_written_out.specs.declared.gathering.Known.{Known}
 
 -- what is gathered is what the bag declares: the names, in whatever order, and the declarations
-pub record IsGathered (bag : Bag) (gathered : Gathered RawName) : Type 0 where
+pub record IsGathered (bag : Bag) (gathered : CollectedDeclarations RawName) : Type 0 where
   pub names : HoldsJust (listed_names gathered.names) (names_given bag)
   pub declarations : Collects RawName raw_reference bag gathered.declarations
 

@@ -1,10 +1,10 @@
 -- The types that are declared, in order, and what is listed of them.
-use Rattle.std.specs.Prelude.{◌≡◌, List, [], ◌∷◌, ◌++◌, map, Option, None, Some}
 use Rattle.std.specs.List.{flat_map}
-use Rattle.cedar_below.specs.Words.{HoldsPairwise, PlainName, PlainUid, name_loc, name_of, type_loc, type_name, uid_loc, uid_of}
-use Rattle.cedar_below.specs.declared.loc.Loc.{Loc}
-use Rattle.cedar_declarations.specs.Words.{Bag, Defined, declared_actions, declared_common, declared_entities}
-use Rattle.cedar_names.specs.Words.{ActionBody, EntityBody, Expr, Requests, elsewhere, enumerated, external, requests, standard}
+use Rattle.std.specs.Prelude.{◌≡◌, List, [], ◌∷◌, ◌++◌, map, Option, None, Some}
+use Rattle.cedar_ast.specs.Words.{HoldsPairwise, PlainName, PlainUid, name_loc, name_of, type_loc, type_name, uid_loc, uid_of}
+use Rattle.cedar_ast.specs.declared.loc.Loc.{Loc}
+use Rattle.cedar_schema_ast.specs.Words.{ActionBody, EntityBody, Expr, Requests, elsewhere, enumerated, external, requests, standard}
+use Rattle.cedar_schema_semantics.specs.Words.{Bag, Defined, declared_actions, declared_common, declared_entities}
 use Rattle.cedar_written_out.specs.Figures.{IsMeasured}
 use Rattle.cedar_written_out.specs.declared.listing.DeclaredType.{DeclaredType}
 use Rattle.cedar_written_out.specs.declared.listing.DeclaredType.TheVariants as variant

@@ -1,6 +1,6 @@
 -- Numbers with lists of those that they lead to, in an order.
 use Rattle.std.specs.Prelude.{◌≡◌, ◌⊎◌, ◌↔◌, ◌++◌, ◌<◌, ℕ, zero, suc, List, [], ◌∷◌, Vec, Contains, length}
-use Rattle.cedar_below.specs.Chain.{Chain}
+use Rattle.cedar_ast.specs.Chain.{Chain}
 
 -- the items of the list at a place, or none past the end
 unfoldable pub items_at : {X Z : Type 0} → List (Vec X Z) → ℕ → List X

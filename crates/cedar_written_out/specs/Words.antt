@@ -1,22 +1,41 @@
 -- The words of clauses, from one place.
-pub use Rattle.cedar_below.specs.Chain.{Chain, more, one}
-pub use Rattle.cedar_below.specs.Words.{HoldsPairwise, PlainName, Text, Twice, TypeNamesFit, extension_types, name_of, type_name, uid_of}
-pub use Rattle.cedar_below.specs.declared.extension.Extensions.{Extensions}
-pub use Rattle.cedar_below.specs.declared.internal_name.InternalName.{InternalName}
-pub use Rattle.cedar_names.specs.Words.{Expr, Members, Reference, extension_expr, flag_and_expr, member, members_from, named, namespace_name, no_member, raw_bag, raw_fragment, raw_reference, record_expr, record_type_expr, set_expr, type_expr, variant_expr}
-pub use Rattle.cedar_names.specs.RawExpr.{raw_expr, raw_record, raw_variant}
-pub use Rattle.cedar_names.specs.declared.json_schema.fragment.Fragment.{Fragment}
-pub use Rattle.cedar_names.specs.declared.json_schema.raw_name.RawName.{RawName}
-pub use Rattle.cedar_names.specs.declared.json_schema.reference_type.ReferenceType.{ReferenceType}
-pub use Rattle.cedar_names.specs.declared.json_schema.type_of.RecordType.{RecordType, out-RecordType}
-pub use Rattle.cedar_names.specs.declared.json_schema.type_of.Type.{«Type»}
-pub use Rattle.cedar_names.specs.declared.json_schema.type_of.TypeOfAttribute.{TypeOfAttribute, out-TypeOfAttribute}
-pub use Rattle.cedar_declarations.specs.Words.{Bag, Defined, ElaboratesTo, Fault, IsCommon, IsDefined, IsEntity, IsFault, IsUnresolved, MayNameCommon, MembersElaborateTo, MembersRefer, Names, Refers, ResolvesTo, aliases, as_common, as_entity, as_extension, as_long, as_member, as_no_member, as_record, as_set, as_text, as_truth, built_ins, declared_actions, declared_common, declared_entities, defined_names, definitions, duplicate_common_type, fault_of, names_of, out_of_memory}
-pub use Rattle.cedar_fragments.specs.Words.{HoldsJust, held_names}
-pub use Rattle.cedar_fragments.specs.WrittenDeclarations.{written_actions, written_common, written_entities, written_expr, written_namespace, written_action_body, written_entity_body}
+pub use Rattle.cedar_ast.specs.Chain.{Chain, more, one}
+pub use Rattle.cedar_ast.specs.EntityType.{type_name}
+pub use Rattle.cedar_ast.specs.EntityUID.{uid_of}
+pub use Rattle.cedar_ast.specs.Extensions.{extension_types}
+pub use Rattle.cedar_ast.specs.InternalName.{name_of}
+pub use Rattle.cedar_ast.specs.Lists.{HoldsPairwise, Twice}
+pub use Rattle.cedar_ast.specs.PlainName.{PlainName}
+pub use Rattle.cedar_ast.specs.Text.{Text}
+pub use Rattle.cedar_ast.specs.TypeNames.{TypeNamesFit}
+pub use Rattle.cedar_ast.specs.declared.extension.Extensions.{Extensions}
+pub use Rattle.cedar_ast.specs.declared.internal_name.InternalName.{InternalName}
+pub use Rattle.cedar_fragments.specs.HeldNames.{HoldsJust, held_names}
+pub use Rattle.cedar_fragments.specs.WrittenDeclarations.{written_action_body, written_actions, written_common, written_entities, written_entity_body, written_expr, written_namespace}
 pub use Rattle.cedar_fragments.specs.declared.namespace.written.Written.{Written}
-pub use Rattle.cedar_resolution.specs.Words.{AreGathered, Collects, DeclaresJust}
-pub use Rattle.cedar_written_out.specs.Figures.{HasOneDefinition, IsFigure, IsFigureOf, IsMeasured, figure_at, fields_depth, fields_size, most, type_depth, type_size}
+pub use Rattle.cedar_resolution.specs.CollectedDeclarations.{AreCollectedDeclarations, Collects}
+pub use Rattle.cedar_resolution.specs.DeclaredJust.{DeclaresJust}
+pub use Rattle.cedar_schema_ast.specs.Declaration.{raw_bag, raw_fragment}
+pub use Rattle.cedar_schema_ast.specs.Expr.{Expr, Members, extension_expr, member, members_from, named, no_member, record_expr, set_expr}
+pub use Rattle.cedar_schema_ast.specs.NamespaceName.{namespace_name}
+pub use Rattle.cedar_schema_ast.specs.RawExpr.{raw_expr, raw_record, raw_reference, raw_variant}
+pub use Rattle.cedar_schema_ast.specs.Reference.{Reference}
+pub use Rattle.cedar_schema_ast.specs.TypeExpr.{flag_and_expr, record_type_expr, type_expr, variant_expr}
+pub use Rattle.cedar_schema_ast.specs.declared.json_schema.fragment.Fragment.{Fragment}
+pub use Rattle.cedar_schema_ast.specs.declared.json_schema.raw_name.RawName.{RawName}
+pub use Rattle.cedar_schema_ast.specs.declared.json_schema.reference_type.ReferenceType.{ReferenceType}
+pub use Rattle.cedar_schema_ast.specs.declared.json_schema.type_of.RecordType.{RecordType, out-RecordType}
+pub use Rattle.cedar_schema_ast.specs.declared.json_schema.type_of.Type.{«Type»}
+pub use Rattle.cedar_schema_ast.specs.declared.json_schema.type_of.TypeOfAttribute.{TypeOfAttribute, out-TypeOfAttribute}
+pub use Rattle.cedar_schema_semantics.specs.Bag.{Bag, aliases, built_ins, declared_actions, declared_common, declared_entities, defined_names, definitions}
+pub use Rattle.cedar_schema_semantics.specs.Defined.{Defined, IsCommon, names_of}
+pub use Rattle.cedar_schema_semantics.specs.ElaboratesTo.{ElaboratesTo, MembersElaborateTo, as_common, as_entity, as_extension, as_long, as_member, as_no_member, as_record, as_set, as_text, as_truth}
+pub use Rattle.cedar_schema_semantics.specs.Fault.{Fault, duplicate_common_type, out_of_memory}
+pub use Rattle.cedar_schema_semantics.specs.IllFormed.{IsFault}
+pub use Rattle.cedar_schema_semantics.specs.Mentions.{MembersRefer, Refers}
+pub use Rattle.cedar_schema_semantics.specs.Names.{IsDefined, IsEntity, IsUnresolved, MayNameCommon, Names, ResolvesTo}
+pub use Rattle.cedar_schema_semantics.specs.SchemaError.{fault_of}
+pub use Rattle.cedar_written_out.specs.Figures.{HasOneDefinition, IsFigure, IsFigureOf, IsMeasured, fields_depth, fields_size, figure_at, most, type_depth, type_size}
 pub use Rattle.cedar_written_out.specs.Gathered.{IsGathered, IsKnown}
 pub use Rattle.cedar_written_out.specs.Indices.{AddsIndices, AreIndices, NamesIndex, indexed_names, item_names}
 pub use Rattle.cedar_written_out.specs.Known.{AreFigures, DefinesJust, Knows, KnowsAll}

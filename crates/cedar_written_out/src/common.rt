@@ -9,10 +9,10 @@ use crate::indices::Indices;
 use crate::measuring::{FigureScope, measure};
 use crate::ordering::lowest_first;
 use crate::referring::{IndexScope, referred_indices};
-use cedar_below::M;
+use cedar_ast::M;
 use cedar_fragments::defs::AllDefs;
-use cedar_names::json_schema::RawName;
 use cedar_resolution::DeclaredCommonType;
+use cedar_schema_ast::json_schema::RawName;
 use std::alloc::Global;
 
 /// For each common type the indices of those that it refers to.

@@ -3,12 +3,14 @@
 ghost use Rattle.std.specs.Prelude.{◌≡◌, ◌⊎◌, IfErr, IfOk};
 ghost use Rattle.cedar_written_out.specs.Words.{Extensions as Given, IsFault, IsGathered, IsKnown, fault_of, out_of_memory, raw_bag};
 
-use cedar_below::Extensions;
-use cedar_declarations::SchemaError;
+use cedar_ast::Extensions;
 use cedar_fragments::defs::AllDefs;
 use cedar_fragments::namespace::{UnqualifiedActionType, ValidatorSchemaFragment};
-use cedar_names::json_schema::{Fragment, RawName};
-use cedar_resolution::{Declarations, DeclaredCommonType, DefinedNames, Gathered, defined_names};
+use cedar_resolution::{
+    CollectedDeclarations, Declarations, DeclaredCommonType, DefinedNames, defined_names,
+};
+use cedar_schema_ast::json_schema::{Fragment, RawName};
+use cedar_schema_semantics::SchemaError;
 use std::alloc::Global;
 
 /// What some fragments declare, and what names mean among them.
@@ -26,14 +28,14 @@ pub(crate) struct Known {
 fn gathered(
     alloc: Global,
     fragments: &[Fragment<RawName>],
-) -> Result<Gathered<RawName>, SchemaError>
+) -> Result<CollectedDeclarations<RawName>, SchemaError>
     ensures gathered { IfOk result (λ gathered. IsGathered (raw_bag fragments.now) gathered) }
     ensures fault { IfErr result (λ error. (fault_of error ≡ out_of_memory)
         ⊎ ((extensions : Given)
         → IsFault (raw_bag fragments.now) extensions (fault_of error))) }
 {
     let unqualified = UnqualifiedActionType::new(alloc)?;
-    let mut gathered = Gathered::with_room(alloc, fragments.len())?;
+    let mut gathered = CollectedDeclarations::with_room(alloc, fragments.len())?;
     for fragment in fragments {
         let written = ValidatorSchemaFragment::as_written(alloc, fragment.clone()?, &unqualified)?;
         gathered = gathered.with(written)?;
@@ -51,7 +53,7 @@ pub(crate) fn what_is_known(
     ensures fault { IfErr result (λ error. (fault_of error ≡ out_of_memory)
         ⊎ IsFault (raw_bag fragments.now) extensions.now (fault_of error)) }
 {
-    let Gathered {
+    let CollectedDeclarations {
         names,
         declarations,
     } = gathered(alloc, fragments)?;

@@ -6,10 +6,10 @@ ghost use Rattle.cedar_written_out.specs.Words.{RawName as Raw};
 
 use crate::figure::Figure;
 use crate::measuring::{FigureScope, measure};
-use cedar_below::{EntityType, EntityUID, InternalName, Loc, M};
+use cedar_ast::{EntityType, EntityUID, InternalName, Loc, M};
 use cedar_fragments::namespace::{ActionFragment, EntityTypeFragment, Written};
-use cedar_names::json_schema::RawName;
 use cedar_resolution::{DeclaredAction, DeclaredCommonType, DeclaredEntityType};
+use cedar_schema_ast::json_schema::RawName;
 
 /// A type that is declared, by what it is of. The name is located where its declaration was
 /// written.

@@ -6,9 +6,9 @@ ghost use Rattle.cedar_written_out.specs.Words.{Defined, IsMeasured, Knows, figu
 use crate::figure::Figure;
 use crate::indices::Indices;
 use crate::referring::may_name_common;
-use cedar_below::{InternalName, M};
+use cedar_ast::{InternalName, M};
 use cedar_fragments::defs::{AllDefs, WrittenName};
-use cedar_names::json_schema::{RawName, RecordType, ReferenceType, Type, TypeVariant};
+use cedar_schema_ast::json_schema::{RawName, RecordType, ReferenceType, Type, TypeVariant};
 
 /// What is known as types are measured.
 #[derive(Clone, Copy)]

@@ -4,7 +4,7 @@ ghost use Rattle.std.specs.Prelude.{◌≡◌, ◌++◌, ◌<◌, ℕ, Contains,
 ghost use Rattle.cedar_written_out.specs.Order.{IsLowestFirst};
 ghost use Rattle.cedar_written_out.specs.declared.ordering.Step.TheVariants.{Enter, Leave};
 
-use cedar_below::M;
+use cedar_ast::M;
 use std::alloc::Global;
 
 /// How far a number is gone through.

@@ -4,9 +4,9 @@ ghost use Rattle.std.specs.Prelude.{◌↔◌, [], IfOk, IsTrue, OnOk};
 ghost use Rattle.cedar_written_out.specs.Words.{AddsIndices, MayNameCommon, Refers, held_names, indexed_names, named, namespace_name, raw_expr, raw_record, raw_reference, raw_variant};
 
 use crate::indices::Indices;
-use cedar_below::{InternalName, M};
+use cedar_ast::{InternalName, M};
 use cedar_fragments::defs::{AllDefs, WrittenName};
-use cedar_names::json_schema::{RawName, RecordType, ReferenceType, Type, TypeVariant};
+use cedar_schema_ast::json_schema::{RawName, RecordType, ReferenceType, Type, TypeVariant};
 use std::alloc::Global;
 
 /// What the names in a type are looked up in.

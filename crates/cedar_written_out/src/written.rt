@@ -8,10 +8,10 @@ use crate::gathering::{Known, what_is_known};
 use crate::indices::name_indices;
 use crate::listing::{Measured, list_actions, list_common_types, list_entity_types};
 use crate::measuring::FigureScope;
-use cedar_below::Extensions;
-use cedar_declarations::SchemaError;
-use cedar_names::json_schema::{Fragment, RawName};
+use cedar_ast::Extensions;
 use cedar_resolution::Declarations;
+use cedar_schema_ast::json_schema::{Fragment, RawName};
+use cedar_schema_semantics::SchemaError;
 use std::alloc::Global;
 
 /// How deep and how large each type is that fragments declare over some extensions, once the common

@@ -1,9 +1,9 @@
 use Rattle.std.specs.Prelude.{true, false, List, [], ◌∷◌, ◌++◌, Some, None, codes}
-use Rattle.cedar_below.specs.Words.{PlainName, Text, action_word}
-use Rattle.cedar_names.specs.Words.{Body, Declaration, Expr, Members, Reference, action, common_type, entity_type, enumerated, external, long_expr, member, named, no_member, record_expr, reference_to, requests, set_expr, standard}
-use Rattle.cedar_names.specs.declared.json_schema.reference_type.ReferenceType.{ReferenceType}
-use Rattle.cedar_names.specs.declared.json_schema.reference_type.ReferenceType.TheVariants.{Entity, CommonOrEntity}
-use Rattle.cedar_declarations.specs.Bag.{Bag, alias_name}
+use Rattle.cedar_ast.specs.Words.{PlainName, Text, action_word}
+use Rattle.cedar_schema_ast.specs.Words.{Body, Declaration, Expr, Members, Reference, action, common_type, entity_type, enumerated, external, long_expr, member, named, no_member, record_expr, reference_to, requests, set_expr, standard}
+use Rattle.cedar_schema_ast.specs.declared.json_schema.reference_type.ReferenceType.{ReferenceType}
+use Rattle.cedar_schema_ast.specs.declared.json_schema.reference_type.ReferenceType.TheVariants.{Entity, CommonOrEntity}
+use Rattle.cedar_schema_semantics.specs.Bag.{Bag, alias_name}
 
 -- the namespace `N`
 abbrev pub sample_namespace : PlainName

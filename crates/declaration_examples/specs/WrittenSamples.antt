@@ -1,8 +1,8 @@
 use Rattle.std.specs.Prelude.{true, false, List, [], ◌∷◌, None, codes}
-use Rattle.cedar_below.specs.Words.{PlainName, PlainUid, Text, action_word}
-use Rattle.cedar_declarations.specs.Words.{Bag, EntityTypeKind, PlainSchema, SchemaAction, SchemaEntityType, alias_name, defined_action, external_action, standard_kind}
-use Rattle.cedar_names.specs.Words.{entity_type, long_expr, member, named, no_member, record_expr, reference_to, standard}
-use Rattle.cedar_names.specs.declared.json_schema.reference_type.ReferenceType.TheVariants.{Entity}
+use Rattle.cedar_ast.specs.Words.{PlainName, PlainUid, Text, action_word}
+use Rattle.cedar_schema_ast.specs.Words.{entity_type, long_expr, member, named, no_member, record_expr, reference_to, standard}
+use Rattle.cedar_schema_ast.specs.declared.json_schema.reference_type.ReferenceType.TheVariants.{Entity}
+use Rattle.cedar_schema_semantics.specs.Words.{Bag, EntityTypeKind, PlainSchema, SchemaAction, SchemaEntityType, alias_name, defined_action, external_action, standard_kind}
 use Rattle.cedar_type_rules.specs.Ty.{Fields, Ty, end, field, long, record_of, union_of}
 use Rattle.cedar_type_rules.specs.declared.open_tag.OpenTag.TheVariants.{ClosedAttributes}
 use Rattle.declaration_examples.specs.Samples.{action_here, declared_within, entity_here, refer_within, within_sample}

@@ -3,7 +3,7 @@
 
 ghost use Rattle.std.specs.Prelude.{◌≡◌, ℤ, List, [], ◌∷◌, None, true, false, codes};
 ghost use Rattle.declaration_examples.specs.Words.{Admits, ElaboratesTo, EntitySays, EntityTypeKind, Extensions, HasToResolve, IsDescendant, IsFault, RawName, Reference, ResolvesTo, SameBag, action_word, actions_bag, alias_bag, alias_name, apart_bag, both_bag, built_in_name, common_type_cycle, cycle_bag, defined_names, definitions, duplicate_entity_type, entity_here, entry, enumerated_below, external, external_bag, external_below_enumerated, kind_body, known_tint_bag, linked_bag, long, map_value, named, nested_bag, no_entry, no_member, number_value, open_bag, open_record, optional_record, painted_bag, principal_bag, raw_reference, record_expr, refer_here, refer_within, reference_to, ring_bag, shadow_bag, standard, text, tint_bag, together_bag, type_shadowing, undeclared_entity_types, union_of, within_sample};
-ghost use Rattle.cedar_names.specs.declared.json_schema.reference_type.ReferenceType.TheVariants as to;
+ghost use Rattle.cedar_schema_ast.specs.declared.json_schema.reference_type.ReferenceType.TheVariants as to;
 
 /// Two common types that refer to each other are a cycle, and each is named; a built-in type that
 /// one of them refers to is not, nor is its alias.

@@ -1,6 +1,6 @@
 //! No extensions.
 
-ghost use Rattle.cedar_below.specs.Words.{TypeNamesFit, extension_types};
+ghost use Rattle.cedar_ast.specs.Words.{TypeNamesFit, extension_types};
 
 use cedar_schema::below::Extensions;
 use std::alloc::Global;

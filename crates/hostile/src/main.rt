@@ -1,5 +1,5 @@
-//! Does pieces of work that no file can ask for, each of which a word asks for, and prints the whole
-//! answer, or says that memory ran out. Without words it does all of them.
+//! Does pieces of work that no file can ask for, each of which a word asks for, and prints the
+//! whole answer, or says that memory ran out. Without words it does all of them.
 #![tactic(auto)]
 
 use std::alloc::AllocGlobal;
@@ -7,8 +7,8 @@ use std::env::Env;
 use std::process::ExitCode;
 use std::{env, io};
 
-mod asked;
 mod by_hand;
+mod commands;
 mod copied;
 mod extensions;
 mod left;

@@ -2,8 +2,8 @@
 
 ghost use Rattle.std.specs.Prelude.{◌≡◌, ◌⊎◌};
 
-use crate::asked::answer;
 use crate::by_hand::validated;
+use crate::commands::answer;
 use crate::copied::{copied_fragment, copied_qualified};
 use crate::left::{Kind, closed, edges_added, names_marked};
 use crate::scenario::{SCENARIOS, Scenario, scenario_of};

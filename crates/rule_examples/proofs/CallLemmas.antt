@@ -1,6 +1,6 @@
 -- Calls of functions whose signatures are known.
 use Rattle.std.proofs.Common.{[], refl}
-use Rattle.cedar_below.proofs.TreeLemmas.{ArgumentsFit-no_types}
+use Rattle.cedar_ast.proofs.TreeLemmas.{ArgumentsFit-no_types}
 use Rattle.rule_examples.specs.Words.{Extensions, Gives, PlainName, TakesText, Text, Trees, text_value, tree}
 
 -- a function that takes a text gives a value where its first argument is one

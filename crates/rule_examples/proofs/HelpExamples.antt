@@ -2,14 +2,14 @@
 use Rattle.std.proofs.Common.{◌≡◌, ◌<◌, ℕ, zero, suc, inl, inr, Bool, true, false, refl, sym, subst, ◌∙◌, [], ◌∷◌, Ok, Err, Contains, codes, slice_index, arith}
 use Rattle.std.proofs.lemmas.Str.{IsUtf8-from_ascii}
 use Rattle.std.specs.List.Sorted.{IsStrictlySortedBy}
-use Rattle.cedar_below.proofs.Lists.{Contains-cons, Contains-cons_cases}
-use Rattle.rule_examples.specs.Words.{Below, ClosedAttributes, False, HasField, HaveOwnBound, IsHelp, IsJoinAnswer, IsReduceAnswer, IsText, IsWellFormed, JoinAnswer, LubHelp, OpenAttributes, OpenTag, Permissive, Strict, Text, Ty, ValidationMode, any_set, bar_and_false, bar_and_text, end, field, long, never, open_y, optional_y, record_of, required_y, set_of_longs, set_of_truths, text, text_y, twice_y, unit_record}
+use Rattle.cedar_ast.proofs.Lists.{Contains-cons, Contains-cons_cases}
 use Rattle.cedar_type_rules.proofs.ApartLemmas.{AreApart-truth_text}
-use Rattle.rule_examples.proofs.JoinExamples.{sets_join-apart, records_join-strict}
 use Rattle.cedar_type_rules.proofs.JoinLemmas.{upper_is_join}
 use Rattle.cedar_type_rules.proofs.ReduceLemmas.{reduced_once, refused_first}
 use Rattle.cedar_type_rules.proofs.SubtypeLaws.{HasBelow-of, HasField-named}
 use Rattle.cedar_type_rules.specs.declared.join_error.LubHelp.TheVariants as help
+use Rattle.rule_examples.proofs.JoinExamples.{sets_join-apart, records_join-strict}
+use Rattle.rule_examples.specs.Words.{Below, ClosedAttributes, False, HasField, HaveOwnBound, IsHelp, IsJoinAnswer, IsReduceAnswer, IsText, IsWellFormed, JoinAnswer, LubHelp, OpenAttributes, OpenTag, Permissive, Strict, Text, Ty, ValidationMode, any_set, bar_and_false, bar_and_text, end, field, long, never, open_y, optional_y, record_of, required_y, set_of_longs, set_of_truths, text, text_y, twice_y, unit_record}
 
 -- a name is among itself alone
 among_itself : (name : Text) → Contains (name ∷ []) name

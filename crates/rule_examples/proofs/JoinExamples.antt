@@ -1,10 +1,10 @@
 -- Joins of sample types.
 use Rattle.std.proofs.Common.{◌≡◌, inl, inr, true, refl, sym, ap, ◌∙◌, [], ◌∷◌, List, Contains, codes}
-use Rattle.cedar_below.proofs.Inclusion.{Included-none, Included-cons, Included-head}
-use Rattle.cedar_below.proofs.Lists.{Contains-cons}
-use Rattle.rule_examples.specs.Words.{Below, ClosedAttributes, False, Fields, HaveOwnBound, Included, IsLeastOwnBound, IsOwnBound, OpenAttributes, Permissive, PlainName, Strict, Ty, ValidationMode, any_entity, any_set, any_set_and_long, bar_and_false, bar_and_text, bar_entity, bar_name, end, field, field_names, foo_entity, foo_name, foo_or_bar, long, long_and_long, open_bar, open_t, record_of, set_of, set_of_longs, set_of_truths, text, truth, union_of}
+use Rattle.cedar_ast.proofs.Inclusion.{Included-none, Included-cons, Included-head}
+use Rattle.cedar_ast.proofs.Lists.{Contains-cons}
 use Rattle.cedar_type_rules.proofs.ApartLemmas.{texts_differ, AreApart, AreApart-truth_long, AreApart-truth_text, AreApart-any_set_long, HasOnly, IsPair, IsPair-other, kept_below, unnamed}
 use Rattle.cedar_type_rules.proofs.SubtypeLaws.{HasField-named}
+use Rattle.rule_examples.specs.Words.{Below, ClosedAttributes, False, Fields, HaveOwnBound, Included, IsLeastOwnBound, IsOwnBound, OpenAttributes, Permissive, PlainName, Strict, Ty, ValidationMode, any_entity, any_set, any_set_and_long, bar_and_false, bar_and_text, bar_entity, bar_name, end, field, field_names, foo_entity, foo_name, foo_or_bar, long, long_and_long, open_bar, open_t, record_of, set_of, set_of_longs, set_of_truths, text, truth, union_of}
 
 -- one name is included in names that have it
 Included-one : (name : PlainName) (names : List PlainName) → Contains names name → Included (name ∷ []) names
@@ -63,7 +63,8 @@ dropped_least a b kept dropped first second differ pair other among apart (recor
     absurd (none found.0 found.1 found.2)
 dropped_least a b kept dropped first second differ pair other among apart bound h k = elim h [ ]
 
--- a bound of two records, in strict mode, has every name of theirs, and so none where the types at a name are apart
+-- a bound of two records, in strict mode, has every name of theirs, and so none where the types at
+-- a name are apart
 strict_apart : (a b : Fields) (dropped : _) (first second : Ty) → HasOnly a dropped first → HasOnly b dropped second
     → Contains (field_names a) dropped → AreApart Strict first second
     → (bound : Ty) → Below Strict (record_of a ClosedAttributes) bound → ¬ Below Strict (record_of b ClosedAttributes) bound
@@ -100,7 +101,8 @@ bar_differs = texts_differ (codes "bar") (codes "foo") refl
 foo_among : Contains (codes "bar" ∷ codes "foo" ∷ []) (codes "foo")
 foo_among = Contains-cons (codes "bar") (codes "foo" ∷ []) (codes "foo") (inr (Contains-cons (codes "foo") [] (codes "foo") (inl refl)))
 
--- the records `{bar: Long, foo: False}` and `{bar: Long, foo: String}` have the open `{bar: Long}`, in permissive mode
+-- the records `{bar: Long, foo: False}` and `{bar: Long, foo: String}` have the open `{bar: Long}`,
+-- in permissive mode
 pub records_join-permissive : IsLeastOwnBound Permissive bar_and_false bar_and_text open_bar
 records_join-permissive = (((below_bar (truth False), (below_bar text, tt)), (tt, tt)), least)
   where
@@ -121,7 +123,8 @@ records_join-strict (bound, own) =
     only : (ty : Ty) → HasOnly (bar_and ty) (codes "foo") ty
     only ty = IsPair-other (bar_and ty) (codes "bar") (codes "foo") long ty bar_differs (bar_pair ty)
 
--- the records `{s: any-set, t: Long}` and `{s: Long, t: Long}` have the open `{t: Long}`, in permissive mode
+-- the records `{s: any-set, t: Long}` and `{s: Long, t: Long}` have the open `{t: Long}`, in
+-- permissive mode
 pub records_join-dropped : IsLeastOwnBound Permissive any_set_and_long long_and_long open_t
 records_join-dropped = (((below_t any_set, (below_t long, tt)), (tt, tt)), least)
   where

@@ -1,7 +1,7 @@
 -- Inclusion, consistency and disjointness of sample types.
 use Rattle.std.proofs.Common.{inl, inr, true, false, refl, [], ◌∷◌, codes, arith}
-use Rattle.cedar_below.proofs.Inclusion.{Included-none}
-use Rattle.cedar_below.proofs.Lists.{Contains-cons}
+use Rattle.cedar_ast.proofs.Inclusion.{Included-none}
+use Rattle.cedar_ast.proofs.Lists.{Contains-cons}
 use Rattle.rule_examples.specs.Words.{AreDisjointTypes, Extensions, IsConsistent, ListsNames, ValuesIncluded, bar_name, core_end, core_record, entry, foo_entity, foo_name, foo_or_bar, long, map_value, no_entry, optional_y, required_y, unit_record}
 
 -- a record without attributes has the one with an optional attribute

@@ -1,5 +1,5 @@
 use Rattle.std.specs.Prelude.{true, false, [], ◌∷◌, codes}
-use Rattle.cedar_below.specs.PlainName.{PlainName}
+use Rattle.cedar_ast.specs.PlainName.{PlainName}
 use Rattle.cedar_type_rules.specs.Ty.{Ty, truth, long, text, union_of, any_set, set_of, record_of, extension_of, end, field}
 use Rattle.cedar_type_rules.specs.declared.bool_type.BoolType.TheVariants.{AnyBool, False}
 use Rattle.cedar_type_rules.specs.declared.open_tag.OpenTag.TheVariants.{OpenAttributes, ClosedAttributes}

@@ -1,7 +1,7 @@
 use Rattle.std.specs.Prelude.{◌≡◌, [], ◌∷◌, Some}
-use Rattle.cedar_below.specs.Words.{IsKnown, PlainName, argument_types, core_extension, core_text, result_type}
-use Rattle.cedar_below.specs.declared.extension.ExtensionFunction.{ExtensionFunction}
-use Rattle.cedar_below.specs.declared.extension.Extensions.{Extensions}
+use Rattle.cedar_ast.specs.Words.{IsKnown, PlainName, argument_types, core_extension, core_text, result_type}
+use Rattle.cedar_ast.specs.declared.extension.ExtensionFunction.{ExtensionFunction}
+use Rattle.cedar_ast.specs.declared.extension.Extensions.{Extensions}
 
 -- a function of that name takes a text and returns values of that extension type
 abbrev pub TakesText : Extensions → PlainName → PlainName → Type 0

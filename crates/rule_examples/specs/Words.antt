@@ -1,9 +1,31 @@
 -- The words of clauses, from one place.
-pub use Rattle.cedar_below.specs.Words.{Gives, Included, IsText, IsUnknown, PlainName, Text, Tree, Trees, call_value, core_empty_set, core_end, core_entity, core_field, core_long, core_record, core_set, core_truth, entry, map_value, no_entry, no_tree, number_value, set_value, text_value, tree, uid_value}
-pub use Rattle.cedar_below.specs.declared.extension.Extensions.{Extensions}
-pub use Rattle.cedar_below.specs.declared.validation_mode.ValidationMode.{ValidationMode}
-pub use Rattle.cedar_below.specs.declared.validation_mode.ValidationMode.TheVariants.{Permissive, Strict}
-pub use Rattle.cedar_type_rules.specs.Words.{Agree, AreDisjointTypes, Below, Fields, Has, HasField, HaveOwnBound, IsBound, IsClean, IsConsistent, IsHelp, IsJoinAnswer, IsLeastOwnBound, IsOwnBound, IsReduceAnswer, IsStated, IsWellFormed, JoinAnswer, ListsNames, MayHave, Meets, Ty, ValuesIncluded, any_entity, any_set, core_of, end, extension_of, field, field_names, long, never, record_of, set_of, text, truth, ty_text, union_of}
+pub use Rattle.cedar_ast.specs.CoreTy.{core_empty_set, core_end, core_entity, core_field, core_long, core_record, core_set, core_truth}
+pub use Rattle.cedar_ast.specs.Fits.{Gives, IsUnknown}
+pub use Rattle.cedar_ast.specs.IsValue.{IsText}
+pub use Rattle.cedar_ast.specs.Lists.{Included}
+pub use Rattle.cedar_ast.specs.PlainName.{PlainName}
+pub use Rattle.cedar_ast.specs.Text.{Text}
+pub use Rattle.cedar_ast.specs.Tree.{Tree, Trees, call_value, entry, map_value, no_entry, no_tree, number_value, set_value, text_value, tree, uid_value}
+pub use Rattle.cedar_ast.specs.declared.extension.Extensions.{Extensions}
+pub use Rattle.cedar_ast.specs.declared.validation_mode.ValidationMode.{ValidationMode}
+pub use Rattle.cedar_ast.specs.declared.validation_mode.ValidationMode.TheVariants.{Permissive, Strict}
+pub use Rattle.cedar_type_rules.specs.Agree.{Agree}
+pub use Rattle.cedar_type_rules.specs.Below.{Below, HasField}
+pub use Rattle.cedar_type_rules.specs.Bound.{IsBound}
+pub use Rattle.cedar_type_rules.specs.Clean.{IsClean}
+pub use Rattle.cedar_type_rules.specs.Consistent.{IsConsistent}
+pub use Rattle.cedar_type_rules.specs.CoreOf.{core_of}
+pub use Rattle.cedar_type_rules.specs.Disjoint.{AreDisjointTypes}
+pub use Rattle.cedar_type_rules.specs.Fields.{field_names}
+pub use Rattle.cedar_type_rules.specs.Has.{Has, MayHave, Meets}
+pub use Rattle.cedar_type_rules.specs.Help.{IsHelp}
+pub use Rattle.cedar_type_rules.specs.InclusionLaws.{ListsNames, ValuesIncluded}
+pub use Rattle.cedar_type_rules.specs.JoinAnswer.{IsJoinAnswer, IsReduceAnswer, JoinAnswer}
+pub use Rattle.cedar_type_rules.specs.OwnBound.{HaveOwnBound, IsLeastOwnBound, IsOwnBound}
+pub use Rattle.cedar_type_rules.specs.Stated.{IsStated}
+pub use Rattle.cedar_type_rules.specs.Ty.{Fields, Ty, any_entity, any_set, end, extension_of, field, long, never, record_of, set_of, text, truth, union_of}
+pub use Rattle.cedar_type_rules.specs.TypeText.{ty_text}
+pub use Rattle.cedar_type_rules.specs.WellFormed.{IsWellFormed}
 pub use Rattle.cedar_type_rules.specs.declared.bool_type.BoolType.TheVariants.{False}
 pub use Rattle.cedar_type_rules.specs.declared.join_error.LubHelp.{LubHelp}
 pub use Rattle.cedar_type_rules.specs.declared.open_tag.OpenTag.{OpenTag}

@@ -2,7 +2,7 @@
 
 ghost use Rattle.std.specs.Prelude.{◌≡◌, true, false, [], ◌∷◌, Some, None, Ok, Err, codes};
 ghost use Rattle.rule_examples.specs.Words.{AreDisjointTypes, Below, Extensions, HaveOwnBound, IsBound, IsClean, IsConsistent, IsJoinAnswer, IsLeastOwnBound, IsReduceAnswer, IsStated, IsUnknown, JoinAnswer, ListsNames, LubHelp, PlainName, ValidationMode, ValuesIncluded, any_set, any_set_and_long, bar_and_false, bar_and_text, bar_entity, core_empty_set, core_end, core_entity, core_field, core_long, core_of, core_record, core_set, core_truth, foo_entity, foo_name, foo_or_bar, ip_type, long_and_long, never, open_bar, open_t, open_y, optional_y, required_y, set_of, set_of_longs, set_of_truths, text_y, truth, twice_y, ty_text, unit_record};
-ghost use Rattle.cedar_below.specs.declared.validation_mode.ValidationMode.TheVariants as mode;
+ghost use Rattle.cedar_ast.specs.declared.validation_mode.ValidationMode.TheVariants as mode;
 ghost use Rattle.cedar_type_rules.specs.declared.bool_type.BoolType.TheVariants as bool_type;
 ghost use Rattle.cedar_type_rules.specs.declared.join_error.LubHelp.TheVariants as help;
 

@@ -1,7 +1,7 @@
 -- The name of the sample extension's type fits.
 use Rattle.std.proofs.Common.{[], ◌∷◌, Contains, refl, rules}
 use Rattle.std.proofs.lemmas.List.Elements.{All-from_recursion}
-use Rattle.cedar_below.specs.Words.{IsUnqualified, TypeNamesFit, primitive_words}
+use Rattle.cedar_ast.specs.Words.{IsUnqualified, TypeNamesFit, primitive_words}
 use Rattle.schema_lines.specs.Samples.{sample_type}
 
 -- the one name is unqualified and none of a core type

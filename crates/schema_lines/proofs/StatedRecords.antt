@@ -5,8 +5,8 @@ use Rattle.std.specs.Option.{option_or}
 use Rattle.std.specs.Str.{bytes_eq}
 use Rattle.std.specs.declared.rc.Rc.{Rc}
 use Rattle.std.specs.declared.string.String.{String}
-use Rattle.cedar_below.specs.Words.{Text, last_named}
-use Rattle.cedar_below.specs.declared.extension.Extensions.{Extensions}
+use Rattle.cedar_ast.specs.Words.{Text, last_named}
+use Rattle.cedar_ast.specs.declared.extension.Extensions.{Extensions}
 use Rattle.cedar_type_rules.proofs.SubtypeLemmas.{found-HasField}
 use Rattle.cedar_type_rules.specs.Words.{AreInhabitedWith, Fields, FieldsRequireAll, HasField, IsRecordOf, IsStatedWith, Ty, end, field}
 use Rattle.cedar_type_rules.specs.declared.open_tag.OpenTag.{OpenTag}

@@ -1,6 +1,6 @@
 -- Characters that would control a terminal.
-use Rattle.std.specs.Prelude.{Bool, ℕ, ◌||◌, ◌&&◌, nat_le}
 use Rattle.std.specs.Char.{is_control}
+use Rattle.std.specs.Prelude.{Bool, ℕ, ◌||◌, ◌&&◌, nat_le}
 
 -- a control character, or one that turns the direction of the text around it
 abbrev pub is_hidden : ℕ → Bool

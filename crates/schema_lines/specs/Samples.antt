@@ -1,6 +1,6 @@
 use Rattle.std.specs.Prelude.{[], codes}
-use Rattle.cedar_below.specs.Words.{PlainName, Text}
-use Rattle.cedar_below.specs.declared.extension.Extensions.{Extensions}
+use Rattle.cedar_ast.specs.Words.{PlainName, Text}
+use Rattle.cedar_ast.specs.declared.extension.Extensions.{Extensions}
 use Rattle.cedar_type_rules.specs.Words.{IsStatedWith, Ty}
 
 -- the name that a text spells, without a path

@@ -1,8 +1,8 @@
-use Rattle.std.specs.Prelude.{◌≡◌, ◌⊎◌, Bool, List, [], ◌∷◌, codes, IsTrue}
 use Rattle.std.specs.Borrow.{Bor}
 use Rattle.std.specs.List.{list_any}
+use Rattle.std.specs.Prelude.{◌≡◌, ◌⊎◌, Bool, List, [], ◌∷◌, codes, IsTrue}
 use Rattle.std.specs.Str.{bytes_eq}
-use Rattle.cedar_below.specs.Text.{Text}
+use Rattle.cedar_ast.specs.Text.{Text}
 
 -- a text is one of some names
 abbrev pub is_among : Text → List Text → Bool

@@ -1,7 +1,7 @@
 //! The built-in cases, as texts in Cedar's JSON schema format, one for each fragment.
 
 ghost use Rattle.std.specs.Prelude.{◌≡◌, [], ◌∷◌, IfOk};
-ghost use Rattle.cedar_below.specs.Extensions.{extension_types};
+ghost use Rattle.cedar_ast.specs.Extensions.{extension_types};
 ghost use Rattle.schema_lines.specs.Samples.{sample_type};
 
 use crate::command::Case;

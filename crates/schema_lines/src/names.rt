@@ -1,7 +1,7 @@
 //! Names that texts spell.
 
 ghost use Rattle.std.specs.Prelude.{◌≡◌, ◌≢◌, IfOk};
-ghost use Rattle.cedar_below.specs.Words.{IsIdentifier, plain_name, reserved_word, unreserved_id_text};
+ghost use Rattle.cedar_ast.specs.Words.{IsIdentifier, plain_name, reserved_word, unreserved_id_text};
 ghost use Rattle.schema_lines.specs.Samples.{bare_name};
 
 use cedar_schema::below::{InternalName, M, Name, UnreservedId};

@@ -1,6 +1,6 @@
 //! What the tests say of an answer that isn't the one that was expected, and answers on one line.
 
-use cedar_below::M;
+use cedar_ast::M;
 use std::alloc::Global;
 use std::test::Fail;
 

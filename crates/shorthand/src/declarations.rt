@@ -19,8 +19,10 @@
 use crate::entries::{action, entity_type, id_text};
 use crate::names::{located_at, namespace, unreserved_id};
 use crate::types::written_type;
-use cedar_below::M;
-use cedar_names::json_schema::{CommonType, CommonTypeId, Fragment, NamespaceDefinition, RawName};
+use cedar_ast::M;
+use cedar_schema_ast::json_schema::{
+    CommonType, CommonTypeId, Fragment, NamespaceDefinition, RawName,
+};
 use std::alloc::Global;
 use std::collections::BTreeMap;
 use std::test::Fail;

@@ -2,8 +2,8 @@
 
 use crate::names::{located_at, raw, raws};
 use crate::types::{empty_record, written_type};
-use cedar_below::{Eid, NonEmpty};
-use cedar_names::json_schema::{
+use cedar_ast::{Eid, NonEmpty};
+use cedar_schema_ast::json_schema::{
     ActionEntityUID, ActionType, ApplySpec, AttributesOrContext, EntityType, EntityTypeKind,
     RawName, StandardEntityType, Type,
 };

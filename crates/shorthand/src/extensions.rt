@@ -1,10 +1,10 @@
 //! The sample extension.
 
 ghost use Rattle.std.specs.Prelude.{IfOk};
-ghost use Rattle.cedar_below.specs.Words.{TypeNamesFit, extension_types};
+ghost use Rattle.cedar_ast.specs.Words.{TypeNamesFit, extension_types};
 
 use crate::names::name;
-use cedar_below::{CoreSchemaType, ExtensionFunction, Extensions};
+use cedar_ast::{CoreSchemaType, ExtensionFunction, Extensions};
 use std::alloc::Global;
 use std::collections::BTreeMap;
 use std::test::Fail;

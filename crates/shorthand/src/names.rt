@@ -1,7 +1,7 @@
 //! Names that texts spell, and locations. A text that spells no name fails by name.
 
-use cedar_below::{Eid, EntityType, EntityUID, InternalName, Loc, Name, UnreservedId};
-use cedar_names::json_schema::RawName;
+use cedar_ast::{Eid, EntityType, EntityUID, InternalName, Loc, Name, UnreservedId};
+use cedar_schema_ast::json_schema::RawName;
 use std::alloc::Global;
 use std::test::Fail;
 

@@ -8,8 +8,8 @@
 
 use crate::declarations::add;
 use crate::names::{located_at, raw, unreserved_id};
-use cedar_below::Loc;
-use cedar_names::json_schema::{RawName, RecordType, Type, TypeOfAttribute, TypeVariant};
+use cedar_ast::Loc;
+use cedar_schema_ast::json_schema::{RawName, RecordType, Type, TypeOfAttribute, TypeVariant};
 use std::alloc::Global;
 use std::collections::BTreeMap;
 use std::test::Fail;

@@ -1,6 +1,6 @@
 //! The names that are defined, which references are resolved against.
 
-use cedar_below::{EntityUID, InternalName};
+use cedar_ast::{EntityUID, InternalName};
 use std::alloc::Global;
 use std::collections::BTreeSet;
 

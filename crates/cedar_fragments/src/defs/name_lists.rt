@@ -8,7 +8,7 @@ use crate::defs::all_defs::AllDefs;
 use crate::namespace::{
     ActionsDef, CommonTypeDefs, EntityTypesDef, ValidatorNamespaceDef, ValidatorSchemaFragment,
 };
-use cedar_below::{EntityUID, InternalName, M};
+use cedar_ast::{EntityUID, InternalName, M};
 use std::alloc::Global;
 use std::collections::BTreeSet;
 

@@ -4,7 +4,7 @@ ghost use Rattle.std.specs.Prelude.{◌≡◌, ◌↔◌, IsTrue, IfOk, OnOk, On
 ghost use Rattle.cedar_fragments.specs.Words.{HasAlso, StandsWhere, held_names, name_of, uid_of};
 
 use crate::defs::all_defs::AllDefs;
-use cedar_below::{EntityUID, InternalName, M};
+use cedar_ast::{EntityUID, InternalName, M};
 use std::collections::BTreeSet;
 
 /// Adds a name to some, or leaves them as they are and runs out of memory.

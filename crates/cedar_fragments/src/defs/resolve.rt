@@ -4,8 +4,10 @@ ghost use Rattle.std.specs.Prelude.{IfOk, IfErr, MatchOption, Contains, map};
 ghost use Rattle.cedar_fragments.specs.Words.{HoldsPairwise, IsDefined, IsFirst, IsRefused, IsRefusedAmong, PlainName, Reference, ResolvesTo, StandsWhere, conditional_reference, held_names, name_of, names_of, positional_reference};
 
 use crate::defs::all_defs::AllDefs;
-use cedar_below::{InternalName, M, NonEmpty};
-use cedar_names::json_schema::{ConditionalName, QualifyError, ReferenceType, TypeNotDefinedError};
+use cedar_ast::{InternalName, M, NonEmpty};
+use cedar_schema_ast::json_schema::{
+    ConditionalName, QualifyError, ReferenceType, TypeNotDefinedError,
+};
 
 /// The name as it was declared in a kind that a reference of the kind permits, if it was.
 fn declared<'a>(

@@ -5,8 +5,8 @@ ghost use Rattle.std.specs.List.{AllByRecursion};
 ghost use Rattle.cedar_fragments.specs.Words.{IsPlainAction, IsShadowing, IsUnqualified, NoActionShadows, NoTypeShadows, PlainName, PlainUid, ShadowsType, fault_of, held_names, name_of, out_of_memory, type_names, uid_of};
 
 use crate::defs::all_defs::AllDefs;
-use cedar_below::{EntityUID, InternalName, M, put};
-use cedar_declarations::SchemaError;
+use cedar_ast::{EntityUID, InternalName, M, put};
+use cedar_schema_semantics::SchemaError;
 use std::collections::{BTreeMap, BTreeSet};
 
 impl AllDefs {

@@ -7,8 +7,8 @@ ghost use Rattle.cedar_fragments.specs.Words.{IsDefined, IsFirst, IsRefused, IsU
 use crate::defs::all_defs::AllDefs;
 use crate::defs::resolve::{first_defined, shared_name};
 use crate::namespace::name_in;
-use cedar_below::{InternalName, M, NonEmpty};
-use cedar_names::json_schema::{
+use cedar_ast::{InternalName, M, NonEmpty};
+use cedar_schema_ast::json_schema::{
     ConditionalName, QualifyError, RawName, ReferenceType, TypeNotDefinedError,
 };
 use std::alloc::Global;

@@ -1,9 +1,9 @@
 //! An action that a definition declares.
 
-ghost use Rattle.cedar_below.specs.Words.{IsActionType, uid_of};
+ghost use Rattle.cedar_ast.specs.Words.{IsActionType, uid_of};
 
 use crate::namespace::actions::ActionFragment;
-use cedar_below::EntityUID;
+use cedar_ast::EntityUID;
 
 /// An action under its uid, whose location is that of the whole declaration.
 #[derive(Debug, Drop)]

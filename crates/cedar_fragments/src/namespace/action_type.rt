@@ -1,11 +1,11 @@
 //! The name of the type of the actions of the empty namespace.
 
 ghost use Rattle.std.specs.Prelude.{◌≡◌, None};
-ghost use Rattle.cedar_below.specs.Words.{action_word, name_of};
-ghost use Rattle.cedar_names.specs.Words.{name_within};
+ghost use Rattle.cedar_ast.specs.Words.{action_word, name_of};
+ghost use Rattle.cedar_schema_ast.specs.Words.{name_within};
 
 use crate::namespace::actions::action_type_name;
-use cedar_below::{InternalName, M};
+use cedar_ast::{InternalName, M};
 use std::alloc::Global;
 
 /// The name of the type of the actions that are declared in no namespace. It is made once, and

@@ -5,18 +5,18 @@ ghost use Rattle.cedar_fragments.specs.Words.{IsDefinitionFault, IsReserved, IsS
 ghost use Rattle.std.specs.List.{AllByRecursion};
 ghost use Rattle.std.specs.Slice.Iter.{iter_rest};
 ghost use Rattle.std.specs.List.Sorted.{IsStrictlySortedBy};
-ghost use Rattle.cedar_names.specs.declared.json_schema.conditional_name.ConditionalName.{ConditionalName as Conditional};
-ghost use Rattle.cedar_names.specs.declared.json_schema.raw_name.RawName.{RawName as Raw};
+ghost use Rattle.cedar_schema_ast.specs.declared.json_schema.conditional_name.ConditionalName.{ConditionalName as Conditional};
+ghost use Rattle.cedar_schema_ast.specs.declared.json_schema.raw_name.RawName.{RawName as Raw};
 
 use crate::namespace::action_def::ActionDef;
 use crate::namespace::entity_types::entity_references;
 use crate::namespace::full_name::full_name;
-use cedar_below::{Eid, EntityType, EntityUID, Id, InternalName, Loc, M, identifier};
-use cedar_declarations::{SchemaError, UnsupportedFeature};
-use cedar_names::json_schema::{
+use cedar_ast::{Eid, EntityType, EntityUID, Id, InternalName, Loc, M, identifier};
+use cedar_schema_ast::json_schema::{
     ActionEntityUID, ActionType, ApplySpec, ConditionalName, RawName, RecordType, ReferenceType,
     Type, TypeVariant,
 };
+use cedar_schema_semantics::{SchemaError, UnsupportedFeature};
 use std::alloc::Global;
 use std::collections::BTreeMap;
 use std::slice;

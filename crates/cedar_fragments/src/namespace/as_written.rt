@@ -6,7 +6,7 @@ ghost use Rattle.std.specs.Prelude.{◌≡◌, ◌⊎◌, ◌∷◌, [], IfErr, 
 ghost use Rattle.std.specs.List.{AllByRecursion};
 ghost use Rattle.std.specs.Option.{option_map};
 ghost use Rattle.cedar_fragments.specs.Words.{HasNoDefinitionFault, IsDefinitionFault, IsSound, NamesAllOfADefinition, NamesAllWithAttributes, NamesNoAttributes, action_declarations, action_fragment_declarations, common_declarations, common_type_declarations, common_type_defs, definition_common_names, definition_loc, definition_name, definition_namespace, entity_declarations, entity_type_declarations, fault_of, fragment_common_names, located_common_names, located_name, name_of, named_namespaces, namespace_name, out_of_memory, raw_common_names, raw_declarations, raw_fragment, raw_namespaces, raw_reference, written_common_names, written_definition, written_fragment};
-ghost use Rattle.cedar_names.specs.declared.json_schema.raw_name.RawName.{RawName as Raw};
+ghost use Rattle.cedar_schema_ast.specs.declared.json_schema.raw_name.RawName.{RawName as Raw};
 
 use crate::namespace::action_def::ActionDef;
 use crate::namespace::action_type::UnqualifiedActionType;
@@ -17,12 +17,12 @@ use crate::namespace::entity_type_def::EntityTypeDef;
 use crate::namespace::entity_types::{EntityTypeFragment, EntityTypesDef, entity_type_name};
 use crate::namespace::fragment::{ValidatorSchemaFragment, internal_namespace};
 use crate::namespace::full_name::full_name;
-use cedar_below::{InternalName, M, UnreservedId};
-use cedar_declarations::SchemaError;
-use cedar_names::json_schema;
-use cedar_names::json_schema::{
+use cedar_ast::{InternalName, M, UnreservedId};
+use cedar_schema_ast::json_schema;
+use cedar_schema_ast::json_schema::{
     ActionType, CommonType, CommonTypeId, Fragment, NamespaceDefinition, RawName,
 };
+use cedar_schema_semantics::SchemaError;
 use std::alloc::Global;
 use std::collections::BTreeMap;
 

@@ -3,12 +3,12 @@
 ghost use Rattle.std.specs.Prelude.{◌≡◌, IfOk};
 ghost use Rattle.std.specs.Slice.Iter.{iter_rest};
 ghost use Rattle.cedar_fragments.specs.Words.{common_declarations, common_type_declarations, common_type_defs, located_common_names, namespace_name, positional_reference, raw_reference, written_common_names};
-ghost use Rattle.cedar_names.specs.declared.json_schema.conditional_name.ConditionalName.{ConditionalName as Conditional};
-ghost use Rattle.cedar_names.specs.declared.json_schema.raw_name.RawName.{RawName as Raw};
+ghost use Rattle.cedar_schema_ast.specs.declared.json_schema.conditional_name.ConditionalName.{ConditionalName as Conditional};
+ghost use Rattle.cedar_schema_ast.specs.declared.json_schema.raw_name.RawName.{RawName as Raw};
 
 use crate::namespace::full_name::full_name;
-use cedar_below::{InternalName, Loc, M};
-use cedar_names::json_schema::{CommonType, CommonTypeId, ConditionalName, RawName, Type};
+use cedar_ast::{InternalName, Loc, M};
+use cedar_schema_ast::json_schema::{CommonType, CommonTypeId, ConditionalName, RawName, Type};
 use std::alloc::Global;
 use std::collections::BTreeMap;
 use std::slice;

@@ -5,8 +5,8 @@ ghost use Rattle.cedar_fragments.specs.Words.{IsActionDefCopy, IsActionFragmentC
 
 use crate::namespace::action_def::ActionDef;
 use crate::namespace::actions::{ActionFragment, ActionParent, ActionRequests, ActionsDef};
-use cedar_below::{M, copied_items};
-use cedar_names::json_schema::{FragmentName, copied_names};
+use cedar_ast::{M, copied_items};
+use cedar_schema_ast::json_schema::{FragmentName, copied_names};
 
 impl<N: FragmentName + Drop> ActionRequests<N> {
     /// Equal requests with the same locations. Out of memory is the only refusal.

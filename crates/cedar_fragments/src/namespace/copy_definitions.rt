@@ -6,8 +6,8 @@ ghost use Rattle.cedar_fragments.specs.Words.{IsNamespaceDefCopy, IsSchemaFragme
 
 use crate::namespace::definition::ValidatorNamespaceDef;
 use crate::namespace::fragment::ValidatorSchemaFragment;
-use cedar_below::{InternalName, M, copied_items};
-use cedar_names::json_schema::FragmentName;
+use cedar_ast::{InternalName, M, copied_items};
+use cedar_schema_ast::json_schema::FragmentName;
 
 /// An equal name of a namespace with the same location. None is the empty one.
 fn copied_namespace(namespace: &Option<InternalName>) -> M<Option<InternalName>>

@@ -6,8 +6,8 @@ ghost use Rattle.cedar_fragments.specs.Words.{IsCommonTypeDefCopy, IsCommonTypeD
 use crate::namespace::common_types::{CommonTypeDef, CommonTypeDefs};
 use crate::namespace::entity_type_def::EntityTypeDef;
 use crate::namespace::entity_types::{EntityTypeFragment, EntityTypesDef};
-use cedar_below::{M, copied_items};
-use cedar_names::json_schema::{AttributesOrContext, FragmentName, Type, copied_names};
+use cedar_ast::{M, copied_items};
+use cedar_schema_ast::json_schema::{AttributesOrContext, FragmentName, Type, copied_names};
 
 /// An equal type of tags with the same locations, if there is one.
 fn copied_tags<N: FragmentName + Drop>(tags: &Option<Type<N>>) -> M<Option<Type<N>>>

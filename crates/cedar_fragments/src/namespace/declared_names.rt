@@ -10,7 +10,7 @@ use crate::namespace::action_def::ActionDef;
 use crate::namespace::common_types::CommonTypeDef;
 use crate::namespace::definition::ValidatorNamespaceDef;
 use crate::namespace::entity_type_def::EntityTypeDef;
-use cedar_below::{EntityType, EntityUID, InternalName};
+use cedar_ast::{EntityType, EntityUID, InternalName};
 use std::iter::FusedIterator;
 use std::marker::Model;
 use std::slice;
@@ -24,7 +24,7 @@ pub struct CommonTypeNames<'a, N> {
 impl<'a, N> Model for CommonTypeNames<'a, N> {
     ghost use Rattle.std.specs.Prelude.{List, map};
     ghost use Rattle.std.specs.Slice.Iter.{iter_rest};
-    ghost use Rattle.cedar_below.specs.declared.internal_name.InternalName.{InternalName};
+    ghost use Rattle.cedar_ast.specs.declared.internal_name.InternalName.{InternalName};
 
     ghost Value = { List InternalName };
 
@@ -55,7 +55,7 @@ pub struct EntityTypeNames<'a, N> {
 impl<'a, N> Model for EntityTypeNames<'a, N> {
     ghost use Rattle.std.specs.Prelude.{List, map};
     ghost use Rattle.std.specs.Slice.Iter.{iter_rest};
-    ghost use Rattle.cedar_below.specs.declared.entity_type.EntityType.{EntityType};
+    ghost use Rattle.cedar_ast.specs.declared.entity_type.EntityType.{EntityType};
 
     ghost Value = { List EntityType };
 
@@ -86,7 +86,7 @@ pub struct ActionNames<'a, N, A> {
 impl<'a, N, A> Model for ActionNames<'a, N, A> {
     ghost use Rattle.std.specs.Prelude.{List, map};
     ghost use Rattle.std.specs.Slice.Iter.{iter_rest};
-    ghost use Rattle.cedar_below.specs.declared.entity_uid.EntityUID.{EntityUID};
+    ghost use Rattle.cedar_ast.specs.declared.entity_uid.EntityUID.{EntityUID};
 
     ghost Value = { List EntityUID };
 

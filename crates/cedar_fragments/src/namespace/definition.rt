@@ -4,14 +4,14 @@ ghost use Rattle.std.specs.Prelude.{◌≡◌, ◌⊎◌, IfOk, IfErr, OnOk};
 ghost use Rattle.std.specs.List.{AllByRecursion};
 ghost use Rattle.std.specs.Option.{option_copied, option_map};
 ghost use Rattle.cedar_fragments.specs.Words.{HasNoDefinitionFault, IsDefinitionFault, IsSound, NamesAllWithAttributes, conditional_definition, definition_common_names, definition_loc, definition_name, definition_namespace, fault_of, located_name, name_of, namespace_name, out_of_memory, raw_declarations, written_common_names};
-ghost use Rattle.cedar_names.specs.declared.json_schema.conditional_name.ConditionalName.{ConditionalName as Conditional};
+ghost use Rattle.cedar_schema_ast.specs.declared.json_schema.conditional_name.ConditionalName.{ConditionalName as Conditional};
 
 use crate::namespace::actions::ActionsDef;
 use crate::namespace::common_types::CommonTypeDefs;
 use crate::namespace::entity_types::EntityTypesDef;
-use cedar_below::{InternalName, Loc};
-use cedar_declarations::SchemaError;
-use cedar_names::json_schema::{ConditionalName, NamespaceDefinition, RawName};
+use cedar_ast::{InternalName, Loc};
+use cedar_schema_ast::json_schema::{ConditionalName, NamespaceDefinition, RawName};
+use cedar_schema_semantics::SchemaError;
 use std::alloc::Global;
 
 /// The declarations of one namespace.

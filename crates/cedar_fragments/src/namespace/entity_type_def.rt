@@ -1,9 +1,9 @@
 //! An entity type that a definition declares.
 
-ghost use Rattle.cedar_below.specs.Words.{IsActionType, type_name};
+ghost use Rattle.cedar_ast.specs.Words.{IsActionType, type_name};
 
 use crate::namespace::entity_types::EntityTypeFragment;
-use cedar_below::EntityType;
+use cedar_ast::EntityType;
 
 /// An entity type under its full name, whose location is that of the declaration. It is no type of
 /// actions.

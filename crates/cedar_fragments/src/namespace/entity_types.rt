@@ -4,19 +4,19 @@ ghost use Rattle.std.specs.Prelude.{◌≡◌, ◌⊎◌, IfOk, IfErr, OnOk, Opt
 ghost use Rattle.std.specs.List.{AllByRecursion};
 ghost use Rattle.std.specs.Slice.Iter.{iter_rest};
 ghost use Rattle.cedar_fragments.specs.Words.{IsActionType, IsDefinitionFault, IsEntityTypeNameFault, IsSound, NamesNoAttributes, PlainName, Reference, ReferenceType, entity_declarations, entity_parents, entity_type_declarations, entity_type_defs, fault_of, fragment_body, name_within, namespace_name, out_of_memory, path_within, positional_expr, positional_reference, raw_entity_body, raw_expr, raw_reference, reserved_word, type_name, unreserved_id_text};
-ghost use Rattle.cedar_names.specs.declared.json_schema.raw_name.RawName.{RawName as Raw};
+ghost use Rattle.cedar_schema_ast.specs.declared.json_schema.raw_name.RawName.{RawName as Raw};
 ghost use Rattle.std.specs.Option.{option_map};
-ghost use Rattle.cedar_names.specs.declared.json_schema.conditional_name.ConditionalName.{ConditionalName as Conditional};
-ghost use Rattle.cedar_names.specs.declared.json_schema.reference_type.ReferenceType.TheVariants.{Entity as entity};
+ghost use Rattle.cedar_schema_ast.specs.declared.json_schema.conditional_name.ConditionalName.{ConditionalName as Conditional};
+ghost use Rattle.cedar_schema_ast.specs.declared.json_schema.reference_type.ReferenceType.TheVariants.{Entity as entity};
 
 use crate::namespace::entity_type_def::EntityTypeDef;
 use crate::namespace::full_name::full_name;
-use cedar_below::{Eid, EntityType, InternalName, Loc, M, NonEmpty, UnreservedId};
-use cedar_declarations::SchemaError;
-use cedar_names::json_schema;
-use cedar_names::json_schema::{
+use cedar_ast::{Eid, EntityType, InternalName, Loc, M, NonEmpty, UnreservedId};
+use cedar_schema_ast::json_schema;
+use cedar_schema_ast::json_schema::{
     AttributesOrContext, ConditionalName, EntityTypeKind, RawName, ReferenceType, Type,
 };
+use cedar_schema_semantics::SchemaError;
 use std::alloc::Global;
 use std::collections::BTreeMap;
 use std::slice;

@@ -4,12 +4,12 @@ ghost use Rattle.std.specs.Prelude.{◌≡◌, ◌⊎◌, [], ◌∷◌, IfOk, I
 ghost use Rattle.std.specs.List.{AllByRecursion};
 ghost use Rattle.std.specs.Option.{option_map};
 ghost use Rattle.cedar_fragments.specs.Words.{HasNoDefinitionFault, IsDefinitionFault, IsSound, NamesAllOfADefinition, conditional_fragment, conditional_pairwise, fault_of, fragment_common_names, located_name, located_namespaces, located_plain_name, name_of, named_namespaces, out_of_memory, plain_name, raw_common_names, raw_fragment, raw_located_namespaces, raw_namespaces, raw_pairwise};
-ghost use Rattle.cedar_names.specs.declared.json_schema.conditional_name.ConditionalName.{ConditionalName as Conditional};
+ghost use Rattle.cedar_schema_ast.specs.declared.json_schema.conditional_name.ConditionalName.{ConditionalName as Conditional};
 
 use crate::namespace::definition::ValidatorNamespaceDef;
-use cedar_below::{InternalName, Name};
-use cedar_declarations::SchemaError;
-use cedar_names::json_schema::{ConditionalName, Fragment, RawName};
+use cedar_ast::{InternalName, Name};
+use cedar_schema_ast::json_schema::{ConditionalName, Fragment, RawName};
+use cedar_schema_semantics::SchemaError;
 use std::alloc::Global;
 
 /// A part of a schema: the definitions of some namespaces.

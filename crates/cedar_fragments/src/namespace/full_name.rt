@@ -3,7 +3,7 @@
 ghost use Rattle.std.specs.Prelude.{◌≡◌, IfOk, map};
 ghost use Rattle.cedar_fragments.specs.Words.{id_text, name_loc, name_of, name_within, namespace_name, path_within};
 
-use cedar_below::{Id, InternalName, Loc, M};
+use cedar_ast::{Id, InternalName, Loc, M};
 use std::alloc::Global;
 
 /// The path of what is declared in a namespace.

@@ -3,16 +3,16 @@
 ghost use Rattle.std.specs.Prelude.{◌≡◌, ◌∷◌, [], IfOk, IfErr};
 ghost use Rattle.std.specs.Option.{option_map};
 ghost use Rattle.cedar_fragments.specs.Words.{common_type, common_type_declarations, conditional_definition, declared_as, definition_namespace, fault_of, given_common_type, given_common_types, name_of, namespace_name, out_of_memory, positional_expr, positional_reference};
-ghost use Rattle.cedar_names.specs.declared.json_schema.conditional_name.ConditionalName.{ConditionalName as Conditional};
+ghost use Rattle.cedar_schema_ast.specs.declared.json_schema.conditional_name.ConditionalName.{ConditionalName as Conditional};
 
 use crate::namespace::actions::ActionsDef;
 use crate::namespace::common_types::{CommonTypeDef, CommonTypeDefs};
 use crate::namespace::definition::{ValidatorNamespaceDef, lend};
 use crate::namespace::entity_types::EntityTypesDef;
 use crate::namespace::full_name::full_name;
-use cedar_below::{InternalName, M, UnreservedId};
-use cedar_declarations::SchemaError;
-use cedar_names::json_schema::{ConditionalName, Type};
+use cedar_ast::{InternalName, M, UnreservedId};
+use cedar_schema_ast::json_schema::{ConditionalName, Type};
+use cedar_schema_semantics::SchemaError;
 use std::alloc::Global;
 use std::collections::HashMap;
 

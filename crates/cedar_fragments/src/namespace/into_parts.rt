@@ -2,7 +2,7 @@
 
 ghost use Rattle.std.specs.Prelude.{◌≡◌, ◌++◌, map};
 ghost use Rattle.cedar_fragments.specs.Words.{Reference, action_fragment_declaration, action_fragment_declarations, common_type_declaration, common_type_declarations, definition_declarations, entity_type_declaration, entity_type_declarations, fragment_definitions};
-ghost use Rattle.cedar_names.specs.declared.json_schema.reference_type.ReferenceType.{ReferenceType as Kind};
+ghost use Rattle.cedar_schema_ast.specs.declared.json_schema.reference_type.ReferenceType.{ReferenceType as Kind};
 
 use crate::namespace::action_def::ActionDef;
 use crate::namespace::actions::ActionsDef;

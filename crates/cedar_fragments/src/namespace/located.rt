@@ -6,7 +6,7 @@ ghost use Rattle.cedar_fragments.specs.Located.{definition_common_types, definit
 use crate::namespace::common_types::CommonTypeDef;
 use crate::namespace::definition::ValidatorNamespaceDef;
 use crate::namespace::fragment::ValidatorSchemaFragment;
-use cedar_below::Loc;
+use cedar_ast::Loc;
 
 impl<N, A> ValidatorSchemaFragment<N, A> {
     /// The definitions, in order.

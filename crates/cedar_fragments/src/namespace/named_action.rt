@@ -6,9 +6,9 @@ ghost use Rattle.cedar_fragments.specs.Words.{IsUnresolvable, NamesAction, fault
 use crate::defs::{AllDefs, WrittenName};
 use crate::namespace::actions::ActionParent;
 use crate::namespace::qualify_actions::first_action;
-use cedar_below::{EntityUID, InternalName, NonEmpty};
-use cedar_declarations::SchemaError;
-use cedar_names::json_schema::{ActionEntityUID, ReferenceType};
+use cedar_ast::{EntityUID, InternalName, NonEmpty};
+use cedar_schema_ast::json_schema::{ActionEntityUID, ReferenceType};
+use cedar_schema_semantics::SchemaError;
 
 impl<N: WrittenName> ActionParent<N> {
     /// The uid of the action that the parent names where it is written in the namespace: of the

@@ -6,11 +6,11 @@ ghost use Rattle.std.specs.List.{flat_map};
 ghost use Rattle.std.specs.Map.Iter.{TakesFirst};
 ghost use Rattle.std.specs.Option.{option_copied, option_map};
 ghost use Rattle.cedar_fragments.specs.Words.{HoldsOfAll, Reference, definition_declarations, definition_namespace, fragment_declarations, fragment_namespaces, name_of};
-ghost use Rattle.cedar_names.specs.declared.json_schema.reference_type.ReferenceType.{ReferenceType as Kind};
+ghost use Rattle.cedar_schema_ast.specs.declared.json_schema.reference_type.ReferenceType.{ReferenceType as Kind};
 
 use crate::namespace::definition::ValidatorNamespaceDef;
 use crate::namespace::fragment::ValidatorSchemaFragment;
-use cedar_below::{InternalName, M};
+use cedar_ast::{InternalName, M};
 use std::alloc::Global;
 use std::iter::FusedIterator;
 use std::marker::Model;
@@ -25,7 +25,7 @@ pub struct Namespaces<'a, N, A> {
 impl<'a, N, A> Model for Namespaces<'a, N, A> {
     ghost use Rattle.std.specs.Prelude.{List, Option, map};
     ghost use Rattle.std.specs.Slice.Iter.{iter_rest};
-    ghost use Rattle.cedar_below.specs.declared.internal_name.InternalName.{InternalName};
+    ghost use Rattle.cedar_ast.specs.declared.internal_name.InternalName.{InternalName};
 
     ghost Value = { List (Option InternalName) };
 

@@ -3,18 +3,18 @@
 ghost use Rattle.std.specs.Prelude.{◌≡◌, IfOk, IfErr, IfSome, OnOk, MatchOption, Some, map, Contains, string_bytes};
 ghost use Rattle.std.specs.List.{flat_map};
 ghost use Rattle.cedar_fragments.specs.Words.{HasToResolveFor, HoldsPairwise, IsFirst, IsPrincipalOrResource, IsRequested, IsRequestedIn, IsUnresolvable, IsUnresolvableBag, IsUnresolvableIn, NoneIsReserved, PlainName, ResolvesBag, ResolvesBody, ResolvesParent, ResolvesReference, ResolvesRequests, StandsWhere, action, action_fragment_body, action_fragment_declarations, action_fragment_locs, actions_locs, fault_of, fragment_parent, fragment_requests, held_names, name_of, names_of, namespace_name, no_locs, parent_locs, positional_reference, requests_locs, resolved_action_type, resolved_reference, uid_loc, uid_of};
-ghost use Rattle.cedar_below.specs.declared.entity_type.EntityType.{EntityType as ActionEntityType};
-ghost use Rattle.cedar_below.specs.declared.internal_name.InternalName.{InternalName as Full};
-ghost use Rattle.cedar_names.specs.declared.json_schema.conditional_name.ConditionalName.{ConditionalName as Conditional};
-ghost use Rattle.cedar_names.specs.declared.json_schema.reference_type.ReferenceType.TheVariants.{Entity as entity};
+ghost use Rattle.cedar_ast.specs.declared.entity_type.EntityType.{EntityType as ActionEntityType};
+ghost use Rattle.cedar_ast.specs.declared.internal_name.InternalName.{InternalName as Full};
+ghost use Rattle.cedar_schema_ast.specs.declared.json_schema.conditional_name.ConditionalName.{ConditionalName as Conditional};
+ghost use Rattle.cedar_schema_ast.specs.declared.json_schema.reference_type.ReferenceType.TheVariants.{Entity as entity};
 
 use crate::defs::{AllDefs, WrittenName};
 use crate::namespace::action_def::ActionDef;
 use crate::namespace::actions::{ActionFragment, ActionParent, ActionRequests, ActionsDef};
 use crate::namespace::qualify_types::{qualify_entity_types, qualify_type};
-use cedar_below::{Eid, EntityType, EntityUID, InternalName, Loc, M, Name, NonEmpty};
-use cedar_declarations::SchemaError;
-use cedar_names::json_schema::ConditionalName;
+use cedar_ast::{Eid, EntityType, EntityUID, InternalName, Loc, M, Name, NonEmpty};
+use cedar_schema_ast::json_schema::ConditionalName;
+use cedar_schema_semantics::SchemaError;
 
 /// The uid of the action that has the id and a type of the name, if there is one, at the location,
 /// and its type at that of the name. What is shared of the declared uid is shared with it.

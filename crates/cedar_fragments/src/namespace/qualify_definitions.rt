@@ -2,17 +2,17 @@
 //! full names.
 
 ghost use Rattle.std.specs.Prelude.{◌≡◌, IfOk, IfErr, OnOk};
-ghost use Rattle.cedar_below.specs.declared.entity_type.EntityType.{EntityType as ActionEntityType};
-ghost use Rattle.cedar_below.specs.declared.internal_name.InternalName.{InternalName as Full};
+ghost use Rattle.cedar_ast.specs.declared.entity_type.EntityType.{EntityType as ActionEntityType};
+ghost use Rattle.cedar_ast.specs.declared.internal_name.InternalName.{InternalName as Full};
 ghost use Rattle.cedar_fragments.specs.Words.{HoldsPairwise, IsRequested, IsUnresolvableBag, NoneIsReserved, ResolvesBag, conditional_definition, conditional_fragment, conditional_pairwise, definition_common_names, definition_loc, definition_locs, definition_name, definition_namespace, fault_of, fragment_common_names, held_names, located_namespaces, locs_pairwise, no_locs, resolved_definition, resolved_fragment, resolved_in_turn, written_definition, written_fragment, written_pairwise};
-ghost use Rattle.cedar_names.specs.declared.json_schema.conditional_name.ConditionalName.{ConditionalName as Conditional};
+ghost use Rattle.cedar_schema_ast.specs.declared.json_schema.conditional_name.ConditionalName.{ConditionalName as Conditional};
 
 use crate::defs::{AllDefs, WrittenName};
 use crate::namespace::definition::{ValidatorNamespaceDef, lend};
 use crate::namespace::fragment::ValidatorSchemaFragment;
-use cedar_below::{EntityType, InternalName};
-use cedar_declarations::SchemaError;
-use cedar_names::json_schema::ConditionalName;
+use cedar_ast::{EntityType, InternalName};
+use cedar_schema_ast::json_schema::ConditionalName;
+use cedar_schema_semantics::SchemaError;
 
 impl<N: WrittenName + Drop> ValidatorNamespaceDef<N, N> {
     /// The same definition, where each name that is written in its namespace is that of what it

@@ -2,12 +2,12 @@
 
 ghost use Rattle.std.specs.Prelude.{◌≡◌, IfOk, IfErr, map, Contains};
 ghost use Rattle.cedar_fragments.specs.Words.{HoldsPairwise, IsRefusedAmong, Refers, Resolves, ResolvesReference, held_names, namespace_name, no_locs, record_locs, record_type_expr, resolved_expr, resolved_record, resolved_reference, resolved_variant, type_expr, type_locs, variant_expr, variant_locs};
-ghost use Rattle.cedar_below.specs.declared.internal_name.InternalName.{InternalName as Full};
-ghost use Rattle.cedar_names.specs.declared.json_schema.reference_type.ReferenceType.TheVariants.{Entity as entity};
+ghost use Rattle.cedar_ast.specs.declared.internal_name.InternalName.{InternalName as Full};
+ghost use Rattle.cedar_schema_ast.specs.declared.json_schema.reference_type.ReferenceType.TheVariants.{Entity as entity};
 
 use crate::defs::{AllDefs, WrittenName, resolve_within};
-use cedar_below::{InternalName, put};
-use cedar_names::json_schema::{
+use cedar_ast::{InternalName, put};
+use cedar_schema_ast::json_schema::{
     QualifyError, RecordType, ReferenceType, Type, TypeOfAttribute, TypeVariant,
 };
 use std::collections::BTreeMap;

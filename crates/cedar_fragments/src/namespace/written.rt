@@ -4,7 +4,7 @@ ghost use Rattle.std.specs.Prelude.{◌≡◌};
 ghost use Rattle.cedar_fragments.specs.WrittenDeclarations.{written_namespace};
 ghost use Rattle.cedar_fragments.specs.Words.{namespace_name};
 
-use cedar_below::InternalName;
+use cedar_ast::InternalName;
 
 /// What is declared, with the namespace that its names are written in, None being the empty one.
 #[derive(Debug, Drop)]

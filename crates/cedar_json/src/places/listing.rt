@@ -7,8 +7,8 @@ ghost use Rattle.cedar_json.specs.Words.{IsListed, Marked, Marks, PlainName, act
 use super::table::Table;
 use super::type_listing::list_type;
 use super::written::{Places, Written, WrittenAt};
-use cedar_below::{Id, InternalName, M, Name, UnreservedId, identifier};
-use cedar_names::json_schema::{
+use cedar_ast::{Id, InternalName, M, Name, UnreservedId, identifier};
+use cedar_schema_ast::json_schema::{
     ActionType, CommonType, CommonTypeId, EntityType, EntityTypeKind, Fragment,
     NamespaceDefinition, RawName,
 };

@@ -4,8 +4,8 @@ ghost use Rattle.std.specs.Prelude.{◌≡◌, ◌≢◌, ◌↔◌, IsTrue, Som
 ghost use Rattle.cedar_json.specs.Words.{IsAttributedPlace, IsFirstPlace, IsPlaceOf, IsSecondPlaceOf, IsShadowedPlace, IsSought, mark_of, marked, name_loc, name_of, type_loc, type_name, uid_loc, uid_of};
 
 use super::written::{Places, Written};
-use cedar_below::{EntityType, EntityUID, InternalName, Loc};
-use cedar_declarations::{ContextOrShape, SchemaError, UnsupportedFeature};
+use cedar_ast::{EntityType, EntityUID, InternalName, Loc};
+use cedar_schema_semantics::{ContextOrShape, SchemaError, UnsupportedFeature};
 
 /// What is looked for in the table of a fragment.
 #[derive(Drop)]

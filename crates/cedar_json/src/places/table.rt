@@ -4,7 +4,7 @@ ghost use Rattle.std.specs.Prelude.{◌≡◌, ◌++◌, ◌∷◌, [], true, fa
 ghost use Rattle.cedar_json.specs.Words.{IsListed, marked};
 
 use super::written::{Places, WrittenAt};
-use cedar_below::{M, Memory};
+use cedar_ast::{M, Memory};
 use std::alloc::Global;
 
 /// A table that is being made. Where memory runs out, that is remembered, and told at the end.

@@ -5,8 +5,8 @@ ghost use Rattle.cedar_json.specs.Words.{IsListed, extension_type, marked, open_
 
 use super::table::Table;
 use super::written::{Written, WrittenAt};
-use cedar_below::{Loc, M, UnreservedId};
-use cedar_names::json_schema::{RawName, RecordType, Type, TypeVariant};
+use cedar_ast::{Loc, M, UnreservedId};
+use cedar_schema_ast::json_schema::{RawName, RecordType, Type, TypeVariant};
 use std::alloc::Global;
 
 /// Lists the open record types and the extension types in a type.

@@ -1,6 +1,6 @@
 //! What was written in a fragment, with its places.
 
-use cedar_below::{InternalName, Loc};
+use cedar_ast::{InternalName, Loc};
 
 /// What a fragment has at a place.
 #[derive(Debug, Drop)]

@@ -1,8 +1,8 @@
 use Rattle.std.proofs.Common.{refl, ap, ◌∙◌}
 use Rattle.std.proofs.Math.ListN.{drop_of_length-le}
-use Rattle.cedar_below.proofs.TreeLemmas.{drop-at}
-use Rattle.cedar_types.proofs.CleanSteps.{clean-first, clean-fails, clean-next}
+use Rattle.cedar_ast.proofs.TreeLemmas.{drop-at}
 use Rattle.cedar_types.proofs.+clean.Goals as goal
+use Rattle.cedar_types.proofs.CleanSteps.{clean-first, clean-fails, clean-next}
 
 pub clean::are_clean-loop-attribute-init : goal.clean::are_clean-loop-attribute-init
 clean::are_clean-loop-attribute-init t c =

@@ -1,13 +1,13 @@
 use Rattle.std.proofs.Common.{◌≡◌, ◌∙◌, sym, ap, true, string_bytes, Global, Bool, BTreeMap}
 use Rattle.std.specs.Bool.{Decides}
 use Rattle.std.specs.declared.string.String.{String}
-use Rattle.cedar_below.proofs.TreeLemmas.{core_ty_of-record}
-use Rattle.cedar_types.specs.Words.{Attributes, CoreAttributeType, IsConsistent, OpenAttributes, OpenTag, attribute_of, core_attribute_of, core_fields_of, core_record, core_ty_of, fields_of, record_of, ty_of}
-use Rattle.cedar_types.proofs.ConsistentSteps.{ConsistentStep, consistent-first, step_of, passed-fails, met-fails, met-next, alone-fails, alone-next, consistent-last, attribute_type, met_test}
-use Rattle.cedar_types.proofs.SubtypeSteps.{Sought-held, IsAt, IsAt-held}
-use Rattle.cedar_types.proofs.MemberParts.{ty_of-record}
+use Rattle.cedar_ast.proofs.TreeLemmas.{core_ty_of-record}
 use Rattle.cedar_types.proofs.+consistent.Goals as goal
 use Rattle.cedar_types.proofs.+consistent.Goals.{consistent::records_fit-After-may_lack_all, consistent::records_fit-After-seek-place, consistent::records_fit-After-is_consistent_with}
+use Rattle.cedar_types.proofs.ConsistentSteps.{ConsistentStep, consistent-first, step_of, passed-fails, met-fails, met-next, alone-fails, alone-next, consistent-last, attribute_type, met_test}
+use Rattle.cedar_types.proofs.MemberParts.{ty_of-record}
+use Rattle.cedar_types.proofs.SubtypeSteps.{Sought-held, IsAt, IsAt-held}
+use Rattle.cedar_types.specs.Words.{Attributes, CoreAttributeType, IsConsistent, OpenAttributes, OpenTag, attribute_of, core_attribute_of, core_fields_of, core_record, core_ty_of, fields_of, record_of, ty_of}
 
 pub types::Type::is_consistent_with-returns-in-Record-Record :
     goal.types::Type::is_consistent_with-returns-in-Record-Record

@@ -1,7 +1,7 @@
 use Rattle.std.proofs.Common.{◌≡◌, true}
-use Rattle.cedar_types.specs.Words.{IsConsistent, OpenAttributes, core_fields_of, core_record, fields_of, record_of}
-use Rattle.cedar_types.proofs.ConsistentSteps.{ConsistentSoFar}
 use Rattle.cedar_types.proofs.+consistent.Given as goal
+use Rattle.cedar_types.proofs.ConsistentSteps.{ConsistentSoFar}
+use Rattle.cedar_types.specs.Words.{IsConsistent, OpenAttributes, core_fields_of, core_record, fields_of, record_of}
 
 abbrev pub invariant-consistent::records_fit-loop-name : goal.invariant-consistent::records_fit-loop-name
 invariant-consistent::records_fit-loop-name l =

@@ -2,14 +2,14 @@ use Rattle.std.proofs.Common.{◌≡◌, Bool, false, not, Ok, ap, sym, ◌∙�
 use Rattle.std.proofs.Math.ListN.{drop_of_length-le}
 use Rattle.std.specs.BTreeMap.{get_by_text}
 use Rattle.std.specs.Option.{option_copied}
-use Rattle.cedar_below.proofs.TreeLemmas.{drop-at, tree_of-uid, tree_of-set, tree_of-record, tree_of-call}
-use Rattle.cedar_types.specs.Words.{Answer, Ty, attribute_of, entries_left, entries_of, entry_at, fields_from, fields_of, fields_of-pairs, out-Attributes, plain_attributes, tree_of, ty_of, uid_of, value_at}
-use Rattle.cedar_types.specs.declared.types.Type.TheVariants as type
-use Rattle.cedar_types.proofs.EntriesLeftSteps.{Serves-first, Serves-next}
-use Rattle.cedar_types.proofs.MembershipLemmas.{IsMembershipSoFar-none, IsMembershipSoFar-all, IsMembershipSoFar-stops}
-use Rattle.cedar_types.proofs.MemberParts.{IsMembershipFor, IsMembershipFor-at, IsMembershipFor-uid, IsMembershipFor-listed, IsMembershipFor-unlisted, IsMembershipForEntry, IsMembershipForEntry-Some, IsMembershipForEntry-None, ElementsSoFar-more, FieldsSoFar-more, attribute_of-parts, ty_of-set, ty_of-record, ty_of-entity, ty_of-extension}
+use Rattle.cedar_ast.proofs.TreeLemmas.{drop-at, tree_of-uid, tree_of-set, tree_of-record, tree_of-call}
 use Rattle.cedar_types.proofs.+member.Goals as goal
 use Rattle.cedar_types.proofs.+member.Goals.{member::fields_have-in-Some, member::fields_have-in-None}
+use Rattle.cedar_types.proofs.EntriesLeftSteps.{Serves-first, Serves-next}
+use Rattle.cedar_types.proofs.MemberParts.{IsMembershipFor, IsMembershipFor-at, IsMembershipFor-uid, IsMembershipFor-listed, IsMembershipFor-unlisted, IsMembershipForEntry, IsMembershipForEntry-Some, IsMembershipForEntry-None, ElementsSoFar-more, FieldsSoFar-more, attribute_of-parts, ty_of-set, ty_of-record, ty_of-entity, ty_of-extension}
+use Rattle.cedar_types.proofs.MembershipLemmas.{IsMembershipSoFar-none, IsMembershipSoFar-all, IsMembershipSoFar-stops}
+use Rattle.cedar_types.specs.Words.{Answer, Ty, attribute_of, entries_left, entries_of, entry_at, fields_from, fields_of, fields_of-pairs, out-Attributes, plain_attributes, tree_of, ty_of, uid_of, value_at}
+use Rattle.cedar_types.specs.declared.types.Type.TheVariants as type
 
 -- at first no element was tried
 pub member::elements_have-loop-value-init : goal.member::elements_have-loop-value-init

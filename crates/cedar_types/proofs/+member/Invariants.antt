@@ -1,8 +1,8 @@
 use Rattle.std.proofs.Common.{drop, ◌+◌, ◌*◌}
-use Rattle.cedar_types.specs.Words.{entries_left, entries_of, fields_from, fields_of, plain_attributes, size-Attributes, size-Type, trees_of, ty_of}
+use Rattle.cedar_types.proofs.+member.Given as goal
 use Rattle.cedar_types.proofs.EntriesLeftSteps.{Serves}
 use Rattle.cedar_types.proofs.MemberParts.{ElementsSoFar, FieldsSoFar}
-use Rattle.cedar_types.proofs.+member.Given as goal
+use Rattle.cedar_types.specs.Words.{entries_left, entries_of, fields_from, fields_of, plain_attributes, size-Attributes, size-Type, trees_of, ty_of}
 
 abbrev pub decreases-types::Type::typecheck_restricted_expr : goal.decreases-types::Type::typecheck_restricted_expr
 decreases-types::Type::typecheck_restricted_expr l = 2 * size-Type l.self.now

@@ -1,9 +1,9 @@
 use Rattle.std.proofs.Common.{refl, ap, ◌∙◌}
 use Rattle.std.proofs.Math.ListN.{drop_of_length-le}
-use Rattle.cedar_below.proofs.TreeLemmas.{drop-at}
+use Rattle.cedar_ast.proofs.TreeLemmas.{drop-at}
 use Rattle.cedar_type_rules.specs.Stated.{FieldsRequireAll}
-use Rattle.cedar_types.proofs.StatedSteps.{flag_same, left-fails, left-first, left-next, required_left, type_same}
 use Rattle.cedar_types.proofs.+required.Goals as goal
+use Rattle.cedar_types.proofs.StatedSteps.{flag_same, left-fails, left-first, left-next, required_left, type_same}
 
 -- at first all attributes are left
 pub stated::require_all-loop-attribute-init : goal.stated::require_all-loop-attribute-init

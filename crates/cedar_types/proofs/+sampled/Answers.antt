@@ -2,11 +2,11 @@ use Rattle.std.proofs.Common.{◌≡◌, refl, ap, ◌∙◌}
 use Rattle.std.proofs.Math.ListN.{drop_of_length-le}
 use Rattle.std.specs.Bool.{Decides}
 use Rattle.std.specs.Option.{is_some}
-use Rattle.cedar_below.proofs.TreeLemmas.{drop-at}
-use Rattle.cedar_types.specs.Words.{AreInhabitedWith, IsInhabitedWith, Ty, extension_of, plain_name, ty_of, value_trees}
+use Rattle.cedar_ast.proofs.TreeLemmas.{drop-at}
+use Rattle.cedar_types.proofs.+sampled.Goals as goal
 use Rattle.cedar_types.proofs.MemberParts.{ty_of-extension}
 use Rattle.cedar_types.proofs.StatedSteps.{left-fails, left-first, left-next, sampled-Decides, type_same}
-use Rattle.cedar_types.proofs.+sampled.Goals as goal
+use Rattle.cedar_types.specs.Words.{AreInhabitedWith, IsInhabitedWith, Ty, extension_of, plain_name, ty_of, value_trees}
 
 -- at first all attributes are left
 pub stated::are_sampled-loop-attribute-init : goal.stated::are_sampled-loop-attribute-init

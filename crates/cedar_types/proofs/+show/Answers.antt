@@ -2,9 +2,9 @@ use Rattle.std.proofs.Common.{◌≡◌, ◌∙◌, ◌++◌, refl, sym, ap, cod
 use Rattle.std.proofs.Output.{has_written_append, has_written_of_eq}
 use Rattle.std.proofs.lemmas.List.{take_all}
 use Rattle.std.specs.List.{flat_map}
-use Rattle.cedar_types.specs.Words.{fields_of, fields_text}
-use Rattle.cedar_types.proofs.TextLemmas.{entry_text, fields_text-pairs}
 use Rattle.cedar_types.proofs.+show.Goals as goal
+use Rattle.cedar_types.proofs.TextLemmas.{entry_text, fields_text-pairs}
+use Rattle.cedar_types.specs.Words.{fields_of, fields_text}
 
 pub attributes::AttributesDisplay::fmt-returns-clause-writes : goal.attributes::AttributesDisplay::fmt-returns-clause-writes
 attributes::AttributesDisplay::fmt-returns-clause-writes g t c plain ok =

@@ -1,8 +1,8 @@
 use Rattle.std.proofs.Common.{take}
-use Rattle.std.specs.List.{flat_map}
 use Rattle.std.specs.Fmt.{HasWritten, IsPlainFormatter}
-use Rattle.cedar_types.proofs.TextLemmas.{entry_text}
+use Rattle.std.specs.List.{flat_map}
 use Rattle.cedar_types.proofs.+show.Given as goal
+use Rattle.cedar_types.proofs.TextLemmas.{entry_text}
 
 abbrev pub invariant-attributes::AttributesDisplay::fmt-loop-name :
     goal.invariant-attributes::AttributesDisplay::fmt-loop-name

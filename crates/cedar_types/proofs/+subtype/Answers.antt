@@ -1,7 +1,7 @@
 use Rattle.std.proofs.Common.{ap, ◌∙◌, string_bytes}
-use Rattle.cedar_below.proofs.TreeLemmas.{drop-at}
-use Rattle.cedar_types.proofs.SubtypeSteps.{WalkedBelow-first, WalkedBelow-missed, WalkedBelow-fails, WalkedBelow-next, Sought-held, IsAt-held, AttributeBelow-held}
+use Rattle.cedar_ast.proofs.TreeLemmas.{drop-at}
 use Rattle.cedar_types.proofs.+subtype.Goals as goal
+use Rattle.cedar_types.proofs.SubtypeSteps.{WalkedBelow-first, WalkedBelow-missed, WalkedBelow-fails, WalkedBelow-next, Sought-held, IsAt-held, AttributeBelow-held}
 
 -- at first all attributes of the upper record are left
 pub subtype::fields_fit-loop-name-init : goal.subtype::fields_fit-loop-name-init

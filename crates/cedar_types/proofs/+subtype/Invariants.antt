@@ -1,7 +1,7 @@
 use Rattle.std.proofs.Common.{drop}
-use Rattle.cedar_types.specs.Words.{size-AttributeType, size-Attributes, size-Type}
-use Rattle.cedar_types.proofs.SubtypeSteps.{WalkedBelow}
 use Rattle.cedar_types.proofs.+subtype.Given as goal
+use Rattle.cedar_types.proofs.SubtypeSteps.{WalkedBelow}
+use Rattle.cedar_types.specs.Words.{size-AttributeType, size-Attributes, size-Type}
 
 abbrev pub decreases-subtype::fields_fit : goal.decreases-subtype::fields_fit
 decreases-subtype::fields_fit l = size-Attributes l.upper.now

@@ -5,7 +5,7 @@ ghost use Rattle.std.specs.HashSet.{contains};
 ghost use Rattle.std.proofs.Common.{ap, refl, ◌∙◌};
 ghost use Rattle.std.proofs.lemmas.Bool.{eqb-true};
 
-use cedar_below::M;
+use cedar_ast::M;
 use cedar_graph::TCNode;
 use std::alloc::Global;
 use std::collections::{HashMap, HashSet, hash_set};

@@ -1,6 +1,6 @@
 //! Numbers in order: chains of any length, what leads nowhere, and rings.
 
-use cedar_below::M;
+use cedar_ast::M;
 use cedar_graph::{Ordered, topo_sort};
 use shorthand::checked::{one_of, same};
 use std::alloc::Global;

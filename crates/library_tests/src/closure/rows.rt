@@ -1,7 +1,7 @@
 //! Rows: small graphs that are closed, and tables that are linked.
 
 use crate::closure::member::{Member, edges_in_all, mark_of, nodes_of};
-use cedar_below::M;
+use cedar_ast::M;
 use cedar_graph::{TCNode, compute_tc, compute_tc_counted, link_table};
 use cedar_table::Table;
 use shorthand::checked::{holds, one_of, same};

@@ -2,7 +2,7 @@
 
 use crate::fragments::shown::is_alike;
 use crate::types::test_values::value;
-use cedar_below::{
+use cedar_ast::{
     Eid, Entities, Entity, EntityUID, ExtensionFunction, Extensions, Id, Loc, M, NonEmpty,
     RestrictedExpr, UnreservedId, Value,
 };
@@ -121,7 +121,7 @@ fn extensions(alloc: Global) -> Result<Extensions, Fail> {
 }
 
 /// Whether a name is that of an extension type, and what is said of the function of that name.
-fn told(alloc: Global, extensions: &Extensions, text: &str) -> Result<String, Fail> {
+fn reported(alloc: Global, extensions: &Extensions, text: &str) -> Result<String, Fail> {
     let name = name(alloc, text)?;
     let is_type = extensions.has_type(&name);
     match extensions.func(&name) {
@@ -130,7 +130,7 @@ fn told(alloc: Global, extensions: &Extensions, text: &str) -> Result<String, Fa
     }
 }
 
-/// Names, and what is told of them.
+/// Names, and what is reported of them.
 const NAMED: &[(&str, &str)] = &[
     ("ip@1", "false, 0"),
     ("ipaddr@1", "true, no extension function is named ipaddr"),
@@ -142,7 +142,7 @@ fn extension_functions_are_found_by_name(rt: HostRuntime) -> Result<(), Fail> {
     let alloc = rt.alloc();
     let extensions = extensions(alloc)?;
     for &(name, expected) in NAMED {
-        same(name, told(alloc, &extensions, name)?.as_str(), expected)?;
+        same(name, reported(alloc, &extensions, name)?.as_str(), expected)?;
     }
     Ok(())
 }

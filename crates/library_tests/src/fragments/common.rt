@@ -1,12 +1,12 @@
 //! What common types are elaborated as, and why they are refused.
 
 use crate::fragments::refusals::refusal_text;
-use cedar_below::{InternalName, M};
+use cedar_ast::{InternalName, M};
 use cedar_elaboration::{SharedTypes, common_types};
 use cedar_fragments::defs::AllDefs;
 use cedar_fragments::namespace::{UnqualifiedActionType, ValidatorSchemaFragment};
-use cedar_names::json_schema::RawName;
-use cedar_resolution::{DeclaredCommonType, Gathered};
+use cedar_resolution::{CollectedDeclarations, DeclaredCommonType};
+use cedar_schema_ast::json_schema::RawName;
 use cedar_types::Type;
 use shorthand::checked::same;
 use shorthand::names::internal_name;
@@ -19,9 +19,9 @@ use std::test::Fail;
 const ENTITIES: &[&str] = &["User", "Both", "__cedar"];
 
 /// What the fragments of a text declare, by the names that are written.
-fn gathered(alloc: Global, text: &str) -> Result<Gathered<RawName>, Fail> {
+fn gathered(alloc: Global, text: &str) -> Result<CollectedDeclarations<RawName>, Fail> {
     let unqualified = UnqualifiedActionType::new(alloc)?;
-    let mut gathered = Gathered::with_room(alloc, 0)?;
+    let mut gathered = CollectedDeclarations::with_room(alloc, 0)?;
     for fragment in fragments_of(alloc, &written(alloc, text)?)? {
         let fragment = ValidatorSchemaFragment::as_written(alloc, fragment, &unqualified)?;
         gathered = gathered.with(fragment)?;
@@ -78,7 +78,7 @@ fn elaborated(
 
 /// The common types of a text as they are elaborated, or why they are refused.
 fn outcome(alloc: Global, text: &str) -> Result<String, Fail> {
-    let Gathered {
+    let CollectedDeclarations {
         names,
         declarations,
     } = gathered(alloc, text)?;

@@ -2,7 +2,7 @@
 
 use crate::fragments::declarations::fragment_of;
 use crate::fragments::shown::is_alike;
-use cedar_below::{EntityType, InternalName};
+use cedar_ast::{EntityType, InternalName};
 use cedar_fragments::defs::AllDefs;
 use cedar_fragments::namespace::ValidatorSchemaFragment;
 use shorthand::checked::holds;

@@ -4,9 +4,9 @@
 //! declaration`, with nothing before the colon for the empty namespace, and may stand in a reserved
 //! one. Declarations are written as [`shorthand`] says.
 
-use cedar_declarations::SchemaError;
 use cedar_fragments::namespace::{ValidatorNamespaceDef, ValidatorSchemaFragment};
-use cedar_names::json_schema::ConditionalName;
+use cedar_schema_ast::json_schema::ConditionalName;
+use cedar_schema_semantics::SchemaError;
 use shorthand::names::internal_namespace;
 use shorthand::{declare, nothing};
 use std::alloc::Global;

@@ -5,11 +5,11 @@ use crate::fragments::declarations::{
 };
 use crate::fragments::refusals::refusal_text;
 use crate::fragments::shown::shown;
-use cedar_below::M;
+use cedar_ast::M;
 use cedar_fragments::namespace::{
     ActionsDef, CommonTypeDefs, EntityTypesDef, ValidatorNamespaceDef, ValidatorSchemaFragment,
 };
-use cedar_names::json_schema::{ConditionalName, Type, TypeVariant};
+use cedar_schema_ast::json_schema::{ConditionalName, Type, TypeVariant};
 use shorthand::checked::{holds, same};
 use shorthand::fragment_of as plain_fragment;
 use shorthand::names::{internal_namespace, located_at, unreserved_id};

@@ -1,7 +1,7 @@
 //! Tests of raw names, of conditional ones, and of the base names of common types.
 
-use cedar_names::below::Memory;
-use cedar_names::json_schema::{
+use cedar_schema_ast::below::Memory;
+use cedar_schema_ast::json_schema::{
     CommonTypeId, ConditionalName, QualifyError, RawName, ReferenceType,
 };
 use shorthand::checked::{holds, same};

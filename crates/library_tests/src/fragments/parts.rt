@@ -3,13 +3,13 @@
 use crate::fragments::copies::resolved_fragment;
 use crate::fragments::declarations::{definition_of, fragment_of};
 use crate::fragments::shown::{is_alike, shown};
-use cedar_below::M;
+use cedar_ast::M;
 use cedar_fragments::defs::AllDefs;
 use cedar_fragments::namespace::{
     ActionDef, ActionFragment, ActionParent, ActionRequests, ActionsDef, CommonTypeDef,
     CommonTypeDefs, EntityTypeDef, EntityTypesDef, ValidatorNamespaceDef,
 };
-use cedar_names::json_schema::ConditionalName;
+use cedar_schema_ast::json_schema::ConditionalName;
 use shorthand::checked::{holds, same};
 use std::alloc::Global;
 use std::fmt::Debug;

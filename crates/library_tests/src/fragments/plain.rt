@@ -1,8 +1,8 @@
 //! Tests of the plain data of fragments: its copies, and how deep types are nested.
 
 use crate::fragments::shown::is_alike;
-use cedar_below::{Loc, M};
-use cedar_names::json_schema::{
+use cedar_ast::{Loc, M};
+use cedar_schema_ast::json_schema::{
     ActionEntityUID, ActionType, ApplySpec, AttributesOrContext, CommonType, EntityType,
     EntityTypeKind, NamespaceDefinition, RawName, StandardEntityType, Type, TypeVariant,
     copied_names,

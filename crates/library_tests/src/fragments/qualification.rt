@@ -2,12 +2,12 @@
 
 use crate::fragments::declarations::fragments_of;
 use crate::fragments::refusals::refusal_text;
-use cedar_below::{EntityType, Extensions, InternalName};
-use cedar_declarations::SchemaError;
+use cedar_ast::{EntityType, Extensions, InternalName};
 use cedar_fragments::defs::{AllDefs, WrittenName};
 use cedar_fragments::namespace::ValidatorSchemaFragment;
-use cedar_names::json_schema::ConditionalName;
-use cedar_resolution::{DefinedNames, Gathered, defined_names};
+use cedar_resolution::{CollectedDeclarations, DefinedNames, defined_names};
+use cedar_schema_ast::json_schema::ConditionalName;
+use cedar_schema_semantics::SchemaError;
 use shorthand::checked::{holds, same};
 use shorthand::names::internal_name;
 use shorthand::sample_extensions;
@@ -203,8 +203,8 @@ fn what_names_nothing_or_shadows_is_refused(rt: HostRuntime) -> Result<(), Fail>
 }
 
 /// What the fragments of some texts declare, gathered from one after another.
-fn gathered(alloc: Global, texts: &[&str]) -> Result<Gathered<ConditionalName>, Fail> {
-    let mut gathered = Gathered::with_room(alloc, texts.len())?;
+fn gathered(alloc: Global, texts: &[&str]) -> Result<CollectedDeclarations<ConditionalName>, Fail> {
+    let mut gathered = CollectedDeclarations::with_room(alloc, texts.len())?;
     for fragment in fragments_of(alloc, texts)? {
         gathered = gathered.with(fragment)?;
     }
@@ -218,7 +218,7 @@ fn declarations_are_gathered(rt: HostRuntime) -> Result<(), Fail> {
         "N: type C = Long; entity U",
         ": external entity T; action view",
     ];
-    let Gathered {
+    let CollectedDeclarations {
         names,
         declarations,
     } = gathered(alloc, texts)?;

@@ -1,10 +1,10 @@
 //! Tests of names that are read from text, and of uids that are printed.
 
 use crate::fragments::below::text;
-use cedar_below::{
+use cedar_ast::{
     EntityType, EntityUID, Extensions, Id, InternalName, Name, NameFault, UnreservedId,
 };
-use cedar_names::json_schema::{CommonTypeId, RawName};
+use cedar_schema_ast::json_schema::{CommonTypeId, RawName};
 use shorthand::checked::{holds, same};
 use std::alloc::Global;
 use std::collections::BTreeMap;
@@ -120,8 +120,8 @@ const IDS: &[(&str, &str, &str, &str)] = &[
     ("__cedar1", "__cedar1", "__cedar1", "__cedar1"),
 ];
 
-/// Whether a text is told to be an identifier, and one that isn't the reserved word.
-fn is_told(alloc: Global, word: &str) -> Result<(bool, bool), Fail> {
+/// Whether a text is reported to be an identifier, and one that isn't the reserved word.
+fn is_reported(alloc: Global, word: &str) -> Result<(bool, bool), Fail> {
     let is_id = Id::new(text(alloc, word)?).is_some();
     Ok((is_id, UnreservedId::new(text(alloc, word)?).is_some()))
 }
@@ -136,7 +136,10 @@ fn identifiers_are_read_as_they_print(rt: HostRuntime) -> Result<(), Fail> {
         same(word, id.as_str(), unreserved)?;
         let id = answer(alloc, CommonTypeId::from_str(alloc, word))?;
         same(word, id.as_str(), common)?;
-        holds(is_told(alloc, word)? == (true, unreserved == word), word)?;
+        holds(
+            is_reported(alloc, word)? == (true, unreserved == word),
+            word,
+        )?;
     }
     Ok(())
 }
@@ -162,7 +165,7 @@ fn texts_stop_being_identifiers(rt: HostRuntime) -> Result<(), Fail> {
         same(word, id.as_str(), expected.as_str())?;
         let id = answer(alloc, CommonTypeId::from_str(alloc, word))?;
         same(word, id.as_str(), expected.as_str())?;
-        holds(is_told(alloc, word)? == (false, false), word)?;
+        holds(is_reported(alloc, word)? == (false, false), word)?;
     }
     Ok(())
 }

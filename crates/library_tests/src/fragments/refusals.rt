@@ -1,7 +1,7 @@
 //! Refusals as texts.
 
-use cedar_below::{M, Memory};
-use cedar_declarations::SchemaError;
+use cedar_ast::{M, Memory};
+use cedar_schema_semantics::SchemaError;
 use std::alloc::Global;
 
 /// What is printed of a refusal.

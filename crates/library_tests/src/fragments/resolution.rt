@@ -2,12 +2,12 @@
 
 use crate::fragments::declarations::fragments_of;
 use crate::fragments::refusals::refusal_text;
-use cedar_below::{EntityType, InternalName};
-use cedar_declarations::SchemaError;
+use cedar_ast::{EntityType, InternalName};
 use cedar_fragments::defs::{AllDefs, ResolveName, WrittenName, resolve_all};
 use cedar_fragments::namespace::ActionParent;
-use cedar_names::json_schema::{ConditionalName, QualifyError, ReferenceType};
+use cedar_schema_ast::json_schema::{ConditionalName, QualifyError, ReferenceType};
 use cedar_schema_elements::ValidatorApplySpec;
+use cedar_schema_semantics::SchemaError;
 use shorthand::checked::same;
 use shorthand::names::{internal_name, raw};
 use std::alloc::Global;

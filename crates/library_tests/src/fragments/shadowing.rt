@@ -2,8 +2,8 @@
 
 use crate::fragments::declarations::fragments_of;
 use crate::fragments::refusals::refusal_text;
-use cedar_declarations::SchemaError;
 use cedar_fragments::defs::{AllDefs, NameLists};
+use cedar_schema_semantics::SchemaError;
 use shorthand::checked::{holds, same};
 use shorthand::names::internal_name;
 use std::alloc::Global;

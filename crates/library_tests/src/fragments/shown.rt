@@ -1,6 +1,6 @@
 //! What is shown of a value, with all that it holds.
 
-use cedar_below::M;
+use cedar_ast::M;
 use std::alloc::Global;
 use std::fmt::Debug;
 

@@ -1,8 +1,10 @@
 //! Types that are written in a namespace, and copies of the names in them.
 
 use crate::fragments::shown::{is_alike, shown};
-use cedar_below::{EntityType, M};
-use cedar_names::json_schema::{ConditionalName, FragmentName, ReferenceType, Type, TypeVariant};
+use cedar_ast::{EntityType, M};
+use cedar_schema_ast::json_schema::{
+    ConditionalName, FragmentName, ReferenceType, Type, TypeVariant,
+};
 use shorthand::checked::{holds, same};
 use shorthand::names::{entity_type, internal_name, located_at, raw};
 use std::alloc::Global;

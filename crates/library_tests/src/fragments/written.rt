@@ -3,10 +3,10 @@
 use crate::fragments::copies::resolved_fragment;
 use crate::fragments::qualification::{REFUSED, SETTLED, outcome, resolved, shown_or_refused};
 use crate::fragments::shown::shown;
-use cedar_declarations::SchemaError;
 use cedar_fragments::defs::AllDefs;
 use cedar_fragments::namespace::{UnqualifiedActionType, ValidatorSchemaFragment};
-use cedar_names::json_schema::{Fragment, RawName};
+use cedar_schema_ast::json_schema::{Fragment, RawName};
+use cedar_schema_semantics::SchemaError;
 use shorthand::checked::same;
 use shorthand::{fragment_of, sample_extensions};
 use std::alloc::Global;

@@ -1,8 +1,8 @@
 //! Where the declarations, attributes, types and references of a fragment were written.
 
-use cedar_below::Loc;
+use cedar_ast::Loc;
 use cedar_json::{JsonSchemaFault, fragment_from_json};
-use cedar_names::json_schema::{
+use cedar_schema_ast::json_schema::{
     ActionType, CommonType, EntityType, EntityTypeKind, Fragment, NamespaceDefinition, RawName,
     StandardEntityType, Type, TypeOfAttribute, TypeVariant,
 };

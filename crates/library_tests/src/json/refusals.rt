@@ -2,11 +2,11 @@
 //! bytes. The marks `⟦` and `⟧` stand around the bytes.
 
 use crate::json::texts::{Part, unmarked};
+use cedar_json::Expected::{Array, Flag, NoNull, Object, Text, TextOrNull};
 use cedar_json::FaultKind::{
     KeyIsNoId, KeyIsNoName, KeyIsReserved, KeyIsReservedName, KeyIsTypeWord, Missing, NoChoices,
     NoId, NoLong, NoName, ReservedId, ReservedName, UnknownField, Wants,
 };
-use cedar_json::Wanted::{Array, Flag, NoNull, Object, Text, TextOrNull};
 use cedar_json::{FaultKind, JsonSchemaFault, Place, Row, fragment_from_json};
 use shorthand::checked::holds;
 use std::alloc::Global;

@@ -1,7 +1,7 @@
 //! Texts that are read.
 
 use crate::json::texts::Part;
-use cedar_below::{Extensions, Name};
+use cedar_ast::{Extensions, Name};
 use cedar_json::{cedar_extensions, fragment_from_json, fragment_from_slice};
 use shorthand::checked::holds;
 use shorthand::names::name;

@@ -2,12 +2,12 @@
 
 use crate::fragments::plain::sets;
 use crate::types::test_values::value;
-use cedar_below::{Entity, Value};
+use cedar_ast::{Entity, Value};
 use cedar_json::fragment_from_json;
 use cedar_json_writer::{
     WriteFault, entity_to_json, fragment_to_json, request_to_json, value_to_json,
 };
-use cedar_names::json_schema::{CommonType, CommonTypeId, Fragment, RawName};
+use cedar_schema_ast::json_schema::{CommonType, CommonTypeId, Fragment, RawName};
 use shorthand::checked::{holds, same};
 use shorthand::names::{uid, uids};
 use shorthand::{fragment_of, nothing};

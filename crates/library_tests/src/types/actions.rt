@@ -1,7 +1,7 @@
 //! Tests of actions of a schema.
 
 use crate::types::test_values::PLACE;
-use cedar_names::json_schema::{ConditionalName, ReferenceType};
+use cedar_schema_ast::json_schema::{ConditionalName, ReferenceType};
 use cedar_schema_elements::{TypeSet, ValidatorActionId, ValidatorApplySpec};
 use cedar_types::Type;
 use shorthand::checked::holds;

@@ -1,7 +1,7 @@
 //! Tests of attributes: of repeated names, and where those are of joined types.
 
 use crate::types::test_values::{PLACE, sample, text};
-use cedar_below::ValidationMode;
+use cedar_ast::ValidationMode;
 use cedar_types::{AttributeType, Attributes, OpenTag, Type};
 use shorthand::checked::{holds, same};
 use std::alloc::Global;

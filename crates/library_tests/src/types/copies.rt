@@ -2,7 +2,7 @@
 
 use crate::types::entity_types::{attributes, of_kind};
 use crate::types::test_values::{kind, text};
-use cedar_below::{Eid, EntityType, M};
+use cedar_ast::{Eid, EntityType, M};
 use cedar_schema_elements::{
     StandardValidatorEntityType, ValidatorApplySpec, ValidatorEntityTypeKind,
 };

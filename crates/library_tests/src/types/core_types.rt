@@ -1,7 +1,7 @@
 //! Tests of core types and of consistency with them.
 
 use crate::types::test_values::{sample, value};
-use cedar_below::{CoreSchemaType, M};
+use cedar_ast::{CoreSchemaType, M};
 use cedar_types::core_type_of;
 use shorthand::checked::{holds, same};
 use shorthand::sample_extensions;

@@ -2,7 +2,7 @@
 
 use crate::types::actions::action;
 use crate::types::entity_types::of_kind;
-use cedar_below::{EntityType, EntityUID, M};
+use cedar_ast::{EntityType, EntityUID, M};
 use cedar_graph::TCNode;
 use cedar_schema_elements::{ValidatorActionId, ValidatorEntityType};
 use shorthand::checked::holds;

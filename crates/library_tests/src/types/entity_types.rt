@@ -1,7 +1,7 @@
 //! Tests of entity types of a schema.
 
 use crate::types::test_values::{PLACE, sample, text};
-use cedar_below::{Eid, EntityType, NonEmpty};
+use cedar_ast::{Eid, EntityType, NonEmpty};
 use cedar_schema_elements::ValidatorEntityType;
 use cedar_types::{Attributes, OpenTag, Type};
 use shorthand::checked::{holds, same};

@@ -1,7 +1,7 @@
 //! Tests of joins and of reductions.
 
 use crate::types::test_values::{kind, sample, union};
-use cedar_below::{Memory, ValidationMode};
+use cedar_ast::{Memory, ValidationMode};
 use cedar_types::{EntityKind, EntityLUB, JoinError, JoinOrder, Type, reduce};
 use shorthand::checked::{holds, same};
 use std::alloc::Global;

@@ -1,6 +1,6 @@
 //! Tests of types that are large.
 
-use cedar_below::ValidationMode;
+use cedar_ast::ValidationMode;
 use cedar_types::Type;
 use shorthand::checked::{holds, same};
 use shorthand::names::entity_type;

@@ -1,7 +1,7 @@
 //! Tests of membership.
 
 use crate::types::test_values::{sample, value};
-use cedar_below::{ExtensionFunctionLookupError, Extensions, Value};
+use cedar_ast::{ExtensionFunctionLookupError, Extensions, Value};
 use shorthand::checked::{holds, same};
 use shorthand::sample_extensions;
 use std::alloc::Global;

@@ -1,7 +1,7 @@
 //! Tests of values that separate two types, and of types that are sampled or stated.
 
 use crate::types::test_values::{sample, text, value};
-use cedar_below::{Extensions, M, Value};
+use cedar_ast::{Extensions, M, Value};
 use cedar_counterexample::{separating_value, value_outside};
 use cedar_types::{OpenTag, Type};
 use shorthand::checked::{holds, same};

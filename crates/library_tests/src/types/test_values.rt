@@ -1,6 +1,6 @@
 //! Types and values that the tests share, by their words.
 
-use cedar_below::{Loc, RestrictedExpr};
+use cedar_ast::{Loc, RestrictedExpr};
 use cedar_types::{AttributeType, EntityKind, EntityLUB, OpenTag, Type};
 use shorthand::names::{entity_type, name, uid};
 use std::alloc::Global;

@@ -1,7 +1,7 @@
 //! Tests of types and of how they compare.
 
 use crate::types::test_values::sample;
-use cedar_below::{Memory, ValidationMode};
+use cedar_ast::{Memory, ValidationMode};
 use cedar_types::{JoinError, LubHelp, Type};
 use shorthand::checked::{holds, same};
 use std::alloc::Global;
@@ -63,7 +63,7 @@ const PRIMITIVES: &[(&str, bool)] = &[
 ];
 
 #[test]
-fn primitive_types_are_told_by_name(_rt: HostRuntime) -> Result<(), Fail> {
+fn primitive_types_are_reported_by_name(_rt: HostRuntime) -> Result<(), Fail> {
     for &(word, is_primitive) in PRIMITIVES {
         holds(Type::is_primitive(word) == is_primitive, word)?;
     }

@@ -201,10 +201,14 @@ fn of_action(
 
 /// Whether entities of some of the first types may be among or below those of some of the second.
 fn any_below(alloc: Global, schema: &ValidatorSchema, text: &str) -> Result<String, Fail> {
-    let (lowers, uppers) = two_parts(text)?;
+    let (lowers, ancestors) = two_parts(text)?;
     let lowers = entity_types(alloc, lowers)?;
-    let uppers = entity_types(alloc, uppers)?;
-    Ok(schema.any_descendent_of(&lowers, &uppers).to_string(alloc)?)
+    let ancestors = entity_types(alloc, ancestors)?;
+    Ok(
+        schema
+            .any_descendent_of(&lowers, &ancestors)
+            .to_string(alloc)?,
+    )
 }
 
 /// The actions for a principal and a resource.

@@ -1,12 +1,12 @@
 //! Two versions of schemas that are put together by hand, as no declarations say them.
 
 use crate::vectors::by_hand::put_together;
-use crate::versions::told::told_of;
+use crate::versions::reported::reported_of;
 use shorthand::checked::same;
 use std::test::Fail;
 
-/// The old schema, the new one, and what is told: of an open record, which no declarations give,
-/// and of `Never`, which has no values, and so no sample.
+/// The old schema, the new one, and what is reported: of an open record, which no declarations
+/// give, and of `Never`, which has no values, and so no sample.
 const BY_HAND: &[(&str, &str, &str)] = &[
     (
         "open U tags Long",
@@ -25,7 +25,7 @@ fn schemas_that_no_declarations_give_are_compared(rt: HostRuntime) -> Result<(),
     let alloc = rt.alloc();
     for (old, new, expected) in BY_HAND {
         let old = put_together(alloc, old)?;
-        let answer = told_of(alloc, &old, &put_together(alloc, new)?)?;
+        let answer = reported_of(alloc, &old, &put_together(alloc, new)?)?;
         same(new, answer.as_str(), expected)?;
     }
     Ok(())

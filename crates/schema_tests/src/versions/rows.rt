@@ -1,11 +1,11 @@
 //! Two versions of small declarations, with what is lost and what is gained.
 
-use crate::versions::told::told;
+use crate::versions::reported::reported;
 use shorthand::checked::same;
 use std::alloc::Global;
 use std::test::Fail;
 
-/// Attributes and tags: the old declarations, the new ones, and what is told.
+/// Attributes and tags: the old declarations, the new ones, and what is reported.
 const ATTRIBUTES: &[(&str, &str, &str)] = &[
     ("entity U", "entity U", " | "),
     (
@@ -137,7 +137,7 @@ const REQUESTS: &[(&str, &str, &str)] = &[
 /// Checks each row of a table.
 fn check_rows(alloc: Global, rows: &[(&str, &str, &str)]) -> Result<(), Fail> {
     for (old, new, expected) in rows {
-        let answer = told(alloc, old, new)?;
+        let answer = reported(alloc, old, new)?;
         same(new, answer.as_str(), expected)?;
     }
     Ok(())

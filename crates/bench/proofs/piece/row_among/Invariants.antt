@@ -1,6 +1,6 @@
 use Rattle.std.proofs.Common.{◌≡◌, drop, map}
-use Rattle.bench.specs.Words.{is_among, piece_name}
 use Rattle.bench.proofs.piece.row_among.Given as goal
+use Rattle.bench.specs.Words.{is_among, piece_name}
 
 abbrev pub invariant-loop-row : goal.invariant-loop-row
 invariant-loop-row l =

@@ -1,14 +1,14 @@
 use Rattle.std.proofs.lemmas.Result.{IfErr-weaker, IfOk-weaker}
-use Rattle.cedar_builder.specs.Words.{fault_of, held_names, uid_of, written_actions}
-use Rattle.cedar_below.proofs.Uids.{entity_uid_eq-same}
-use Rattle.cedar_below.specs.contracts.entity_uid.EntityUIDEq.TheImpl as uid_equal
-use Rattle.cedar_below.specs.contracts.entity_uid.EntityUIDPartialEq.TheImpl as uid_eq
-use Rattle.cedar_builder.proofs.AtKeys.{entry_at_key, has_entry}
+use Rattle.cedar_ast.proofs.Uids.{entity_uid_eq-same}
+use Rattle.cedar_ast.specs.contracts.entity_uid.EntityUIDEq.TheImpl as uid_equal
+use Rattle.cedar_ast.specs.contracts.entity_uid.EntityUIDPartialEq.TheImpl as uid_eq
 use Rattle.cedar_builder.proofs.ActionParents.{edges_declared, fault_declared, keys_declared, requests_declared}
 use Rattle.cedar_builder.proofs.ActionsReady.{certain, declared_at, collecting_fault, linking_fault, parent_fault, ready_to_link, stands_after}
+use Rattle.cedar_builder.proofs.AtKeys.{entry_at_key, has_entry}
 use Rattle.cedar_builder.proofs.ReadyLemmas.{if_ok_both, on_ok_from}
-use Rattle.cedar_fragments.proofs.FragmentLemmas.{exit_holds}
 use Rattle.cedar_builder.proofs.action_building.actions.Goals as goal
+use Rattle.cedar_builder.specs.Words.{fault_of, held_names, uid_of, written_actions}
+use Rattle.cedar_fragments.proofs.FragmentLemmas.{exit_holds}
 
 -- what is collected and then linked is what the bag declares
 pub returns-clause-declared : goal.returns-clause-declared

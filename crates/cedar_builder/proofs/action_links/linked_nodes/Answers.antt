@@ -1,10 +1,10 @@
 use Rattle.std.proofs.Common.{◌≡◌, refl, inr, ap}
+use Rattle.cedar_builder.proofs.action_links.linked_nodes.Goals as goal
+use Rattle.cedar_builder.specs.ActionNodes.{node_at}
 use Rattle.cedar_builder.specs.Words.{SameAction, ValidatorActionId, uid_of}
 use Rattle.cedar_graph.proofs.Growing.{alike_weaker}
 use Rattle.cedar_schema_elements.specs.ActionKind.{plain_kind}
 use Rattle.cedar_schema_elements.specs.ValidatorActionId.{parts_of}
-use Rattle.cedar_builder.specs.ActionNodes.{node_at}
-use Rattle.cedar_builder.proofs.action_links.linked_nodes.Goals as goal
 
 pub returns-in-Ok-clause-linked : goal.returns-in-Ok-clause-linked
 returns-in-Ok-clause-linked c = λ ready.

@@ -1,7 +1,7 @@
 use Rattle.std.proofs.Common.{ap, sym, ◌∙◌, inr}
 use Rattle.std.proofs.lemmas.Bool.{false≢true}
-use Rattle.cedar_builder.specs.Words.{context_not_record, ty_of}
 use Rattle.cedar_builder.proofs.action_requests.context_type.Goals as goal
+use Rattle.cedar_builder.specs.Words.{context_not_record, ty_of}
 
 pub returns-clause-fault : goal.returns-clause-fault
 returns-clause-fault g c = inr (inr (

@@ -1,7 +1,7 @@
 use Rattle.std.proofs.IntoIterSteps.{All-taken}
-use Rattle.cedar_schema_elements.specs.ValidatorActionId.{action_of}
 use Rattle.cedar_builder.proofs.ActionsElaborated.{SameItems-none}
 use Rattle.cedar_builder.proofs.action_requests.elaborated_action.Goals as goal
+use Rattle.cedar_schema_elements.specs.ValidatorActionId.{action_of}
 
 -- what a definition gives is what is declared, whose names are looked up in its namespace
 pub returns-in-Some-clause-elaborates : goal.returns-in-Some-clause-elaborates

@@ -2,12 +2,12 @@ use Rattle.std.proofs.Common.{◌≡◌, ◌∙◌, ◌∷◌, arith, ap, inl, l
 use Rattle.std.proofs.lemmas.List.{nil_from_length}
 use Rattle.std.specs.List.{zip}
 use Rattle.std.specs.Vec.Iter.{into_iter_items}
-use Rattle.cedar_builder.specs.Words.{AreInOrder, AreLocated, fault_of, named}
 use Rattle.cedar_builder.proofs.NodesCollected.{all_collected, all_once, all_sound, collected_more, collected_none, next_fault, twice_fault}
 use Rattle.cedar_builder.proofs.NodesPut.{no_columns, none_above, one_more_column}
-use Rattle.cedar_fragments.proofs.FragmentLemmas.{exit_holds}
 use Rattle.cedar_builder.proofs.declared_node.collected_in_order.Goals as goal
 use Rattle.cedar_builder.proofs.declared_node.collected_in_order.Goals.{After-into_inner-name}
+use Rattle.cedar_builder.specs.Words.{AreInOrder, AreLocated, fault_of, named}
+use Rattle.cedar_fragments.proofs.FragmentLemmas.{exit_holds}
 
 -- the declaration that is collected is the next one
 next_entry : (g : _) (c : After-into_inner-name g)

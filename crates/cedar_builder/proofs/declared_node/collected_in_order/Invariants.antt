@@ -3,8 +3,8 @@ use Rattle.std.specs.List.{zip}
 use Rattle.std.specs.Vec.Iter.{into_iter_items}
 use Rattle.cedar_builder.proofs.NodesCollected.{CollectedSoFar}
 use Rattle.cedar_builder.proofs.NodesPut.{AreColumns}
-use Rattle.cedar_builder.specs.DeclaredNodes.{named}
 use Rattle.cedar_builder.proofs.declared_node.collected_in_order.Given as goal
+use Rattle.cedar_builder.specs.DeclaredNodes.{named}
 
 abbrev pub invariant-loop-item : goal.invariant-loop-item
 invariant-loop-item g l =

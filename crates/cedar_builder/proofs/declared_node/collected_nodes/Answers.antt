@@ -2,10 +2,10 @@ use Rattle.std.proofs.Common.{rules, arith, map}
 use Rattle.std.proofs.lemmas.List.Sorted.{IsPermutation-sym, answers_always, ranks_by, sorted_far}
 use Rattle.std.proofs.lemmas.Result.{IfErr-weaker, IfOk-weaker, on_ok_weaker}
 use Rattle.std.specs.Ordering.{is_lt}
-use Rattle.cedar_builder.specs.Words.{fault_of, named}
 use Rattle.cedar_builder.proofs.InAnyOrder.{among_forth, collected_forth, fault_forth, twice_forth}
 use Rattle.cedar_builder.proofs.NodesPut.{not_above}
 use Rattle.cedar_builder.proofs.declared_node.collected_nodes.Goals as goal
+use Rattle.cedar_builder.specs.Words.{fault_of, named}
 
 -- the declarations are sorted by their keys
 pub collected_in_order-requires : goal.collected_in_order-requires

@@ -2,10 +2,10 @@ use Rattle.std.proofs.Common.{◌≡◌, ◌∙◌, ◌++◌, [], ◌∷◌, Lis
 use Rattle.std.proofs.lemmas.Bool.{false≢true}
 use Rattle.std.proofs.lemmas.List.{nil_from_length}
 use Rattle.std.specs.List.{zip}
-use Rattle.cedar_builder.specs.Words.{at_key}
 use Rattle.cedar_builder.proofs.NodesPut.{HasRoom, IsPutBehind, defined_at, empty_from_no_last, last_stands, popped_last, put_behind, put_nothing, room_behind, room_for_first, room_in_place}
 use Rattle.cedar_builder.proofs.declared_node.put_node.Goals as goal
 use Rattle.cedar_builder.proofs.declared_node.put_node.Goals.{In-Some-Some, In_ok-push, In_ok-push-2, in-Some-Some+then-eq+else-is_external+else-not-is_external, in-Some-Some+else-eq, in-Some+in-None-1, in-None-3}
+use Rattle.cedar_builder.specs.Words.{at_key}
 
 -- where the node is put
 record Room (g : _) (c : In_ok-push g) : Type 0 where

@@ -1,14 +1,14 @@
 use Rattle.std.proofs.lemmas.Result.{IfErr-weaker, IfOk-weaker}
-use Rattle.cedar_builder.specs.Words.{fault_of, held_names, type_name, written_entities}
-use Rattle.cedar_below.proofs.Names.{entity_type_eq-same}
-use Rattle.cedar_below.specs.contracts.entity_type.EntityTypeEq.TheImpl as entity_type_equal
-use Rattle.cedar_below.specs.contracts.entity_type.EntityTypePartialEq.TheImpl as entity_type_eq
+use Rattle.cedar_ast.proofs.Names.{entity_type_eq-same}
+use Rattle.cedar_ast.specs.contracts.entity_type.EntityTypeEq.TheImpl as entity_type_equal
+use Rattle.cedar_ast.specs.contracts.entity_type.EntityTypePartialEq.TheImpl as entity_type_eq
 use Rattle.cedar_builder.proofs.AtKeys.{entry_at_key, has_entry}
 use Rattle.cedar_builder.proofs.EntityTypeParents.{edges_declared, fault_declared, keys_declared}
 use Rattle.cedar_builder.proofs.EntityTypesReady.{certain, declared_at, collecting_fault, linking_fault, parent_fault, stands_after, unlinked}
 use Rattle.cedar_builder.proofs.ReadyLemmas.{if_ok_both, on_ok_from}
-use Rattle.cedar_fragments.proofs.FragmentLemmas.{exit_holds}
 use Rattle.cedar_builder.proofs.entity_type_building.entity_types.Goals as goal
+use Rattle.cedar_builder.specs.Words.{fault_of, held_names, type_name, written_entities}
+use Rattle.cedar_fragments.proofs.FragmentLemmas.{exit_holds}
 
 -- what is collected and then linked is what the bag declares
 pub returns-clause-declared : goal.returns-clause-declared

@@ -4,9 +4,9 @@ use Rattle.std.proofs.lemmas.List.Elements.{All-contains_itself}
 use Rattle.std.proofs.lemmas.Map.Iter.{iter_end}
 use Rattle.std.proofs.lemmas.Map.Views.{All-turn}
 use Rattle.std.specs.Map.Iter.{deref}
-use Rattle.cedar_builder.specs.Words.{IsExternalAt, external_below_enumerated, node_at}
 use Rattle.cedar_builder.proofs.EntityTypeChecks.{shown_more}
 use Rattle.cedar_builder.proofs.entity_type_checks.check_below.Goals as goal
+use Rattle.cedar_builder.specs.Words.{IsExternalAt, external_below_enumerated, node_at}
 
 pub returns-then-is_external_at-clause-fault : goal.returns-then-is_external_at-clause-fault
 returns-then-is_external_at-clause-fault c =

@@ -1,8 +1,8 @@
 use Rattle.std.proofs.Common.{◌≡◌, ◌∷◌, ap, false, inl, inr, is_some, map, sym, ◌∙◌}
 use Rattle.std.proofs.lemmas.Bool.{false≢true}
-use Rattle.cedar_builder.specs.Words.{node_at, type_name, undeclared_entity_types}
 use Rattle.cedar_builder.proofs.EntityTypeChecks.{found_at_name, none_there}
 use Rattle.cedar_builder.proofs.entity_type_checks.check_edge.Goals as goal
+use Rattle.cedar_builder.specs.Words.{node_at, type_name, undeclared_entity_types}
 
 -- the upper entity type isn't there
 pub returns-then-not-contains_key-clause-fault : goal.returns-then-not-contains_key-clause-fault

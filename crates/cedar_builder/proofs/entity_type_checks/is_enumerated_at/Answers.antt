@@ -1,8 +1,8 @@
 use Rattle.std.proofs.Common.{◌≡◌, None, Some, sym, ◌∙◌}
 use Rattle.std.proofs.lemmas.Bool.{false≢true}
-use Rattle.cedar_builder.specs.Words.{node_at}
 use Rattle.cedar_builder.proofs.EntityTypeChecks.{found_at_name}
 use Rattle.cedar_builder.proofs.entity_type_checks.is_enumerated_at.Goals as goal
+use Rattle.cedar_builder.specs.Words.{node_at}
 
 pub returns-in-Some : goal.returns-in-Some
 returns-in-Some c =

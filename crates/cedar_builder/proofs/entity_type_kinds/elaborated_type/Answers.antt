@@ -1,10 +1,10 @@
 use Rattle.std.proofs.Common.{map, ap}
 use Rattle.std.proofs.IntoIterSteps.{All-taken}
 use Rattle.std.proofs.lemmas.Result.{IfErr-weaker, IfOk-weaker, on_ok_weaker}
-use Rattle.cedar_builder.specs.Words.{Entity, IsBodyFault, IsElaboratedEntity, descendant_names, fault_of, fragment_body, namespace_name, type_name}
-use Rattle.cedar_fragments.specs.declared.namespace.entity_types.EntityTypeFragment.TheVariants as variant
 use Rattle.cedar_builder.proofs.EntityTypesElaborated.{SameItems-none}
 use Rattle.cedar_builder.proofs.entity_type_kinds.elaborated_type.Goals as goal
+use Rattle.cedar_builder.specs.Words.{Entity, IsBodyFault, IsElaboratedEntity, descendant_names, fault_of, fragment_body, namespace_name, type_name}
+use Rattle.cedar_fragments.specs.declared.namespace.entity_types.EntityTypeFragment.TheVariants as variant
 
 -- what holds of the parts of a standard entity type holds of its body
 pub returns-in-Standard-clause-elaborates : goal.returns-in-Standard-clause-elaborates

@@ -1,9 +1,9 @@
 use Rattle.std.proofs.Common.{ap, inr}
-use Rattle.cedar_builder.specs.Words.{shape_not_record, ty_of}
-use Rattle.cedar_types.proofs.MemberParts.{ty_of-record}
 use Rattle.cedar_builder.proofs.EntityTypeCases.{no_record}
 use Rattle.cedar_builder.proofs.EntityTypesElaborated.{closed_elaborated}
 use Rattle.cedar_builder.proofs.entity_type_kinds.shape_attributes.Goals as goal
+use Rattle.cedar_builder.specs.Words.{shape_not_record, ty_of}
+use Rattle.cedar_types.proofs.MemberParts.{ty_of-record}
 
 pub returns-in-Record-clause-elaborates : goal.returns-in-Record-clause-elaborates
 returns-in-Record-clause-elaborates g c = λ defined knows.

@@ -1,10 +1,10 @@
 use Rattle.std.proofs.Common.{◌≡◌, List, inl, inr, Contains}
-use Rattle.cedar_builder.specs.Words.{AreReady, AreUnlinked, EntityType, IsEdgeSound, SameType, ValidatorEntityType, fault_of, has_descendant, node_at, plain_kind, type_name}
-use Rattle.cedar_below.specs.contracts.entity_type.EntityTypePartialEq.TheImpl as entity_type_eq
-use Rattle.cedar_graph.proofs.Growing.{alike_weaker}
+use Rattle.cedar_ast.specs.contracts.entity_type.EntityTypePartialEq.TheImpl as entity_type_eq
 use Rattle.cedar_builder.proofs.EntityTypeLinks.{are_linked, below_fault, upper_stands}
-use Rattle.cedar_fragments.proofs.FragmentLemmas.{exit_holds}
 use Rattle.cedar_builder.proofs.entity_type_links.linked_nodes.Goals as goal
+use Rattle.cedar_builder.specs.Words.{AreReady, AreUnlinked, EntityType, IsEdgeSound, SameType, ValidatorEntityType, fault_of, has_descendant, node_at, plain_kind, type_name}
+use Rattle.cedar_fragments.proofs.FragmentLemmas.{exit_holds}
+use Rattle.cedar_graph.proofs.Growing.{alike_weaker}
 
 -- each edge is sound
 abbrev AreSound : List (EntityType × EntityType) → List (EntityType × ValidatorEntityType) → Type 0
@@ -17,7 +17,7 @@ alike_same a b alike i = record { name = type_name (alike.0 i); kind = plain_kin
 -- edges that are sound between nodes without descendants are ready to be linked
 ready : (edges : List (EntityType × EntityType)) (nodes : List (EntityType × ValidatorEntityType)) → AreSound edges nodes
     → AreUnlinked edges nodes → AreReady (entity_type_eq.ghosts).eq has_descendant edges nodes
-ready edges nodes sound unlinked = record { apart = unlinked.apart; uppers = upper_stands edges nodes sound; lowers = unlinked.lowers }
+ready edges nodes sound unlinked = record { apart = unlinked.apart; ancestors = upper_stands edges nodes sound; lowers = unlinked.lowers }
 
 pub returns-clause-linked : goal.returns-clause-linked
 returns-clause-linked c = λ unlinked.

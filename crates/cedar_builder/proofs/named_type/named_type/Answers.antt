@@ -1,7 +1,7 @@
 use Rattle.std.proofs.Common.{ap, refl, subst, sym}
-use Rattle.cedar_builder.specs.Words.{Entity, IsReserved, ResolvesTo, held_names, name_of, namespace_name}
 use Rattle.cedar_builder.proofs.ReadyLemmas.{unresolved_fault}
 use Rattle.cedar_builder.proofs.named_type.named_type.Goals as goal
+use Rattle.cedar_builder.specs.Words.{Entity, IsReserved, ResolvesTo, held_names, name_of, namespace_name}
 
 -- a name that stands for nothing is refused
 pub returns-in_default-clause-fault : goal.returns-in_default-clause-fault

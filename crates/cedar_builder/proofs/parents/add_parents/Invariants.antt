@@ -1,6 +1,6 @@
 use Rattle.std.proofs.Common.{◌++◌, List, map, take}
-use Rattle.cedar_builder.specs.Words.{HoldsPairwise, IsEdgeOf, held_names}
 use Rattle.cedar_builder.proofs.parents.add_parents.Given as goal
+use Rattle.cedar_builder.specs.Words.{HoldsPairwise, IsEdgeOf, held_names}
 
 abbrev pub invariant-loop-parent : goal.invariant-loop-parent
 invariant-loop-parent g l =

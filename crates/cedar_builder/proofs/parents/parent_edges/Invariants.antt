@@ -1,6 +1,6 @@
 use Rattle.std.proofs.Common.{map, take}
-use Rattle.cedar_builder.specs.Words.{HoldsPairwise, IsEdgeOf, held_names, named, parents_in}
 use Rattle.cedar_builder.proofs.parents.parent_edges.Given as goal
+use Rattle.cedar_builder.specs.Words.{HoldsPairwise, IsEdgeOf, held_names, named, parents_in}
 
 abbrev pub invariant-loop-item : goal.invariant-loop-item
 invariant-loop-item g l =

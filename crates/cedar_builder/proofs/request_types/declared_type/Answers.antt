@@ -1,8 +1,8 @@
 use Rattle.std.proofs.Common.{sym, ◌∙◌, ◌∷◌, inr, map}
 use Rattle.std.proofs.lemmas.Bool.{false≢true}
-use Rattle.cedar_builder.specs.Words.{type_name, undeclared_entity_types}
 use Rattle.cedar_builder.proofs.RequestTypes.{has_name}
 use Rattle.cedar_builder.proofs.request_types.declared_type.Goals as goal
+use Rattle.cedar_builder.specs.Words.{type_name, undeclared_entity_types}
 
 pub returns-then-contains_key-clause-declared : goal.returns-then-contains_key-clause-declared
 returns-then-contains_key-clause-declared g c =

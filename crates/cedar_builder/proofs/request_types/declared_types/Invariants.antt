@@ -1,7 +1,7 @@
 use Rattle.std.proofs.Common.{map, take}
-use Rattle.cedar_builder.specs.Words.{AreNamed, Entity, held_names, names_in, namespace_name, type_name}
 use Rattle.cedar_builder.proofs.RequestTypes.{AllPlaced}
 use Rattle.cedar_builder.proofs.request_types.declared_types.Given as goal
+use Rattle.cedar_builder.specs.Words.{AreNamed, Entity, held_names, names_in, namespace_name, type_name}
 
 abbrev pub invariant-loop-name : goal.invariant-loop-name
 invariant-loop-name g l =

@@ -1,11 +1,11 @@
 use Rattle.std.proofs.Common.{◌≡◌, [], Contains, ap, inl, inr, map, subst, sym, ◌∙◌, ⊎_elim}
-use Rattle.cedar_below.proofs.Lists.{Contains-cons, Contains-cons_cases}
-use Rattle.cedar_below.proofs.Uids.{entity_uid_ord-Equal}
-use Rattle.cedar_below.specs.EntityUID.{uid_of}
-use Rattle.cedar_below.specs.contracts.entity_uid.EntityUIDOrd.TheImpl as uid_ord
-use Rattle.cedar_compare.proofs.ToldLemmas.{none_there}
-use Rattle.cedar_fragments.proofs.SetLemmas.{inserted, only}
+use Rattle.cedar_ast.proofs.Lists.{Contains-cons, Contains-cons_cases}
+use Rattle.cedar_ast.proofs.Uids.{entity_uid_ord-Equal}
+use Rattle.cedar_ast.specs.EntityUID.{uid_of}
+use Rattle.cedar_ast.specs.contracts.entity_uid.EntityUIDOrd.TheImpl as uid_ord
+use Rattle.cedar_compare.proofs.ReportedLemmas.{none_there}
 use Rattle.cedar_compare.proofs.actions.ancestors_of.Goals as goal
+use Rattle.cedar_fragments.proofs.SetLemmas.{inserted, only}
 
 -- at first none of the ancestors is copied, and all are left
 pub loop-uid-init : goal.loop-uid-init

@@ -1,8 +1,8 @@
 use Rattle.std.proofs.Common.{subst}
 use Rattle.std.proofs.lemmas.Bool.{false≢true}
-use Rattle.cedar_compare.specs.Words.{IsDefinedKind, action_of, schema_of, uid_of}
 use Rattle.cedar_compare.proofs.FindLemmas.{defined_as, fails, not_external, not_fails}
 use Rattle.cedar_compare.proofs.actions.is_defined.Goals as goal
+use Rattle.cedar_compare.specs.Words.{IsDefinedKind, action_of, schema_of, uid_of}
 
 pub returns-in-Some : goal.returns-in-Some
 returns-in-Some c =

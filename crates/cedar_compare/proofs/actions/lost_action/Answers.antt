@@ -1,9 +1,9 @@
 use Rattle.std.proofs.Common.{Option, None, ap, subst, sym, ◌∙◌}
 use Rattle.std.proofs.lemmas.Bool.{false≢true}
 use Rattle.std.specs.Option.{option_map}
-use Rattle.cedar_compare.specs.Words.{Cause, IsActionAnswer, IsActionCause, IsEntityOfType, PlainUid, action_subject, entity_uid, new_of, old_of, plain_action_entity, plain_cause, uid_of}
 use Rattle.cedar_compare.proofs.ActionLemmas.{kept_defined, kept_of_type, lost_by_cause, of_type_alike}
 use Rattle.cedar_compare.proofs.actions.lost_action.Goals as goal
+use Rattle.cedar_compare.specs.Words.{Cause, IsActionAnswer, IsActionCause, IsEntityOfType, PlainUid, action_subject, entity_uid, new_of, old_of, plain_action_entity, plain_cause, uid_of}
 
 -- an entity that is of one of the new version's entity types is kept
 pub returns-then-is_bare_of_type : goal.returns-then-is_bare_of_type

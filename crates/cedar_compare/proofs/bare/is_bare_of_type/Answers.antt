@@ -1,10 +1,10 @@
 use Rattle.std.proofs.Common.{Contains, ap, subst, sym, ◌∙◌}
 use Rattle.std.proofs.lemmas.Bool.{false≢true}
-use Rattle.cedar_compare.specs.Words.{AreTagsOf, EntityTypeKind, Entries, Fields, Has, IsEntityOfKind, IsStandard, PlainUid, choice_texts, kind_fields, kind_openness, kind_tags, map_value, no_entry, plain_action_entity, plain_kind, plain_type, record_of, schema_of}
 use Rattle.cedar_compare.proofs.BareLemmas.{of_its_kind}
-use Rattle.cedar_compare.proofs.NoTags.{no_tags}
 use Rattle.cedar_compare.proofs.LostLemmas.{of_parts, parts_of}
+use Rattle.cedar_compare.proofs.NoTags.{no_tags}
 use Rattle.cedar_compare.proofs.bare.is_bare_of_type.Goals as goal
+use Rattle.cedar_compare.specs.Words.{AreTagsOf, EntityTypeKind, Entries, Fields, Has, IsEntityOfKind, IsStandard, PlainUid, choice_texts, kind_fields, kind_openness, kind_tags, map_value, no_entry, plain_action_entity, plain_kind, plain_type, record_of, schema_of}
 
 -- an entity whose entity type the schema lacks is of none
 pub returns-in_default : goal.returns-in_default
@@ -15,7 +15,8 @@ returns-in_default c = λ extensions.
       λ (ty, among, of). absurd (c.in_default.ensures ty (subst (λ n. Contains schema.entity_types (n, ty)) (sym typed) among)),
     )
 
--- no attribute is required, so the entity is of the type just where its ancestors may stand above it
+-- no attribute is required, so the entity is of the type just where its ancestors may stand above
+-- it
 pub returns-then-requires_nothing : goal.returns-then-requires_nothing
 returns-then-requires_nothing c = λ extensions.
     let schema = schema_of c.args.schema.now in

@@ -1,6 +1,6 @@
 use Rattle.std.proofs.Common.{ap, map, refl, sym, ◌∙◌}
 use Rattle.std.proofs.lemmas.Bool.{false≢true}
-use Rattle.cedar_below.specs.EntityUID.{uid_of}
+use Rattle.cedar_ast.specs.EntityUID.{uid_of}
 use Rattle.cedar_compare.proofs.bare.is_without_ancestors.Goals as goal
 
 pub returns-in-Some : goal.returns-in-Some

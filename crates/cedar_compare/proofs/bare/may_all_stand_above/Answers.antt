@@ -1,8 +1,8 @@
 use Rattle.std.proofs.Common.{ap, map, refl, subst, sym, ◌∙◌}
 use Rattle.std.proofs.lemmas.Bool.{false≢true}
-use Rattle.cedar_compare.specs.Words.{MayStandAbove, PlainUid, entity_ancestors, entity_uid, schema_of, uid_of}
 use Rattle.cedar_compare.proofs.LeftLemmas.{sure_all, sure_here, sure_more, sure_none}
 use Rattle.cedar_compare.proofs.bare.may_all_stand_above.Goals as goal
+use Rattle.cedar_compare.specs.Words.{MayStandAbove, PlainUid, entity_ancestors, entity_uid, schema_of, uid_of}
 
 pub loop-upper-init : goal.loop-upper-init
 loop-upper-init c =

@@ -1,7 +1,7 @@
 use Rattle.std.proofs.Common.{map}
-use Rattle.cedar_compare.specs.Words.{MayStandAbove, entity_ancestors, entity_uid, schema_of, uid_of}
 use Rattle.cedar_compare.proofs.LeftLemmas.{SureSoFar}
 use Rattle.cedar_compare.proofs.bare.may_all_stand_above.Given as goal
+use Rattle.cedar_compare.specs.Words.{MayStandAbove, entity_ancestors, entity_uid, schema_of, uid_of}
 
 abbrev pub invariant-loop-upper : goal.invariant-loop-upper
 invariant-loop-upper l =

@@ -1,8 +1,8 @@
 use Rattle.std.proofs.Common.{Contains, List, Option, subst, sym, ◌∙◌}
 use Rattle.std.proofs.lemmas.Bool.{false≢true}
-use Rattle.cedar_compare.specs.Words.{MayHave, Text, choice_texts, plain_type, schema_of, type_name, uid_of}
 use Rattle.cedar_compare.proofs.StandLemmas.{may_stand, stands_listed, stands_with}
 use Rattle.cedar_compare.proofs.bare.may_stand_above.Goals as goal
+use Rattle.cedar_compare.specs.Words.{MayHave, Text, choice_texts, plain_type, schema_of, type_name, uid_of}
 
 -- a uid whose entity type the schema lacks may stand above nothing
 pub returns-in_default : goal.returns-in_default

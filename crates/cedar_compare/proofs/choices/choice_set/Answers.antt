@@ -4,11 +4,11 @@ use Rattle.std.proofs.lemmas.Iterator.Adapters.{YieldsList-from_vec}
 use Rattle.std.proofs.lemmas.List.{map-id, take_all}
 use Rattle.std.specs.List.{list_any}
 use Rattle.std.specs.Ordering.{eq_by_cmp}
-use Rattle.cedar_below.proofs.Texts.{text_cmp-Equal}
-use Rattle.cedar_below.specs.contracts.eid.EidOrd.TheImpl as eid_ord
+use Rattle.cedar_ast.proofs.Texts.{text_cmp-Equal}
+use Rattle.cedar_ast.specs.contracts.eid.EidOrd.TheImpl as eid_ord
+use Rattle.cedar_compare.proofs.choices.choice_set.Goals as goal
 use Rattle.cedar_compare.specs.Words.{Eid, SameItems, choice_texts, eid_text}
 use Rattle.cedar_fragments.proofs.SetLemmas.{collected}
-use Rattle.cedar_compare.proofs.choices.choice_set.Goals as goal
 
 -- what is collected are the choices, first the head and then the others
 pub returns : goal.returns

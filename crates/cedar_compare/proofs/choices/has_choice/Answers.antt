@@ -1,11 +1,11 @@
 use Rattle.std.proofs.Common.{ap, inr, map, sym, ◌∙◌, ⊎_elim}
 use Rattle.std.proofs.lemmas.Bool.{false≢true}
 use Rattle.std.specs.List.{list_any}
-use Rattle.cedar_below.proofs.Ids.{eid_eq-same}
-use Rattle.cedar_below.proofs.Lists.{Contains-cons, Contains-cons_cases, list_any-Contains}
-use Rattle.cedar_compare.specs.Words.{Eid, eid_text}
-use Rattle.cedar_below.specs.contracts.eid.EidPartialEq.TheImpl as eid_eq
+use Rattle.cedar_ast.proofs.Ids.{eid_eq-same}
+use Rattle.cedar_ast.proofs.Lists.{Contains-cons, Contains-cons_cases, list_any-Contains}
+use Rattle.cedar_ast.specs.contracts.eid.EidPartialEq.TheImpl as eid_eq
 use Rattle.cedar_compare.proofs.choices.has_choice.Goals as goal
+use Rattle.cedar_compare.specs.Words.{Eid, eid_text}
 
 pub returns-else-eq : goal.returns-else-eq
 returns-else-eq c =

@@ -2,9 +2,9 @@ use Rattle.std.proofs.Common.{◌≤◌, All, List, ap, arith, length, subst}
 use Rattle.std.proofs.lemmas.Grind.{common_steps}
 use Rattle.std.proofs.lemmas.List.{take_all}
 use Rattle.std.proofs.lemmas.List.Elements.{All-more}
-use Rattle.cedar_compare.specs.Words.{Eid, Text, eid_text}
 use Rattle.cedar_compare.proofs.ChoiceLemmas.{each_image}
 use Rattle.cedar_compare.proofs.choices.longest_choice.Goals as goal
+use Rattle.cedar_compare.specs.Words.{Eid, Text, eid_text}
 
 pub loop-eid-preserved : goal.loop-eid-preserved
 loop-eid-preserved c =

@@ -1,5 +1,5 @@
 use Rattle.std.proofs.Common.{◌≤◌, All, length, take}
-use Rattle.cedar_below.specs.Eid.{eid_text}
+use Rattle.cedar_ast.specs.Eid.{eid_text}
 use Rattle.cedar_compare.proofs.choices.longest_choice.Given as goal
 
 abbrev pub invariant-loop-eid : goal.invariant-loop-eid

@@ -4,8 +4,8 @@ use Rattle.std.specs.List.Sorted.{IsPermutation}
 use Rattle.cedar_compare.proofs.CompareLemmas.{leaf_here, leaf_next, leaves_start}
 use Rattle.cedar_compare.proofs.LeftLemmas.{sure_all}
 use Rattle.cedar_compare.proofs.SampledLemmas.{schema_inhabited}
-use Rattle.cedar_compare.specs.Words.{GivesLeaf, IsInhabitedWith, TypeIterator, leaves_of, pending_types, schema_leaves, schema_of, ty_of, value_trees}
 use Rattle.cedar_compare.proofs.comparing.unsampled.Goals as goal
+use Rattle.cedar_compare.specs.Words.{GivesLeaf, IsInhabitedWith, TypeIterator, leaves_of, pending_types, schema_leaves, schema_of, ty_of, value_trees}
 
 -- at first all leaves of the types in the schema are left to be looked at
 pub loop-ty-init : goal.loop-ty-init

@@ -1,6 +1,6 @@
 use Rattle.cedar_compare.proofs.LeftLemmas.{SureSoFar}
-use Rattle.cedar_compare.specs.Words.{IsInhabitedWith, leaves_of, pending_types, schema_leaves, schema_of, value_trees}
 use Rattle.cedar_compare.proofs.comparing.unsampled.Given as goal
+use Rattle.cedar_compare.specs.Words.{IsInhabitedWith, leaves_of, pending_types, schema_leaves, schema_of, value_trees}
 
 abbrev pub invariant-loop-ty : goal.invariant-loop-ty
 invariant-loop-ty l =

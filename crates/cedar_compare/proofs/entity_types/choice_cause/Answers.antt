@@ -1,9 +1,9 @@
 use Rattle.std.proofs.Common.{Contains, ap, inl, subst, sym, ◌∙◌}
 use Rattle.std.proofs.lemmas.Bool.{false≢true}
-use Rattle.cedar_compare.specs.Words.{IsEnumerated, LacksChoice, PlainUid, SchemaEntityType, new_of, old_of, uid_of}
 use Rattle.cedar_compare.proofs.BareLemmas.{alike_enumerated, is_enumerated}
 use Rattle.cedar_compare.proofs.StandLemmas.{choice_of_kind}
 use Rattle.cedar_compare.proofs.entity_types.choice_cause.Goals as goal
+use Rattle.cedar_compare.specs.Words.{IsEnumerated, LacksChoice, PlainUid, SchemaEntityType, new_of, old_of, uid_of}
 
 pub returns-then-is_enumerated_at : goal.returns-then-is_enumerated_at
 returns-then-is_enumerated_at c = λ it named.

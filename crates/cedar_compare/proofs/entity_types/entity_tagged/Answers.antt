@@ -2,9 +2,9 @@ use Rattle.std.proofs.Common.{◌≡◌, ◌∷◌, [], List, ap, map, string_by
 use Rattle.std.specs.BTreeMap.{insert_entry}
 use Rattle.std.specs.declared.alloc.Global.{Global}
 use Rattle.std.specs.declared.string.String.{String}
-use Rattle.cedar_below.proofs.ValueCopies.{uid_real}
-use Rattle.cedar_compare.specs.Words.{IsFreshIn, IsValue, PlainUid, Text, Value, entries_from, entry, named_values, new_of, no_entry, tree_of, type_name, uid_of, uid_value, value_expr, value_tree}
+use Rattle.cedar_ast.proofs.ValueCopies.{uid_real}
 use Rattle.cedar_compare.proofs.entity_types.entity_tagged.Goals as goal
+use Rattle.cedar_compare.specs.Words.{IsFreshIn, IsValue, PlainUid, Text, Value, entries_from, entry, named_values, new_of, no_entry, tree_of, type_name, uid_of, uid_value, value_expr, value_tree}
 
 pub returns : goal.returns
 returns c =

@@ -1,12 +1,12 @@
 use Rattle.std.proofs.Common.{◌≡◌, [], List, Contains, ap, inl, inr, map, refl, subst, sym, ◌∙◌, ⊎_elim}
 use Rattle.std.proofs.lemmas.Bool.{false≢true}
-use Rattle.cedar_below.proofs.Lists.{Contains-preimage}
-use Rattle.cedar_compare.specs.Words.{ActionEntity, DefinesAction, ListsDescendantAction, PlainUid, entities_of, entity_uid, new_of, plain_action_entity}
+use Rattle.cedar_ast.proofs.Lists.{Contains-preimage}
 use Rattle.cedar_compare.proofs.ActionLemmas.{no_members}
 use Rattle.cedar_compare.proofs.EntityLemmas.{entity_found}
-use Rattle.cedar_compare.proofs.ToldLemmas.{none_there}
-use Rattle.cedar_declarations.proofs.OccurrenceLemmas.{Contains-image}
+use Rattle.cedar_compare.proofs.ReportedLemmas.{none_there}
 use Rattle.cedar_compare.proofs.entity_types.is_kept.Goals as goal
+use Rattle.cedar_compare.specs.Words.{ActionEntity, DefinesAction, ListsDescendantAction, PlainUid, entities_of, entity_uid, new_of, plain_action_entity}
+use Rattle.cedar_schema_semantics.proofs.OccurrenceLemmas.{Contains-image}
 
 -- an entity of one of the entity types of the new version is one of the new version
 pub returns-then-is_bare_of_type : goal.returns-then-is_bare_of_type

@@ -2,8 +2,8 @@ use Rattle.std.proofs.Common.{◌≡◌, List, Some, ap, inl, map, refl, subst, 
 use Rattle.std.proofs.lemmas.Option.{same_Some}
 use Rattle.std.proofs.lemmas.Result.{IfOk-weaker}
 use Rattle.std.specs.BTreeSet.{BTreeSet}
-use Rattle.cedar_compare.specs.Words.{AreKept, Eid, EntityTypeKind, IsEntityOfKind, SameItems, Text, bare_entity, choice_texts, eid_text, enumerated_kind, external_kind, kind_choices, new_of, plain_type, standard_kind, type_name}
 use Rattle.cedar_compare.proofs.entity_types.kept_choices.Goals as goal
+use Rattle.cedar_compare.specs.Words.{AreKept, Eid, EntityTypeKind, IsEntityOfKind, SameItems, Text, bare_entity, choice_texts, eid_text, enumerated_kind, external_kind, kind_choices, new_of, plain_type, standard_kind, type_name}
 
 -- a kind that has choices is enumerated
 with_choices : (kind : EntityTypeKind) (choices : List Text) → Some choices ≡ kind_choices kind → kind ≡ enumerated_kind choices

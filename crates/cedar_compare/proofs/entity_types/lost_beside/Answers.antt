@@ -1,8 +1,8 @@
 use Rattle.std.proofs.Common.{Option, subst}
 use Rattle.std.specs.Option.{option_map}
-use Rattle.cedar_compare.specs.Words.{IsTagOutside, Outside, kind_tags, named_values, new_of, old_of, plain_action_entity, plain_outside, plain_type, steps_of, type_name, value_tree}
 use Rattle.cedar_compare.proofs.LostLemmas.{tags_loss}
 use Rattle.cedar_compare.proofs.entity_types.lost_beside.Goals as goal
+use Rattle.cedar_compare.specs.Words.{IsTagOutside, Outside, kind_tags, named_values, new_of, old_of, plain_action_entity, plain_outside, plain_type, steps_of, type_name, value_tree}
 
 pub returns-in-Some : goal.returns-in-Some
 returns-in-Some c =

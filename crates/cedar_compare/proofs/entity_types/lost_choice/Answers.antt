@@ -1,8 +1,8 @@
 use Rattle.std.proofs.Common.{ap, refl, subst, sym, ◌∙◌}
 use Rattle.std.proofs.lemmas.Bool.{false≢true}
-use Rattle.cedar_compare.specs.Words.{ActionEntity, EntityTypeKind, IsEntityIn, IsEntityOfKind, IsEntityOfType, PlainUid, bare_entity, eid_text, new_of, old_of, plain_action_entity, type_name, type_subject}
 use Rattle.cedar_compare.proofs.EntityLemmas.{real_entity}
 use Rattle.cedar_compare.proofs.entity_types.lost_choice.Goals as goal
+use Rattle.cedar_compare.specs.Words.{ActionEntity, EntityTypeKind, IsEntityIn, IsEntityOfKind, IsEntityOfType, PlainUid, bare_entity, eid_text, new_of, old_of, plain_action_entity, type_name, type_subject}
 
 -- the choice's entity is one of the new version
 pub returns-then-is_kept : goal.returns-then-is_kept

@@ -1,6 +1,6 @@
 use Rattle.std.proofs.Common.{All, take}
-use Rattle.cedar_compare.specs.Words.{IsEntityIn, bare_entity, eid_text, new_of, type_name}
 use Rattle.cedar_compare.proofs.entity_types.lost_enumerated.Given as goal
+use Rattle.cedar_compare.specs.Words.{IsEntityIn, bare_entity, eid_text, new_of, type_name}
 
 abbrev pub invariant-loop-eid : goal.invariant-loop-eid
 invariant-loop-eid l = record {

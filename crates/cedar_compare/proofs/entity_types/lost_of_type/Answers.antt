@@ -1,7 +1,7 @@
 use Rattle.std.proofs.Common.{Contains, ap, subst, sym}
 use Rattle.cedar_compare.proofs.BareLemmas.{of_its_kind}
-use Rattle.cedar_compare.specs.Words.{EntityTypeKind, IsEntityOfKind, old_of, plain_kind, plain_type}
 use Rattle.cedar_compare.proofs.entity_types.lost_of_type.Goals as goal
+use Rattle.cedar_compare.specs.Words.{EntityTypeKind, IsEntityOfKind, old_of, plain_kind, plain_type}
 
 pub returns-in_default : goal.returns-in_default
 returns-in_default c = λ it named real (ty, there, of).

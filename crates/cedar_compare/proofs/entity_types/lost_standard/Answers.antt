@@ -1,10 +1,10 @@
 use Rattle.std.proofs.Common.{◌≡◌, IfSome, Option, subst, sym, ◌∙◌}
 use Rattle.std.proofs.lemmas.Bool.{false≢true}
-use Rattle.cedar_compare.specs.Words.{AreInhabitedWith, AttributesOutside, Has, IsOutsideAt, IsStandard, IsValue, SchemaEntityType, ValuesIncluded, fields_of, kind_fields, kind_openness, map_value, named_values, new_of, old_of, plain_action_entity, plain_type, record_of, steps_of, type_name, value_trees}
 use Rattle.cedar_compare.proofs.AnswerLemmas.{standard_answered}
 use Rattle.cedar_compare.proofs.LostLemmas.{attributes_loss}
 use Rattle.cedar_compare.proofs.SampledLemmas.{attributes_sampled}
 use Rattle.cedar_compare.proofs.entity_types.lost_standard.Goals as goal
+use Rattle.cedar_compare.specs.Words.{AreInhabitedWith, AttributesOutside, Has, IsOutsideAt, IsStandard, IsValue, SchemaEntityType, ValuesIncluded, fields_of, kind_fields, kind_openness, map_value, named_values, new_of, old_of, plain_action_entity, plain_type, record_of, steps_of, type_name, value_trees}
 
 -- the samples inhabit the types of the attributes, as they do all types in the old version
 pub attributes_outside-requires : goal.attributes_outside-requires
@@ -16,8 +16,8 @@ attributes_outside-requires c =
     c.requires.versions.sampled c.requires.old c.requires.standard)
 
 -- the new version has one entity type of the name, and it isn't standard
-pub gone-requires-then-not-is_standard-clause-lacking : goal.gone-requires-then-not-is_standard-clause-lacking
-gone-requires-then-not-is_standard-clause-lacking c = λ other among standard.
+pub removed-requires-then-not-is_standard-clause-lacking : goal.removed-requires-then-not-is_standard-clause-lacking
+removed-requires-then-not-is_standard-clause-lacking c = λ other among standard.
     let new = plain_type c.in-Some.new.now in
     let same = c.requires.versions.new_keyed.types (type_name c.args.name.now) other new among c.in-Some.ensures in
     false≢true (sym c.if-not-is_standard.true ∙ c.is_standard.ensures.1 (subst (λ (t : SchemaEntityType). IsStandard t.kind) same standard))
@@ -51,7 +51,8 @@ returns-in-Some-found c =
     (subst (λ t. IsOutsideAt extensions (steps_of found.steps) t (record_of (kind_fields new.kind) (kind_openness new.kind))) lower
     (subst (IsOutsideAt extensions (steps_of found.steps) (record_of (fields_of c.attributes.result.now) c.open_attributes.result)) upper steps))
 
--- where the new version admits all attributes of the old one, the answer is what is found beside them
+-- where the new version admits all attributes of the old one, the answer is what is found beside
+-- them
 pub returns : goal.returns
 returns c =
     let versions = c.args.versions.now in

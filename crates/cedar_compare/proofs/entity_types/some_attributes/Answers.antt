@@ -1,7 +1,7 @@
 use Rattle.std.proofs.Common.{subst, sym}
-use Rattle.cedar_compare.specs.Words.{AreInhabitedWith, old_of, plain_type, type_name, value_trees}
 use Rattle.cedar_compare.proofs.SampledLemmas.{attributes_sampled}
 use Rattle.cedar_compare.proofs.entity_types.some_attributes.Goals as goal
+use Rattle.cedar_compare.specs.Words.{AreInhabitedWith, old_of, plain_type, type_name, value_trees}
 
 pub sample_attributes-requires : goal.sample_attributes-requires
 sample_attributes-requires c =

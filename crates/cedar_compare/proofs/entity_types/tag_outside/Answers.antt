@@ -1,8 +1,8 @@
 use Rattle.std.proofs.Common.{sym}
-use Rattle.cedar_compare.specs.Words.{kind_tags, old_of, plain_type, ty_of, type_name, value_trees}
 use Rattle.cedar_compare.proofs.SampledLemmas.{tags_sampled}
 use Rattle.cedar_compare.proofs.TagLemmas.{tags_answered}
 use Rattle.cedar_compare.proofs.entity_types.tag_outside.Goals as goal
+use Rattle.cedar_compare.specs.Words.{kind_tags, old_of, plain_type, ty_of, type_name, value_trees}
 
 pub outside-requires : goal.outside-requires
 outside-requires c =

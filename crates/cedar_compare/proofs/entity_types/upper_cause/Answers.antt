@@ -1,8 +1,8 @@
 use Rattle.std.proofs.Common.{Contains, inr, subst, sym, ◌∙◌}
 use Rattle.std.proofs.lemmas.Bool.{false≢true}
-use Rattle.cedar_compare.specs.Words.{LacksChoice, ListsDescendant, new_of, old_of, type_name, uid_of}
 use Rattle.cedar_compare.proofs.StandLemmas.{may_stand}
 use Rattle.cedar_compare.proofs.entity_types.upper_cause.Goals as goal
+use Rattle.cedar_compare.specs.Words.{LacksChoice, ListsDescendant, new_of, old_of, type_name, uid_of}
 
 pub returns-then-lists_type : goal.returns-then-lists_type
 returns-then-lists_type c = λ it named among.

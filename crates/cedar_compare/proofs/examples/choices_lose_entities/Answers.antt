@@ -1,8 +1,8 @@
 use Rattle.std.proofs.Common.{[], codes, arith, inl, refl, ⊎_elim}
-use Rattle.cedar_below.proofs.Lists.{Contains-cons, Contains-cons_cases}
+use Rattle.cedar_ast.proofs.Lists.{Contains-cons, Contains-cons_cases}
 use Rattle.cedar_compare.proofs.UserLemmas.{users_lose}
-use Rattle.cedar_compare.specs.Samples.{choice}
 use Rattle.cedar_compare.proofs.examples.choices_lose_entities.Goals as goal
+use Rattle.cedar_compare.specs.Samples.{choice}
 
 pub returns : goal.returns
 unfolding lib.Utf8.encode

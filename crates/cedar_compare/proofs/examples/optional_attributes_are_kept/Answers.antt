@@ -1,9 +1,9 @@
 use Rattle.std.proofs.Common.{false, codes, arith, inr, refl}
-use Rattle.cedar_below.proofs.Inclusion.{Included-none}
-use Rattle.cedar_compare.specs.Words.{ClosedAttributes, Gives, end, field, field_names, long, map_value, record_of, with_age, without_attributes}
+use Rattle.cedar_ast.proofs.Inclusion.{Included-none}
 use Rattle.cedar_compare.proofs.UserLemmas.{nothing_above, users_keep}
-use Rattle.cedar_type_rules.proofs.ValueInclusion.{HasBy-included}
 use Rattle.cedar_compare.proofs.examples.optional_attributes_are_kept.Goals as goal
+use Rattle.cedar_compare.specs.Words.{ClosedAttributes, Gives, end, field, field_names, long, map_value, record_of, with_age, without_attributes}
+use Rattle.cedar_type_rules.proofs.ValueInclusion.{HasBy-included}
 
 pub returns : goal.returns
 returns c extensions = users_keep extensions without_attributes (with_age false) (λ it of. (

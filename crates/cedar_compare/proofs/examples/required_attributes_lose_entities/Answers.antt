@@ -1,8 +1,8 @@
 use Rattle.std.proofs.Common.{◌≡◌, true, false, [], arith, refl}
-use Rattle.cedar_below.proofs.ValueLemmas.{IsText-nil}
+use Rattle.cedar_ast.proofs.ValueLemmas.{IsText-nil}
 use Rattle.cedar_compare.proofs.UserLemmas.{users_lose}
-use Rattle.cedar_compare.specs.Samples.{with_age, without_attributes}
 use Rattle.cedar_compare.proofs.examples.required_attributes_lose_entities.Goals as goal
+use Rattle.cedar_compare.specs.Samples.{with_age, without_attributes}
 
 pub returns : goal.returns
 returns c extensions = users_lose extensions without_attributes (with_age true) [] IsText-nil

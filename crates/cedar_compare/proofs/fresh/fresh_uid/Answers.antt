@@ -1,8 +1,8 @@
 use Rattle.std.proofs.Common.{◌≤◌, ap, arith, length, ◌∙◌}
 use Rattle.std.proofs.lemmas.Grind.{common_steps}
-use Rattle.cedar_compare.specs.Words.{schema_of, type_name, uid_of}
 use Rattle.cedar_compare.proofs.FreshLemmas.{fresh_of}
 use Rattle.cedar_compare.proofs.fresh.fresh_uid.Goals as goal
+use Rattle.cedar_compare.specs.Words.{schema_of, type_name, uid_of}
 
 pub returns : goal.returns
 returns c =

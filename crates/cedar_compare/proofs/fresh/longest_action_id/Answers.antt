@@ -1,12 +1,12 @@
 use Rattle.std.proofs.Common.{◌≤◌, ap, arith, length, map, sym, ◌∙◌}
 use Rattle.std.proofs.lemmas.Bool.{false≢true}
 use Rattle.std.proofs.lemmas.Grind.{common_steps}
-use Rattle.cedar_below.proofs.Names.{entity_type_eq-same}
-use Rattle.cedar_compare.specs.Words.{action_entries, action_of, schema_of, type_name, uid_of}
+use Rattle.cedar_ast.proofs.Names.{entity_type_eq-same}
 use Rattle.cedar_compare.proofs.FindLemmas.{plain_keys}
 use Rattle.cedar_compare.proofs.FreshLemmas.{IsNoLonger}
 use Rattle.cedar_compare.proofs.LeftLemmas.{sure_more, sure_none}
 use Rattle.cedar_compare.proofs.fresh.longest_action_id.Goals as goal
+use Rattle.cedar_compare.specs.Words.{action_entries, action_of, schema_of, type_name, uid_of}
 
 pub loop-uid-init : goal.loop-uid-init
 loop-uid-init c =

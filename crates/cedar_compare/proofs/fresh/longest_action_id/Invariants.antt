@@ -1,8 +1,8 @@
 use Rattle.std.proofs.Common.{map}
-use Rattle.cedar_compare.specs.Words.{schema_of, type_name, uid_of}
 use Rattle.cedar_compare.proofs.FreshLemmas.{IsNoLonger}
 use Rattle.cedar_compare.proofs.LeftLemmas.{SureSoFar}
 use Rattle.cedar_compare.proofs.fresh.longest_action_id.Given as goal
+use Rattle.cedar_compare.specs.Words.{schema_of, type_name, uid_of}
 
 abbrev pub invariant-loop-uid : goal.invariant-loop-uid
 invariant-loop-uid l =

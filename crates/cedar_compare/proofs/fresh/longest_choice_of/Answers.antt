@@ -1,7 +1,7 @@
 use Rattle.std.proofs.Common.{◌≡◌, None, Some, List, ap, subst, sym, ◌∙◌, Contains}
 use Rattle.std.proofs.lemmas.Option.{same_Some}
-use Rattle.cedar_compare.specs.Words.{SchemaEntityType, Text, choice_texts, kind_choices, plain_type, type_name}
 use Rattle.cedar_compare.proofs.fresh.longest_choice_of.Goals as goal
+use Rattle.cedar_compare.specs.Words.{SchemaEntityType, Text, choice_texts, kind_choices, plain_type, type_name}
 
 pub returns-in-Some-choices_of : goal.returns-in-Some-choices_of
 returns-in-Some-choices_of c = λ it choices id there are among.

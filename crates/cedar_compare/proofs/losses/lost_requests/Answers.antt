@@ -1,9 +1,9 @@
 use Rattle.std.proofs.Common.{List, ap, map, subst, sym, ◌∙◌}
 use Rattle.std.specs.List.Sorted.{IsStrictlySortedBy}
-use Rattle.cedar_compare.specs.Words.{EntityUID, action_entries, action_of, new_of, old_of, plain_difference, uid_cmp, uid_of}
 use Rattle.cedar_compare.proofs.CompareLemmas.{requests_all, requests_next, requests_start}
 use Rattle.cedar_compare.proofs.FindLemmas.{plain_keys}
 use Rattle.cedar_compare.proofs.losses.lost_requests.Goals as goal
+use Rattle.cedar_compare.specs.Words.{EntityUID, action_entries, action_of, new_of, old_of, plain_difference, uid_cmp, uid_of}
 
 pub loop-uid-init : goal.loop-uid-init
 loop-uid-init c =

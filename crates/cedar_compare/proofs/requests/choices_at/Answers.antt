@@ -1,7 +1,7 @@
 use Rattle.std.proofs.Common.{List, Option, subst, sym}
-use Rattle.cedar_compare.specs.Words.{AreChoicesAt, Text, plain_type, schema_of, type_name}
 use Rattle.cedar_compare.proofs.FindLemmas.{choices_there}
 use Rattle.cedar_compare.proofs.requests.choices_at.Goals as goal
+use Rattle.cedar_compare.specs.Words.{AreChoicesAt, Text, plain_type, schema_of, type_name}
 
 pub returns-in-Some : goal.returns-in-Some
 returns-in-Some c =

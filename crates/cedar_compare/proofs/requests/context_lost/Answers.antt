@@ -1,9 +1,9 @@
 use Rattle.std.proofs.Common.{Option, refl, subst, sym}
 use Rattle.std.specs.Option.{option_map}
-use Rattle.cedar_below.proofs.ValueCopies.{uid_real}
-use Rattle.cedar_compare.specs.Words.{Has, IsContextOutside, Outside, Request, Tree, context_at, new_action, new_of, old_of, plain_outside, plain_request, steps_of, ty_of, type_name, uid_of, value_tree}
+use Rattle.cedar_ast.proofs.ValueCopies.{uid_real}
 use Rattle.cedar_compare.proofs.RequestSteps.{context_answer}
 use Rattle.cedar_compare.proofs.requests.context_lost.Goals as goal
+use Rattle.cedar_compare.specs.Words.{Has, IsContextOutside, Outside, Request, Tree, context_at, new_action, new_of, old_of, plain_outside, plain_request, steps_of, ty_of, type_name, uid_of, value_tree}
 
 -- the request has the value that is outside as its context
 pub returns : goal.returns

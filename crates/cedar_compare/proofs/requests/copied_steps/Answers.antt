@@ -1,10 +1,10 @@
 use Rattle.std.proofs.Common.{Global, Vec, ap, map, sym, ◌∙◌}
 use Rattle.std.proofs.lemmas.List.{take_all}
 use Rattle.cedar_compare.proofs.RequestSteps.{copied_more}
-use Rattle.cedar_compare.specs.Words.{Step, attribute_step, step_of}
-use Rattle.cedar_counterexample.specs.declared.steps.Step.TheVariants as step
 use Rattle.cedar_compare.proofs.requests.copied_steps.Goals as goal
 use Rattle.cedar_compare.proofs.requests.copied_steps.Goals.{in-Attribute+in_ok-clone-in-Attribute+in_ok-push-in-Attribute, in-Element+in_ok-push-in-Element}
+use Rattle.cedar_compare.specs.Words.{Step, attribute_step, step_of}
+use Rattle.cedar_counterexample.specs.declared.steps.Step.TheVariants as step
 
 pub loop-step-preserved : goal.loop-step-preserved
 loop-step-preserved c =

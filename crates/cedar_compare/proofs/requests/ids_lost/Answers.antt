@@ -1,8 +1,8 @@
 use Rattle.std.proofs.Common.{◌≡◌, Option, None, Some, inl, inr, refl, subst, sym}
 use Rattle.std.specs.Option.{option_map}
-use Rattle.cedar_compare.specs.Words.{EntityUID, IsContextOutside, IsUidOutside, LacksChoice, Outside, PlainName, PlainSchema, PlainUid, context_at, environment_with, new_action, new_of, old_of, plain_outside, plain_request, ty_of, type_name, uid_of}
 use Rattle.cedar_compare.proofs.RequestSteps.{choice_answer, environment_context, kept_answer}
 use Rattle.cedar_compare.proofs.requests.ids_lost.Goals as goal
+use Rattle.cedar_compare.specs.Words.{EntityUID, IsContextOutside, IsUidOutside, LacksChoice, Outside, PlainName, PlainSchema, PlainUid, context_at, environment_with, new_action, new_of, old_of, plain_outside, plain_request, ty_of, type_name, uid_of}
 
 -- where no uid is found, none is outside
 none_outside : (old new : PlainSchema) (name : PlainName) (found : Option EntityUID) → ((uid : EntityUID) → found ≡ Some uid → ⊥)

@@ -1,10 +1,10 @@
 use Rattle.std.proofs.Common.{ap, map, refl, ◌∙◌}
 use Rattle.std.proofs.lemmas.Iterator.Consumers.{YieldsList-from_rest}
 use Rattle.std.specs.Map.Iter.{deref}
-use Rattle.itertools.proofs.AdaptorLemmas.{items_from_whole_run}
+use Rattle.cedar_compare.proofs.requests.listed.Goals as goal
 use Rattle.cedar_compare.specs.Words.{type_name}
 use Rattle.cedar_queries.proofs.BorrowedLemmas.{borrowed, borrowed_shown}
-use Rattle.cedar_compare.proofs.requests.listed.Goals as goal
+use Rattle.itertools.proofs.AdaptorLemmas.{items_from_whole_run}
 
 pub returns : goal.returns
 returns c =

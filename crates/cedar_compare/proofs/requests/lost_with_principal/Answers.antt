@@ -1,13 +1,13 @@
 use Rattle.std.proofs.Common.{◌≡◌, ◌+◌, ◌++◌, [], ◌∷◌, Bor, List, Option, Vec, Global, ap, drop, map, subst, sym, ◌∙◌}
 use Rattle.std.proofs.lemmas.List.{drop_all}
 use Rattle.std.specs.Option.{option_map}
-use Rattle.cedar_below.proofs.TreeLemmas.{drop-at}
-use Rattle.cedar_compare.specs.Words.{Difference, EntityType, IsAnswer, IsEnvironmentOf, PlainDifference, PlainName, Subject, environment_subject, environment_with, new_of, old_of, plain_difference, subjects_with, type_name, uid_of}
+use Rattle.cedar_ast.proofs.TreeLemmas.{drop-at}
 use Rattle.cedar_compare.proofs.AllLemmas.{subjects_sorted}
-use Rattle.cedar_compare.proofs.RequestSteps.{kept_none, told_found}
-use Rattle.cedar_compare.proofs.ToldLemmas.{AnswersSoFar, map_append, told_all, told_kept, told_none}
+use Rattle.cedar_compare.proofs.ReportedLemmas.{AnswersSoFar, map_append, reported_all, reported_kept, reported_none}
+use Rattle.cedar_compare.proofs.RequestSteps.{kept_none, reported_found}
 use Rattle.cedar_compare.proofs.requests.lost_with_principal.Goals as goal
 use Rattle.cedar_compare.proofs.requests.lost_with_principal.Goals.{in-Some+in_ok-push, in_default}
+use Rattle.cedar_compare.specs.Words.{Difference, EntityType, IsAnswer, IsEnvironmentOf, PlainDifference, PlainName, Subject, environment_subject, environment_with, new_of, old_of, plain_difference, subjects_with, type_name, uid_of}
 
 -- the names of some entity types
 abbrev names : List (Bor EntityType) → List PlainName
@@ -21,7 +21,7 @@ loop-resource-init c =
     let all = subjects_with uid principal (names c.args.resources.now) in
     let P : List PlainDifference → Type 0 = AnswersSoFar versions.extensions.now (old_of versions) (new_of versions) all all in
     subst P (sym (ap (map plain_difference) c.new-lost.ensures.items))
-    (told_none versions.extensions.now (old_of versions) (new_of versions) all
+    (reported_none versions.extensions.now (old_of versions) (new_of versions) all
     (subjects_sorted uid principal (names c.args.resources.now) c.requires.ordered))
 
 pub lost_request-requires-clause-asked : goal.lost_request-requires-clause-asked
@@ -43,25 +43,25 @@ loop-resource-preserved c =
     let all = subjects_with uid principal (names resources) in
     let first = environment_subject principal uid (type_name c.resource-item.result.now) in
     let rest = subjects_with uid principal (names (drop (i + 1) resources)) in
-    let told = map plain_difference c.loop-resource.lost.items in
+    let reported = map plain_difference c.loop-resource.lost.items in
     let left : subjects_with uid principal (names (drop i resources)) ≡ first ∷ rest =
     ap (λ (types : List (Bor EntityType)). subjects_with uid principal (names types))
     (drop-at resources i c.resource-item.result c.loop-resource-test.true c.resource-item.is) in
-    let P : List Subject → Type 0 = λ subjects. AnswersSoFar extensions old new all subjects told in
+    let P : List Subject → Type 0 = λ subjects. AnswersSoFar extensions old new all subjects reported in
     let so_far = subst P left c.loop-resource.invariant in
     let Q : Option Difference → Type 0 = λ found. IsAnswer extensions old new first (option_map plain_difference found) in
     let R : List PlainDifference → Type 0 = AnswersSoFar extensions old new all rest in
     elim c.match-branch-2.branch [
       | in-Some+in_ok-push w ↦
           let it = w.in-Some.difference in
-          let is : map plain_difference c.match-branch-2.lost.items ≡ told ++ plain_difference it ∷ [] =
+          let is : map plain_difference c.match-branch-2.lost.items ≡ reported ++ plain_difference it ∷ [] =
           ap (λ (lost : Vec Difference Global). map plain_difference lost.items) w.lost-is
           ∙ (ap (map plain_difference) w.in_ok-push.ensures.items ∙ map_append plain_difference c.loop-resource.lost.items (it ∷ [])) in
-          subst R (sym is) (told_found extensions old new all rest told first (plain_difference it)
+          subst R (sym is) (reported_found extensions old new all rest reported first (plain_difference it)
           (subst Q w.in-Some.is c.in_ok-difference.ensures) so_far)
       | in_default w ↦
           subst R (sym (ap (λ (lost : Vec Difference Global). map plain_difference lost.items) w.lost-is))
-          (told_kept extensions old new all rest told first (kept_none plain_difference extensions old new first
+          (reported_kept extensions old new all rest reported first (kept_none plain_difference extensions old new first
           c.in_ok-difference.field-0 w.in_default.not-Some c.in_ok-difference.ensures) so_far)
     ]
 
@@ -71,7 +71,7 @@ returns c =
     let uid = uid_of c.args.requests.now.uid.now in
     let principal = type_name c.args.principal.now in
     let resources = c.args.resources.now in
-    told_all versions.extensions.now (old_of versions) (new_of versions) (subjects_with uid principal (names resources))
+    reported_all versions.extensions.now (old_of versions) (new_of versions) (subjects_with uid principal (names resources))
     (subjects_with uid principal (names (drop c.loop-resource.resource-index resources))) (map plain_difference c.loop-resource.lost.items)
     (ap (λ (types : List (Bor EntityType)). subjects_with uid principal (names types))
     (drop_all c.loop-resource.resource-index resources c.loop-resource-test.false))

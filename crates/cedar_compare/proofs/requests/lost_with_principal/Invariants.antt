@@ -1,7 +1,7 @@
 use Rattle.std.proofs.Common.{drop, map}
-use Rattle.cedar_compare.specs.Words.{new_of, old_of, plain_difference, subjects_with, type_name, uid_of}
-use Rattle.cedar_compare.proofs.ToldLemmas.{AnswersSoFar}
+use Rattle.cedar_compare.proofs.ReportedLemmas.{AnswersSoFar}
 use Rattle.cedar_compare.proofs.requests.lost_with_principal.Given as goal
+use Rattle.cedar_compare.specs.Words.{new_of, old_of, plain_difference, subjects_with, type_name, uid_of}
 
 abbrev pub invariant-loop-resource : goal.invariant-loop-resource
 invariant-loop-resource l =

@@ -2,11 +2,11 @@ use Rattle.std.proofs.Common.{◌≡◌, ◌+◌, ◌++◌, [], ◌∷◌, All, 
 use Rattle.std.proofs.lemmas.List.{take-append-drop, take_all, take_more}
 use Rattle.std.specs.List.{flat_map}
 use Rattle.std.specs.List.Sorted.{IsStrictlySortedBy}
-use Rattle.cedar_below.proofs.TreeLemmas.{drop-at}
-use Rattle.cedar_compare.specs.Words.{AreAnswers, EntityType, IsEnvironmentOf, PlainDifference, PlainName, environment_with, name_cmp, new_of, old_of, plain_difference, subjects_with, type_name, uid_of}
+use Rattle.cedar_ast.proofs.TreeLemmas.{drop-at}
+use Rattle.cedar_compare.proofs.ReportedLemmas.{answered_none, map_append}
 use Rattle.cedar_compare.proofs.RequestSteps.{principals_more}
-use Rattle.cedar_compare.proofs.ToldLemmas.{answered_none, map_append}
 use Rattle.cedar_compare.proofs.requests.lost_with_principals.Goals as goal
+use Rattle.cedar_compare.specs.Words.{AreAnswers, EntityType, IsEnvironmentOf, PlainDifference, PlainName, environment_with, name_cmp, new_of, old_of, plain_difference, subjects_with, type_name, uid_of}
 
 -- the names of some entity types
 abbrev names : List (Bor EntityType) → List PlainName
@@ -37,7 +37,7 @@ loop-principal-preserved c =
     let item = c.principal-item.result in
     let front = names (take i principals) in
     let rest = names (drop (i + 1) principals) in
-    let told = map plain_difference c.loop-principal.lost.items in
+    let reported = map plain_difference c.loop-principal.lost.items in
     let more = map plain_difference c.in_ok-more.more.items in
     let parts : front ++ type_name item.now ∷ rest ≡ names principals =
     sym (map_append (λ (ty : Bor EntityType). type_name ty.now) (take i principals) (item ∷ drop (i + 1) principals))
@@ -48,15 +48,15 @@ loop-principal-preserved c =
     ap names (take_more principals i item c.loop-principal-test.true
     ∙ ap (λ (ty : Bor EntityType). take i principals ++ ty ∷ []) (sym c.principal-item.is))
     ∙ map_append (λ (ty : Bor EntityType). type_name ty.now) (take i principals) (item ∷ []) in
-    let told_more : map plain_difference c.append.new.self.items ≡ told ++ more =
+    let reported_more : map plain_difference c.append.new.self.items ≡ reported ++ more =
     ap (map plain_difference) c.in_ok-append.ensures.items
     ∙ map_append plain_difference c.loop-principal.lost.items c.in_ok-more.more.items in
     let P : List PlainName → Type 0 = IsStrictlySortedBy name_cmp in
-    let Q : List PlainName → Type 0 = λ ps. AreAnswers extensions old new (flat_map (λ p. subjects_with uid p resources) ps) (told ++ more) in
+    let Q : List PlainName → Type 0 = λ ps. AreAnswers extensions old new (flat_map (λ p. subjects_with uid p resources) ps) (reported ++ more) in
     let R : List PlainDifference → Type 0 =
     AreAnswers extensions old new (flat_map (λ p. subjects_with uid p resources) (names (take (i + 1) principals))) in
-    subst R (sym told_more) (subst Q (sym front_more)
-    (principals_more extensions old new uid resources front (type_name item.now) rest told more (subst P (sym parts) c.requires.ordered)
+    subst R (sym reported_more) (subst Q (sym front_more)
+    (principals_more extensions old new uid resources front (type_name item.now) rest reported more (subst P (sym parts) c.requires.ordered)
     c.loop-principal.invariant c.in_ok-more.ensures))
 
 pub returns : goal.returns

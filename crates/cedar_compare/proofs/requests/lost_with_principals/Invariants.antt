@@ -1,7 +1,7 @@
 use Rattle.std.proofs.Common.{map, take}
 use Rattle.std.specs.List.{flat_map}
-use Rattle.cedar_compare.specs.Words.{AreAnswers, new_of, old_of, plain_difference, subjects_with, type_name, uid_of}
 use Rattle.cedar_compare.proofs.requests.lost_with_principals.Given as goal
+use Rattle.cedar_compare.specs.Words.{AreAnswers, new_of, old_of, plain_difference, subjects_with, type_name, uid_of}
 
 abbrev pub invariant-loop-principal : goal.invariant-loop-principal
 invariant-loop-principal l =

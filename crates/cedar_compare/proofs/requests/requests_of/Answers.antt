@@ -1,9 +1,9 @@
 use Rattle.std.proofs.Common.{◌≡◌, ◌↔◌, rules, Bor, Option, None, Some, ap, refl, subst, sym, ◌∙◌}
 use Rattle.std.specs.Option.{IfSome, MatchOption, option_copied, option_map}
-use Rattle.cedar_compare.specs.Words.{Extensions, Has, IsContextOutside, IsOutsideAt, IsValue, Outside, Ty, «Type», ValidatorActionId, ValuesIncluded, action_of, context_at, kind_context, old_of, plain_outside, steps_of, ty_of, value_tree, value_trees}
 use Rattle.cedar_compare.proofs.SampledLemmas.{context_sampled}
 use Rattle.cedar_compare.proofs.requests.requests_of.Goals as goal
 use Rattle.cedar_compare.proofs.requests.requests_of.Goals.{in-Some+in_ok-found-in-Some, in-None}
+use Rattle.cedar_compare.specs.Words.{Extensions, Has, IsContextOutside, IsOutsideAt, IsValue, Outside, Ty, «Type», ValidatorActionId, ValuesIncluded, action_of, context_at, kind_context, old_of, plain_outside, steps_of, ty_of, value_tree, value_trees}
 
 -- what a call finds is the context of the action, if there is one
 called : (o : Option (Bor ValidatorActionId)) (r : Option (Bor «Type»))

@@ -1,8 +1,8 @@
 use Rattle.std.proofs.Common.{refl}
-use Rattle.cedar_below.proofs.ValueCopies.{uid_real}
+use Rattle.cedar_ast.proofs.ValueCopies.{uid_real}
 use Rattle.cedar_compare.proofs.SampledLemmas.{context_sampled}
-use Rattle.cedar_compare.specs.Words.{old_of, ty_of, value_trees}
 use Rattle.cedar_compare.proofs.requests.sample_request.Goals as goal
+use Rattle.cedar_compare.specs.Words.{old_of, ty_of, value_trees}
 
 pub sample_value-requires : goal.sample_value-requires
 sample_value-requires c =

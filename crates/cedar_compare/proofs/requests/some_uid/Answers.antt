@@ -1,8 +1,8 @@
 use Rattle.std.proofs.Common.{◌≡◌, subst, sym, ◌∙◌}
 use Rattle.std.specs.Option.{option_copied, option_map}
-use Rattle.cedar_compare.specs.Words.{MayHave, Text, choice_texts, old_of, type_name, uid_of}
 use Rattle.cedar_compare.proofs.RequestLemmas.{may_have_id}
 use Rattle.cedar_compare.proofs.requests.some_uid.Goals as goal
+use Rattle.cedar_compare.specs.Words.{MayHave, Text, choice_texts, old_of, type_name, uid_of}
 
 -- the id is one of the choices of the type, if it has some
 pub returns : goal.returns

@@ -1,8 +1,8 @@
 use Rattle.std.proofs.Common.{◌≡◌, Option, None, subst, sym, ◌∙◌}
 use Rattle.std.specs.Option.{option_copied, option_map}
-use Rattle.cedar_compare.specs.Words.{Eid, IsIdOutside, MayHave, Text, choice_texts, eid_text, new_of, old_of, type_name, uid_of}
 use Rattle.cedar_compare.proofs.RequestLemmas.{lacks_choice, may_have_id, uid_found}
 use Rattle.cedar_compare.proofs.requests.uid_outside.Goals as goal
+use Rattle.cedar_compare.specs.Words.{Eid, IsIdOutside, MayHave, Text, choice_texts, eid_text, new_of, old_of, type_name, uid_of}
 
 -- the id is one that the old version's choices have and the new version's lack
 pub returns-in_ok-clone-in-Some : goal.returns-in_ok-clone-in-Some

@@ -1,5 +1,5 @@
 use Rattle.std.specs.Option.{option_copied}
-use Rattle.cedar_below.specs.EntityUID.{uid_of}
+use Rattle.cedar_ast.specs.EntityUID.{uid_of}
 use Rattle.cedar_compare.proofs.FindLemmas.{action_at}
 use Rattle.cedar_compare.proofs.versions.find_action.Goals as goal
 

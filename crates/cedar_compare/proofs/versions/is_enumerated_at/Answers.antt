@@ -1,7 +1,7 @@
 use Rattle.std.proofs.Common.{subst}
 use Rattle.std.proofs.lemmas.Bool.{false≢true}
-use Rattle.cedar_compare.specs.Words.{IsEnumerated, SchemaEntityType, plain_type, type_name}
 use Rattle.cedar_compare.proofs.versions.is_enumerated_at.Goals as goal
+use Rattle.cedar_compare.specs.Words.{IsEnumerated, SchemaEntityType, plain_type, type_name}
 
 pub returns-in-Some : goal.returns-in-Some
 returns-in-Some c =

@@ -1,7 +1,7 @@
 use Rattle.std.proofs.Common.{subst, Contains}
 use Rattle.std.proofs.lemmas.Bool.{false≢true}
-use Rattle.cedar_compare.specs.Words.{SchemaEntityType, plain_type, type_name}
 use Rattle.cedar_compare.proofs.versions.lists_type.Goals as goal
+use Rattle.cedar_compare.specs.Words.{SchemaEntityType, plain_type, type_name}
 
 pub returns-in-Some : goal.returns-in-Some
 returns-in-Some c =

@@ -1,8 +1,8 @@
 use Rattle.std.proofs.Common.{◌≡◌, ◌≤◌, ap, ◌∙◌, length, arith}
 use Rattle.std.proofs.lemmas.Grind.{common_steps}
-use Rattle.cedar_counterexample.specs.Words.{PlainName, lub_names, type_name}
 use Rattle.cedar_counterexample.proofs.FreshLemmas.{longest_next}
 use Rattle.cedar_counterexample.proofs.fresh.longest_base.Goals as goal
+use Rattle.cedar_counterexample.specs.Words.{PlainName, lub_names, type_name}
 
 pub loop-ty-preserved : goal.loop-ty-preserved
 loop-ty-preserved c =

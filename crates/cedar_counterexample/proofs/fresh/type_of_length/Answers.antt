@@ -1,6 +1,6 @@
 use Rattle.std.proofs.Common.{◌≡◌, string_bytes, suc, ◌∙◌}
 use Rattle.std.proofs.lemmas.Bool.{false≢true}
-use Rattle.cedar_below.proofs.ValueLemmas.{IsName-stretch, stretch}
+use Rattle.cedar_ast.proofs.ValueLemmas.{IsName-stretch, stretch}
 use Rattle.cedar_counterexample.proofs.FreshLemmas.{underscores-stretch}
 use Rattle.cedar_counterexample.proofs.fresh.type_of_length.Goals as goal
 

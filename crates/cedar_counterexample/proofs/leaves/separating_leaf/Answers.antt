@@ -1,11 +1,11 @@
 use Rattle.std.proofs.Common.{ap, ◌∙◌}
 use Rattle.std.proofs.lemmas.Result.{IfOk-weaker}
 use Rattle.std.specs.Option.{option_map}
-use Rattle.cedar_counterexample.specs.Words.{Has, IsCounterexampleAnswer, no_tree, set_value, tree, tree_of, ty_of}
 use Rattle.cedar_counterexample.proofs.TypeCounterexamples.{any_set_separates, ty_of-any_set}
+use Rattle.cedar_counterexample.proofs.leaves.separating_leaf.Goals as goal
+use Rattle.cedar_counterexample.specs.Words.{Has, IsCounterexampleAnswer, no_tree, set_value, tree, tree_of, ty_of}
 use Rattle.cedar_types.proofs.MemberParts.{ty_of-entity, ty_of-set}
 use Rattle.cedar_types.specs.declared.types.Type.TheVariants as type
-use Rattle.cedar_counterexample.proofs.leaves.separating_leaf.Goals as goal
 
 -- of two entity types the uids decide
 pub returns-in-Entity-Entity : goal.returns-in-Entity-Entity

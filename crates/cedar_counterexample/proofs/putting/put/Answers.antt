@@ -1,6 +1,6 @@
 use Rattle.std.proofs.Common.{ap, ◌∙◌}
-use Rattle.cedar_below.specs.Tree.{entries_from, entry_at}
-use Rattle.cedar_below.proofs.ValueCopies.{Pairs, entries_real, plain_pairs, real_entries, texts_sorted}
+use Rattle.cedar_ast.proofs.ValueCopies.{Pairs, entries_real, plain_pairs, real_entries, texts_sorted}
+use Rattle.cedar_ast.specs.Tree.{entries_from, entry_at}
 use Rattle.cedar_counterexample.proofs.PutLemmas.{found_put, real_put}
 use Rattle.cedar_counterexample.proofs.putting.put.Goals as goal
 

@@ -1,15 +1,15 @@
 use Rattle.std.proofs.Common.{◌≡◌, true, false, Some, ap, arith, inl, refl, string_bytes, subst, sym, ◌∙◌}
 use Rattle.std.proofs.lemmas.Result.{IfOk-weaker}
-use Rattle.cedar_below.proofs.TreeLemmas.{tree_of-record}
-use Rattle.cedar_counterexample.specs.Words.{IsInhabitedWith, IsSortedByName-fields, IsValueOf, Tree, attribute_of, entries_of, entry_at, fields_of, tree_of, ty_of, value_trees}
-use Rattle.cedar_below.proofs.ValueCopies.{no_entries}
+use Rattle.cedar_ast.proofs.TreeLemmas.{tree_of-record}
+use Rattle.cedar_ast.proofs.ValueCopies.{no_entries}
 use Rattle.cedar_counterexample.proofs.FillingLemmas.{filling_put, filling_there, missing_entry, present_entry, record_sample}
-use Rattle.cedar_counterexample.proofs.StartLemmas.{AreInhabitedWith-of}
 use Rattle.cedar_counterexample.proofs.Sizes.{attribute_smaller}
-use Rattle.cedar_types.proofs.MemberParts.{ty_of-entity, ty_of-record}
-use Rattle.cedar_types.proofs.StatedSteps.{flag_same, type_same}
+use Rattle.cedar_counterexample.proofs.StartLemmas.{AreInhabitedWith-of}
 use Rattle.cedar_counterexample.proofs.samples.+samples.Goals as goal
 use Rattle.cedar_counterexample.proofs.samples.+samples.Goals.{fill-else-attribute-via-then-attribute+else-not-contains_key, fill-else-attribute-via-else-attribute}
+use Rattle.cedar_counterexample.specs.Words.{IsInhabitedWith, IsSortedByName-fields, IsValueOf, Tree, attribute_of, entries_of, entry_at, fields_of, tree_of, ty_of, value_trees}
+use Rattle.cedar_types.proofs.MemberParts.{ty_of-entity, ty_of-record}
+use Rattle.cedar_types.proofs.StatedSteps.{flag_same, type_same}
 
 -- the type of an attribute is smaller than the record's, and inhabited
 pub fill-sample_of-requires : goal.fill-sample_of-requires

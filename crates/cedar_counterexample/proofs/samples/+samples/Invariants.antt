@@ -1,7 +1,7 @@
-use Rattle.cedar_counterexample.specs.Words.{entries_of, fields_from, fields_of, plain_attributes, ty_of}
 use Rattle.cedar_counterexample.proofs.FillingLemmas.{FillingSoFar}
 use Rattle.cedar_counterexample.proofs.Sizes.{fields_size, ty_size}
 use Rattle.cedar_counterexample.proofs.samples.+samples.Given as goal
+use Rattle.cedar_counterexample.specs.Words.{entries_of, fields_from, fields_of, plain_attributes, ty_of}
 
 abbrev pub decreases-fill : goal.decreases-fill
 decreases-fill l = fields_size (fields_of l.attrs.now)

@@ -1,9 +1,9 @@
 use Rattle.std.proofs.Common.{◌≡◌, ◌∷◌, [], ap, inl, map, refl, subst, sym, ◌∙◌, Contains}
 use Rattle.std.specs.Slice.Iter.{iter_rest}
-use Rattle.cedar_below.proofs.Lists.{Contains-cons}
-use Rattle.cedar_counterexample.specs.Words.{EntityKind, HasUid, PlainName, kind_ty, lub_names, type_name}
+use Rattle.cedar_ast.proofs.Lists.{Contains-cons}
 use Rattle.cedar_counterexample.proofs.FillingLemmas.{entity_sample}
 use Rattle.cedar_counterexample.proofs.samples.sample_entity.Goals as goal
+use Rattle.cedar_counterexample.specs.Words.{EntityKind, HasUid, PlainName, kind_ty, lub_names, type_name}
 
 -- an entity of a name is of a kind
 abbrev IsOf : PlainName → EntityKind → Type 0

@@ -1,8 +1,8 @@
 use Rattle.std.proofs.lemmas.Result.{IfOk-weaker}
-use Rattle.cedar_below.proofs.ValueCopies.{no_entries}
-use Rattle.cedar_counterexample.specs.Words.{Entries, Has, IsSortedByName-fields, OpenTag, entries_of, fields_of, map_value, record_of, value_entries}
+use Rattle.cedar_ast.proofs.ValueCopies.{no_entries}
 use Rattle.cedar_counterexample.proofs.FillingLemmas.{record_sample}
 use Rattle.cedar_counterexample.proofs.sampling.sample_attributes.Goals as goal
+use Rattle.cedar_counterexample.specs.Words.{Entries, Has, IsSortedByName-fields, OpenTag, entries_of, fields_of, map_value, record_of, value_entries}
 
 pub returns-clause-has : goal.returns-clause-has
 returns-clause-has c =

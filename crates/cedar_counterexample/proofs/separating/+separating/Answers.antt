@@ -3,16 +3,16 @@ use Rattle.std.proofs.lemmas.Bool.{false≢true}
 use Rattle.std.proofs.lemmas.Result.{IfOk-weaker}
 use Rattle.std.proofs.lemmas.Str.{IsUtf8-string_bytes}
 use Rattle.std.specs.Option.{is_some, option_map}
-use Rattle.cedar_below.proofs.TreeLemmas.{tree_of-record}
+use Rattle.cedar_ast.proofs.TreeLemmas.{tree_of-record}
+use Rattle.cedar_counterexample.proofs.Sizes.{attribute_smaller, ty_size}
+use Rattle.cedar_counterexample.proofs.StartLemmas.{AreInhabitedWith-of, attribute_start, missing_start, separating_next, start_separates}
+use Rattle.cedar_counterexample.proofs.separating.+separating.Goals as goal
+use Rattle.cedar_counterexample.proofs.separating.+separating.Goals.{separating_field-else-attribute-via-then-attribute+else-not-own, separating_field-else-attribute-via-else-attribute}
 use Rattle.cedar_counterexample.specs.Words.{IsFieldStart, IsInhabitedWith, IsRecordStart, IsSortedByName-fields, attribute_of, entries_of, field_names, fields_of, found_of, record_of, start_of, ty_of, value_trees}
 use Rattle.cedar_type_rules.proofs.AgreeLaws.{HasField-once}
 use Rattle.cedar_type_rules.proofs.InclusionLemmas.{found-Decides}
 use Rattle.cedar_type_rules.proofs.SubtypeLemmas.{HasField-found}
-use Rattle.cedar_counterexample.proofs.Sizes.{attribute_smaller, ty_size}
-use Rattle.cedar_counterexample.proofs.StartLemmas.{AreInhabitedWith-of, attribute_start, missing_start, separating_next, start_separates}
 use Rattle.cedar_types.proofs.StatedSteps.{flag_same, type_same}
-use Rattle.cedar_counterexample.proofs.separating.+separating.Goals as goal
-use Rattle.cedar_counterexample.proofs.separating.+separating.Goals.{separating_field-else-attribute-via-then-attribute+else-not-own, separating_field-else-attribute-via-else-attribute}
 
 -- an attribute that the one record lacks is left out or put in
 pub separating_field-returns-in_default : goal.separating_field-returns-in_default

@@ -1,8 +1,8 @@
 use Rattle.std.proofs.Common.{◌+◌}
-use Rattle.cedar_counterexample.specs.Words.{attribute_of, fields_from, fields_of, plain_attributes, ty_of}
 use Rattle.cedar_counterexample.proofs.Sizes.{fields_size, ty_size}
 use Rattle.cedar_counterexample.proofs.StartLemmas.{CounterexampleSoFar}
 use Rattle.cedar_counterexample.proofs.separating.+separating.Given as goal
+use Rattle.cedar_counterexample.specs.Words.{attribute_of, fields_from, fields_of, plain_attributes, ty_of}
 
 abbrev pub decreases-separating_field : goal.decreases-separating_field
 decreases-separating_field l = ty_size (attribute_of l.attribute.now).1 + 1

@@ -2,12 +2,12 @@ use Rattle.std.proofs.Common.{◌≡◌, List, [], ap, inl, map, refl, reverse, 
 use Rattle.std.proofs.lemmas.Bool.{false≢true}
 use Rattle.std.proofs.lemmas.Str.{IsUtf8-string_bytes}
 use Rattle.std.specs.declared.string.String.{String}
+use Rattle.cedar_ast.proofs.ValueCopies.{tree_of-truth}
+use Rattle.cedar_counterexample.proofs.StartLemmas.{AreInhabitedWith-of, further_start, names_all, names_next, open_start}
+use Rattle.cedar_counterexample.proofs.separating.separating_names.Goals as goal
 use Rattle.cedar_counterexample.specs.Words.{AttributeType, FieldsIncluded, IsInhabitedWith, IsSortedByName-fields, IsValueOf, attribute_of, entries_of, entry, field_names, fields_from, fields_of, no_entry, plain_attributes, start_of, step_of, tree_of, truth_value, value_trees}
 use Rattle.cedar_type_rules.proofs.InclusionLemmas.{found-Decides}
-use Rattle.cedar_below.proofs.ValueCopies.{tree_of-truth}
-use Rattle.cedar_counterexample.proofs.StartLemmas.{AreInhabitedWith-of, further_start, names_all, names_next, open_start}
 use Rattle.cedar_types.proofs.StatedSteps.{type_same}
-use Rattle.cedar_counterexample.proofs.separating.separating_names.Goals as goal
 
 -- the type of an attribute of an inhabited record is inhabited
 pub sample_of-requires : goal.sample_of-requires

@@ -1,10 +1,10 @@
 use Rattle.std.proofs.Common.{inr, [], string_bytes, subst, ◌∙◌}
 use Rattle.std.proofs.lemmas.Str.{IsUtf8-string_bytes}
+use Rattle.cedar_counterexample.proofs.StartLemmas.{missing_start, other_start}
+use Rattle.cedar_counterexample.proofs.separating.start_without.Goals as goal
 use Rattle.cedar_counterexample.specs.Words.{Has, attribute_of, start_through, tree_of}
 use Rattle.cedar_type_rules.proofs.SubtypeLaws.{HasField-name}
-use Rattle.cedar_counterexample.proofs.StartLemmas.{missing_start, other_start}
 use Rattle.cedar_types.proofs.StatedSteps.{flag_same, type_same}
-use Rattle.cedar_counterexample.proofs.separating.start_without.Goals as goal
 
 pub returns-then-attribute : goal.returns-then-attribute
 returns-then-attribute c = λ extensions lower absent upper upper_openness also.

@@ -1,7 +1,7 @@
 use Rattle.std.proofs.Common.{[], refl}
-use Rattle.cedar_counterexample.specs.Words.{EntityKind, HasUid, PlainName, kind_ty, type_name}
 use Rattle.cedar_counterexample.proofs.FillingLemmas.{entity_apart, entity_sample}
 use Rattle.cedar_counterexample.proofs.unions.separating_entity.Goals as goal
+use Rattle.cedar_counterexample.specs.Words.{EntityKind, HasUid, PlainName, kind_ty, type_name}
 
 -- an entity of a name is of a kind
 abbrev IsOf : PlainName → EntityKind → Type 0

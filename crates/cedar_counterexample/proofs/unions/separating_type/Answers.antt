@@ -1,4 +1,4 @@
-use Rattle.cedar_below.specs.EntityType.{type_name}
+use Rattle.cedar_ast.specs.EntityType.{type_name}
 use Rattle.cedar_counterexample.proofs.NameLists.{included_here, included_next}
 use Rattle.cedar_counterexample.proofs.unions.separating_type.Goals as goal
 

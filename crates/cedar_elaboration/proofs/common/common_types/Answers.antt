@@ -1,7 +1,7 @@
 use Rattle.std.proofs.Common.{Result, Ok, Err, OnOk}
 use Rattle.cedar_elaboration.proofs.ElaborationLemmas.{names_kept, elaborated_each}
-use Rattle.cedar_elaboration.specs.Words.{held_names, written_common}
 use Rattle.cedar_elaboration.proofs.common.common_types.Goals as goal
+use Rattle.cedar_elaboration.specs.Words.{held_names, written_common}
 
 pub returns-clause-names : goal.returns-clause-names
 returns-clause-names g c =

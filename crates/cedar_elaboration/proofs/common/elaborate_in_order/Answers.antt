@@ -2,11 +2,11 @@ use Rattle.std.proofs.Common.{◌<◌, length, take, get_or, refl, rules}
 use Rattle.std.proofs.Math.ListN.{length-map}
 use Rattle.std.proofs.lemmas.List.{get_or_default, take_all, take_more}
 use Rattle.std.proofs.lemmas.Option.{slice_get_within}
+use Rattle.cedar_elaboration.proofs.ElaborationLemmas.{Covers-next, ElaboratedInOrder-more, fault_at, index_within}
+use Rattle.cedar_elaboration.proofs.IndexLemmas.{item_at_index, index_of, split_at}
+use Rattle.cedar_elaboration.proofs.common.elaborate_in_order.Goals as goal
 use Rattle.cedar_elaboration.specs.Words.{defined_over, extension_types, held_names, item_names, name_of, written_common, written_expr}
 use Rattle.cedar_fragments.proofs.FragmentLemmas.{exit_holds}
-use Rattle.cedar_elaboration.proofs.IndexLemmas.{item_at_index, index_of, split_at}
-use Rattle.cedar_elaboration.proofs.ElaborationLemmas.{Covers-next, ElaboratedInOrder-more, fault_at, index_within}
-use Rattle.cedar_elaboration.proofs.common.elaborate_in_order.Goals as goal
 
 pub bounds-declared-item_index : goal.bounds-declared-item_index
 bounds-declared-item_index g c =

@@ -1,7 +1,7 @@
 use Rattle.std.proofs.Common.{take}
-use Rattle.cedar_elaboration.specs.Words.{NamesItems, elaborated_types, extension_types, held_names, written_common}
 use Rattle.cedar_elaboration.proofs.ElaborationLemmas.{ElaboratedInOrder}
 use Rattle.cedar_elaboration.proofs.common.elaborate_in_order.Given as goal
+use Rattle.cedar_elaboration.specs.Words.{NamesItems, elaborated_types, extension_types, held_names, written_common}
 
 abbrev pub invariant-loop-item_index : goal.invariant-loop-item_index
 invariant-loop-item_index g l =

@@ -3,8 +3,8 @@ use Rattle.std.proofs.lemmas.List.{map-append}
 use Rattle.std.proofs.lemmas.Result.{IfOk-weaker, IfErr-weaker, on_ok_weaker}
 use Rattle.cedar_elaboration.proofs.CommonFaults.{common_fault, common_sound, common_elaborated, named}
 use Rattle.cedar_elaboration.proofs.Results.{IfOk-both, OnOk-both}
-use Rattle.cedar_elaboration.specs.Words.{elaborated_types, fault_of, held_names, written_common}
 use Rattle.cedar_elaboration.proofs.defined.defined_common_types.Goals as goal
+use Rattle.cedar_elaboration.specs.Words.{elaborated_types, fault_of, held_names, written_common}
 
 pub returns-clause-elaborates : goal.returns-clause-elaborates
 returns-clause-elaborates g c =

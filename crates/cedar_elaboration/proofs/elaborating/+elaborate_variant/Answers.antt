@@ -1,12 +1,12 @@
 use Rattle.std.proofs.Common.{sym, ◌∙◌, ap, rules}
-use Rattle.cedar_types.proofs.MemberParts.{ty_of-record}
-use Rattle.cedar_elaboration.specs.Words.{ClosedAttributes, as_long, as_text, as_truth, fields_of, namespace_name, record_type_expr, set_expr, ty_of, type_expr, unreserved_id_text, variant_expr}
-use Rattle.cedar_elaboration.proofs.ScopeLemmas.{ElaboratesTo-as, set_elaborated, fault_of_set, elaborates_as, extension_elaborated, extensions_as, memory_refused}
-use Rattle.cedar_elaboration.proofs.RecordLemmas.{ElaboratedSoFar-none, ElaboratedSoFar-more, fault_of_next, record_elaborated, record_closed, record_extensions, record_open}
 use Rattle.cedar_elaboration.proofs.PrimitiveLemmas.{primitive_closed, primitive_elaborated, primitive_extensions}
-use Rattle.cedar_elaboration.proofs.elaborating.+elaborate_variant.Goals.{elaborate_shared-in-Plain+in_default+in_ok-made-in-Plain, elaborate_shared-in-CommonTypeRef+in_ok-made-in-CommonTypeRef}
-use Rattle.cedar_names.proofs.VariantLemmas.{type-CommonTypeRef, type-Plain, variant-String, variant-Long, variant-Boolean, variant-Set, variant-Record, variant-Extension}
+use Rattle.cedar_elaboration.proofs.RecordLemmas.{ElaboratedSoFar-none, ElaboratedSoFar-more, fault_of_next, record_elaborated, record_closed, record_extensions, record_open}
+use Rattle.cedar_elaboration.proofs.ScopeLemmas.{ElaboratesTo-as, set_elaborated, fault_of_set, elaborates_as, extension_elaborated, extensions_as, memory_refused}
 use Rattle.cedar_elaboration.proofs.elaborating.+elaborate_variant.Goals as goal
+use Rattle.cedar_elaboration.proofs.elaborating.+elaborate_variant.Goals.{elaborate_shared-in-Plain+in_default+in_ok-made-in-Plain, elaborate_shared-in-CommonTypeRef+in_ok-made-in-CommonTypeRef}
+use Rattle.cedar_elaboration.specs.Words.{ClosedAttributes, as_long, as_text, as_truth, fields_of, namespace_name, record_type_expr, set_expr, ty_of, type_expr, unreserved_id_text, variant_expr}
+use Rattle.cedar_schema_ast.proofs.VariantLemmas.{type-CommonTypeRef, type-Plain, variant-String, variant-Long, variant-Boolean, variant-Set, variant-Record, variant-Extension}
+use Rattle.cedar_types.proofs.MemberParts.{ty_of-record}
 
 -- the primitive types are elaborated as themselves
 pub elaborate_variant-returns-in-String-clause-elaborates : goal.elaborate_variant-returns-in-String-clause-elaborates

@@ -1,6 +1,6 @@
-use Rattle.cedar_elaboration.specs.Words.{namespace_name}
 use Rattle.cedar_elaboration.proofs.RecordLemmas.{ElaboratedSoFar}
 use Rattle.cedar_elaboration.proofs.elaborating.+elaborate_variant.Given as goal
+use Rattle.cedar_elaboration.specs.Words.{namespace_name}
 
 abbrev pub invariant-elaborate_attributes-loop-name : goal.invariant-elaborate_attributes-loop-name
 invariant-elaborate_attributes-loop-name g l =

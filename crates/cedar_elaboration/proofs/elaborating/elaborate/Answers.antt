@@ -1,6 +1,6 @@
-use Rattle.cedar_elaboration.specs.Words.{namespace_name, type_expr}
 use Rattle.cedar_elaboration.proofs.ScopeLemmas.{resolved_if_elaborated}
 use Rattle.cedar_elaboration.proofs.elaborating.elaborate.Goals as goal
+use Rattle.cedar_elaboration.specs.Words.{namespace_name, type_expr}
 
 pub returns-clause-resolved : goal.returns-clause-resolved
 returns-clause-resolved g c =

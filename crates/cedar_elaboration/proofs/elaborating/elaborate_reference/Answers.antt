@@ -1,6 +1,6 @@
-use Rattle.cedar_elaboration.specs.Words.{MayNameCommon, name_of, namespace_name}
 use Rattle.cedar_elaboration.proofs.ScopeLemmas.{common_elaborated, entity_answers, entity_refuses, fault_of_reference}
 use Rattle.cedar_elaboration.proofs.elaborating.elaborate_reference.Goals as goal
+use Rattle.cedar_elaboration.specs.Words.{MayNameCommon, name_of, namespace_name}
 
 -- a name that stands for nothing is refused
 pub returns-in_default-clause-fault : goal.returns-in_default-clause-fault

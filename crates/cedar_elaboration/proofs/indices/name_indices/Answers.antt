@@ -1,11 +1,11 @@
 use Rattle.std.proofs.Common.{take, sym, ◌∙◌, inr, refl}
 use Rattle.std.proofs.lemmas.Bool.{false≢true}
-use Rattle.cedar_below.proofs.Names.{internal_name_ord-Equal}
-use Rattle.cedar_elaboration.specs.Words.{Twice, indexed_names, item_names, name_of, written_common}
-use Rattle.cedar_below.specs.contracts.internal_name.InternalNameOrd.TheImpl as order
+use Rattle.cedar_ast.proofs.Names.{internal_name_ord-Equal}
+use Rattle.cedar_ast.specs.contracts.internal_name.InternalNameOrd.TheImpl as order
 use Rattle.cedar_elaboration.proofs.Entries.{found_name}
 use Rattle.cedar_elaboration.proofs.IndexLemmas.{NumberedSoFar-more, repeated_name, names_more, names_split}
 use Rattle.cedar_elaboration.proofs.indices.name_indices.Goals as goal
+use Rattle.cedar_elaboration.specs.Words.{Twice, indexed_names, item_names, name_of, written_common}
 
 pub returns-then-contains_key-clause-fault : goal.returns-then-contains_key-clause-fault
 returns-then-contains_key-clause-fault g c =

@@ -1,8 +1,8 @@
 use Rattle.std.proofs.Common.{[], Option, subst, take}
-use Rattle.cedar_elaboration.specs.Words.{AddsIndices, PlainName, Refers, held_names, indexed_names, name_of, type_expr, written_common, written_expr}
-use Rattle.cedar_elaboration.proofs.OrderLemmas.{HoldsPairwise-push}
 use Rattle.cedar_elaboration.proofs.IndexLemmas.{items_more}
+use Rattle.cedar_elaboration.proofs.OrderLemmas.{HoldsPairwise-push}
 use Rattle.cedar_elaboration.proofs.ordering.all_targets.Goals as goal
+use Rattle.cedar_elaboration.specs.Words.{AddsIndices, PlainName, Refers, held_names, indexed_names, name_of, type_expr, written_common, written_expr}
 
 pub loop-item-preserved : goal.loop-item-preserved
 loop-item-preserved g c =

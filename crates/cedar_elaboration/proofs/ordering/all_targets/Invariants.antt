@@ -1,7 +1,7 @@
 use Rattle.std.proofs.Common.{take}
 use Rattle.cedar_elaboration.proofs.OrderLemmas.{AreTargets}
-use Rattle.cedar_elaboration.specs.Words.{held_names, indexed_names, written_common}
 use Rattle.cedar_elaboration.proofs.ordering.all_targets.Given as goal
+use Rattle.cedar_elaboration.specs.Words.{held_names, indexed_names, written_common}
 
 abbrev pub invariant-loop-item : goal.invariant-loop-item
 invariant-loop-item g l =

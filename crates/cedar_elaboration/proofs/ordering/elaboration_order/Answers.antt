@@ -1,11 +1,11 @@
 use Rattle.std.proofs.Common.{◌<◌, ℕ, length, ap, sym, subst, ◌∙◌, rules}
 use Rattle.std.proofs.Math.ListN.{length-map}
-use Rattle.cedar_below.proofs.Chains.{last_step}
-use Rattle.cedar_elaboration.specs.Words.{LeadsTo, held_names, indexed_names, name_of, written_common, written_expr}
-use Rattle.cedar_elaboration.proofs.OrderLemmas.{as_many, cycle_found, name_at, no_cycle_among, order_of_indices}
+use Rattle.cedar_ast.proofs.Chains.{last_step}
 use Rattle.cedar_elaboration.proofs.IndexLemmas.{item_at_index}
+use Rattle.cedar_elaboration.proofs.OrderLemmas.{as_many, cycle_found, name_at, no_cycle_among, order_of_indices}
 use Rattle.cedar_elaboration.proofs.ordering.elaboration_order.Goals as goal
 use Rattle.cedar_elaboration.proofs.ordering.elaboration_order.Goals.{In-Cycle}
+use Rattle.cedar_elaboration.specs.Words.{LeadsTo, held_names, indexed_names, name_of, written_common, written_expr}
 
 pub returns-in-Order-clause-order : goal.returns-in-Order-clause-order
 returns-in-Order-clause-order g c =

@@ -1,6 +1,6 @@
 use Rattle.cedar_elaboration.proofs.ReferringLemmas.{AddedSoFar}
-use Rattle.cedar_elaboration.specs.Words.{held_names, indexed_names, namespace_name}
 use Rattle.cedar_elaboration.proofs.referring.+add.Given as goal
+use Rattle.cedar_elaboration.specs.Words.{held_names, indexed_names, namespace_name}
 
 abbrev pub invariant-add_record_indices-loop-attribute : goal.invariant-add_record_indices-loop-attribute
 invariant-add_record_indices-loop-attribute g l =

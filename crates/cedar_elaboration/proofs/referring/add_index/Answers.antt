@@ -1,12 +1,12 @@
 use Rattle.std.proofs.Common.{sym, ◌∙◌, subst}
 use Rattle.std.proofs.lemmas.Bool.{false≢true}
-use Rattle.cedar_below.proofs.Names.{internal_name_ord-Equal}
-use Rattle.cedar_elaboration.specs.Words.{MayNameCommon, ResolvesTo, held_names, indexed_names, name_of, namespace_name}
-use Rattle.cedar_below.specs.contracts.internal_name.InternalNameOrd.TheImpl as order
+use Rattle.cedar_ast.proofs.Names.{internal_name_ord-Equal}
+use Rattle.cedar_ast.specs.contracts.internal_name.InternalNameOrd.TheImpl as order
 use Rattle.cedar_elaboration.proofs.Entries.{looked_up, not_found}
 use Rattle.cedar_elaboration.proofs.ReferringLemmas.{adds_absent, adds_index, adds_none, adds_unresolved}
 use Rattle.cedar_elaboration.proofs.referring.add_index.Goals as goal
 use Rattle.cedar_elaboration.proofs.referring.add_index.Goals.{in-Some-get+in_ok-push, in_default-get}
+use Rattle.cedar_elaboration.specs.Words.{MayNameCommon, ResolvesTo, held_names, indexed_names, name_of, namespace_name}
 
 pub returns : goal.returns
 returns g c =

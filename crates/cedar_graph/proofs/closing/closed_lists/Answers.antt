@@ -1,12 +1,12 @@
 use Rattle.std.proofs.Common.{◌≡◌, ◌↔◌, [], ◌∷◌, Contains, length, sym, ◌∙◌, ap, subst, inl, inr, arith}
 use Rattle.std.proofs.lemmas.Bool.{cases_lt}
-use Rattle.cedar_below.proofs.Chains.{first_step}
-use Rattle.cedar_graph.specs.Words.{AreGathered, Chain, IsTarget, mark_of}
-use Rattle.cedar_graph.proofs.Gathering.{all_fresh}
 use Rattle.std.proofs.lemmas.List.{length-append}
+use Rattle.cedar_ast.proofs.Chains.{first_step}
+use Rattle.cedar_graph.proofs.Gathering.{all_fresh}
 use Rattle.cedar_graph.proofs.KeyedEdges.{nothing_in_nil}
 use Rattle.cedar_graph.proofs.Lists.{each_after_push, items_at-past}
 use Rattle.cedar_graph.proofs.closing.closed_lists.Goals as goal
+use Rattle.cedar_graph.specs.Words.{AreGathered, Chain, IsTarget, mark_of}
 
 -- no mark stands yet, and no number is closed
 pub loop-from-init : goal.loop-from-init

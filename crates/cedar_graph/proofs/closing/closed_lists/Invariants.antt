@@ -1,6 +1,6 @@
 use Rattle.std.proofs.Common.{◌≡◌, ℕ, ◌*◌, ◌≤◌, length, vec_len}
-use Rattle.cedar_graph.specs.Words.{AreClosed, Fresh, mark_of}
 use Rattle.cedar_graph.proofs.closing.closed_lists.Given as goal
+use Rattle.cedar_graph.specs.Words.{AreClosed, Fresh, mark_of}
 
 abbrev pub invariant-loop-from : goal.invariant-loop-from
 invariant-loop-from l = record {

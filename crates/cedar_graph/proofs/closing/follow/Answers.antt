@@ -1,10 +1,10 @@
 use Rattle.std.proofs.Common.{◌≡◌, ℕ, Contains, get_or, sym, subst, arith}
 use Rattle.std.proofs.lemmas.List.Elements.{Contains-get_or}
-use Rattle.cedar_below.proofs.Chains.{last_step}
-use Rattle.cedar_graph.specs.Words.{Chain, Done, IsTarget}
+use Rattle.cedar_ast.proofs.Chains.{last_step}
 use Rattle.cedar_graph.proofs.Gathering.{followed_within, reached_more, done_more}
 use Rattle.cedar_graph.proofs.closing.follow.Goals as goal
 use Rattle.cedar_graph.proofs.closing.follow.Goals.{After-deref}
+use Rattle.cedar_graph.specs.Words.{Chain, Done, IsTarget}
 
 -- the numbers to be gathered are reached from the number
 sound : (c : After-deref) (to : ℕ) → Contains c.deref.result.now to → Chain (IsTarget c.args.targets.now.items) c.args.number to

@@ -1,9 +1,9 @@
 use Rattle.std.proofs.Common.{◌≡◌, ◌<◌, Contains, length, sym, ◌∙◌, ap, subst, arith}
-use Rattle.cedar_below.proofs.Chains.{joined}
-use Rattle.cedar_graph.specs.Words.{items_at, one}
+use Rattle.cedar_ast.proofs.Chains.{joined}
 use Rattle.cedar_graph.proofs.Lists.{items_at-read}
 use Rattle.cedar_graph.proofs.closing.following.Goals as goal
 use Rattle.cedar_graph.proofs.closing.following.Goals.{In-Some, After-index}
+use Rattle.cedar_graph.specs.Words.{items_at, one}
 
 -- what the number reaches is known
 within : (c : In-Some) → c.args.number < length c.args.closed.now.items

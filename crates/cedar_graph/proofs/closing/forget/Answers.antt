@@ -2,9 +2,9 @@ use Rattle.std.proofs.Common.{◌≢◌, get_or, set, refl, sym, ◌∙◌, ap, 
 use Rattle.std.proofs.lemmas.Bool.{cases_eq}
 use Rattle.std.proofs.lemmas.List.{get_or-set_same, get_or-set_other, length-set}
 use Rattle.std.proofs.lemmas.List.Elements.{Contains-get_or}
-use Rattle.cedar_graph.specs.Words.{Fresh, mark_of}
 use Rattle.cedar_graph.proofs.Gathering.{fresh_or_not, marked_within, read_at}
 use Rattle.cedar_graph.proofs.closing.forget.Goals as goal
+use Rattle.cedar_graph.specs.Words.{Fresh, mark_of}
 
 -- at first each mark may be left, at its place in the list
 pub loop-number-init : goal.loop-number-init

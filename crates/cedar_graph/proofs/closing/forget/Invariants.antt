@@ -1,6 +1,6 @@
 use Rattle.std.proofs.Common.{◌≡◌, ◌≢◌, ℕ, ◌<◌, ◌≤◌, get_or, length}
-use Rattle.cedar_graph.specs.Words.{Fresh, mark_of}
 use Rattle.cedar_graph.proofs.closing.forget.Given as goal
+use Rattle.cedar_graph.specs.Words.{Fresh, mark_of}
 
 abbrev pub invariant-loop-number : goal.invariant-loop-number
 invariant-loop-number l = record {

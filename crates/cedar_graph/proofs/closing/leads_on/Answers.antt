@@ -1,10 +1,10 @@
 use Rattle.std.proofs.Common.{◌≡◌, ◌≤◌, Contains, length, sym, ◌∙◌, ap, subst, arith}
 use Rattle.std.proofs.lemmas.Bool.{eqb-true}
-use Rattle.cedar_graph.specs.Numbered.{items_at}
 use Rattle.cedar_graph.proofs.KeyedEdges.{nothing_in_nil}
 use Rattle.cedar_graph.proofs.Lists.{items_at-past, items_at-read}
 use Rattle.cedar_graph.proofs.closing.leads_on.Goals as goal
 use Rattle.cedar_graph.proofs.closing.leads_on.Goals.{then-number-len-via-then-number-len, then-number-len-via-else-number-len+then-is_empty}
+use Rattle.cedar_graph.specs.Numbered.{items_at}
 
 pub returns-then-number-len-clause-no : goal.returns-then-number-len-clause-no
 returns-then-number-len-clause-no c = λ _ to edge. elim c.then-number-len.branch [

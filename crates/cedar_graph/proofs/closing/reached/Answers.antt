@@ -1,14 +1,14 @@
 use Rattle.std.proofs.Common.{◌≡◌, ◌<◌, ◌+◌, ℕ, [], Contains, get_or, length, vec_len, refl, sym, ◌∙◌, ap, subst, inl, inr, arith}
-use Rattle.std.proofs.lemmas.Bool.{both_ways, cases_eq}
-use Rattle.std.proofs.lemmas.List.Elements.{Contains-append_left, Contains-get_or}
 use Rattle.std.proofs.Math.ListN.{get_or-append}
+use Rattle.std.proofs.lemmas.Bool.{both_ways, cases_eq}
 use Rattle.std.proofs.lemmas.List.{length-append}
-use Rattle.cedar_graph.specs.Words.{AreGathered, GathersMore, IsTarget, Met, items_at}
+use Rattle.std.proofs.lemmas.List.Elements.{Contains-append_left, Contains-get_or}
 use Rattle.cedar_graph.proofs.Counting.{count_below-fewer, count_below-le}
 use Rattle.cedar_graph.proofs.Gathering.{found_few, gathers_same, is_undone, marked_within, nothing_gathered, reached_all, reached_first, read_at, told_done, told_undone}
 use Rattle.cedar_graph.proofs.Lists.{items_at-read}
 use Rattle.cedar_graph.proofs.closing.reached.Goals as goal
 use Rattle.cedar_graph.proofs.closing.reached.Goals.{After-deref, After-index-number}
+use Rattle.cedar_graph.specs.Words.{AreGathered, GathersMore, IsTarget, Met, items_at}
 
 -- the list that is gathered first is that of the number's targets
 listed : (c : After-deref) → items_at c.args.targets.now.items c.args.from ≡ c.deref.result.now

@@ -1,8 +1,8 @@
 use Rattle.std.proofs.Common.{◌≡◌, ℕ, ◌+◌, ◌-◌, ◌<◌, ◌≤◌, Contains, get_or, length, vec_len}
-use Rattle.cedar_graph.specs.Words.{AreReached, IsTarget}
 use Rattle.cedar_graph.proofs.Counting.{count_below}
 use Rattle.cedar_graph.proofs.Gathering.{is_undone}
 use Rattle.cedar_graph.proofs.closing.reached.Given as goal
+use Rattle.cedar_graph.specs.Words.{AreReached, IsTarget}
 
 abbrev pub invariant-loop-place : goal.invariant-loop-place
 invariant-loop-place l = record {

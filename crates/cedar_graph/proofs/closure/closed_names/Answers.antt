@@ -1,13 +1,13 @@
 use Rattle.std.proofs.Common.{◌≡◌, ◌<◌, ◌≤◌, ℕ, IfSome, Some, length, vec_len, slice_get, arith, refl, subst}
-use Rattle.std.specs.HashMap.{keys}
 use Rattle.std.proofs.lemmas.List.{length-map}
 use Rattle.std.proofs.lemmas.Option.{IfSome_then, slice_get_read}
-use Rattle.cedar_graph.specs.Words.{Chain, HasEdge, IsNumbered, IsTarget, Reaches}
-use Rattle.cedar_below.proofs.Chains.{held_after, last_step}
+use Rattle.std.specs.HashMap.{keys}
+use Rattle.cedar_ast.proofs.Chains.{held_after, last_step}
 use Rattle.cedar_graph.proofs.KeyedEdges.{step_of_keys, step_of_numbers, target_named, names_for_all}
 use Rattle.cedar_graph.proofs.Numbers.{numbers_from_keys, keys_from_numbers, one_number, number_below, numbered_from_name}
 use Rattle.cedar_graph.proofs.closure.closed_names.Goals as goal
 use Rattle.cedar_graph.proofs.closure.closed_names.Goals.{In_ok-targets, In_ok-lists}
+use Rattle.cedar_graph.specs.Words.{Chain, HasEdge, IsNumbered, IsTarget, Reaches}
 
 -- each key of the map has the number of its place
 in_order : (g : _) (c : In_ok-targets g) (i : ℕ)

@@ -1,9 +1,9 @@
 use Rattle.std.proofs.Common.{inl, inr}
 use Rattle.std.specs.HashMap.{get}
-use Rattle.cedar_graph.specs.Words.{ListHas, one}
 use Rattle.cedar_graph.proofs.Growing.{edge_sound}
 use Rattle.cedar_graph.proofs.KeyedEdges.{begins_at_node}
 use Rattle.cedar_graph.proofs.closure.compute_tc_counted.Goals as goal
+use Rattle.cedar_graph.specs.Words.{ListHas, one}
 
 -- where numbering is refused, each edge was there
 pub returns-in_err-names-clause-sound : goal.returns-in_err-names-clause-sound

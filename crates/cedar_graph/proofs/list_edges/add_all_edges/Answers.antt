@@ -1,13 +1,13 @@
 use Rattle.std.proofs.Common.{◌≡◌, ◌<◌, ℕ, Some, Contains, IsTrue, HashMap, BuildHasherDefault, FoldHasher, length, slice_get, sym, ◌∙◌, ap, refl, subst, arith, inl, inr}
-use Rattle.std.specs.HashMap.{get}
 use Rattle.std.proofs.lemmas.Bool.{cases_lt}
 use Rattle.std.proofs.lemmas.Option.{slice_get_read}
-use Rattle.cedar_graph.specs.Words.{GrowsAt, IsNumbered, StandsIn, items_at}
+use Rattle.std.specs.HashMap.{get}
 use Rattle.cedar_graph.proofs.Growing.{grows_at_onwards, grows_at_weaker, edge_kept, some_kept}
 use Rattle.cedar_graph.proofs.Lists.{items_at-read, items_at-past}
 use Rattle.cedar_graph.proofs.Numbers.{numbered_from_name, name_from_numbered, eq_back}
 use Rattle.cedar_graph.proofs.list_edges.add_all_edges.Goals as goal
 use Rattle.cedar_graph.proofs.list_edges.add_all_edges.Goals.{After-deref}
+use Rattle.cedar_graph.specs.Words.{GrowsAt, IsNumbered, StandsIn, items_at}
 
 -- the list of this turn stands at its place
 read : (g : _) (c : After-deref g) → c.deref.result.now ≡ items_at c.args.lists.now.items c.loop-i.i

@@ -1,7 +1,7 @@
 use Rattle.std.proofs.Common.{◌≡◌, ℕ, ◌<◌}
 use Rattle.std.specs.HashMap.{get, keys, ContainsKey}
-use Rattle.cedar_graph.specs.Words.{GrowsAt, HasEdge, IsNumbered, StandsIn, items_at}
 use Rattle.cedar_graph.proofs.list_edges.add_all_edges.Given as goal
+use Rattle.cedar_graph.specs.Words.{GrowsAt, HasEdge, IsNumbered, StandsIn, items_at}
 
 abbrev pub invariant-loop-i : goal.invariant-loop-i
 invariant-loop-i g l = record {

@@ -2,12 +2,12 @@ use Rattle.std.proofs.Common.{◌≡◌, Some, IsTrue, get_or, length, slice_get
 use Rattle.std.proofs.lemmas.Bool.{cases_eq}
 use Rattle.std.proofs.lemmas.List.Elements.{Contains-get_or}
 use Rattle.std.proofs.lemmas.Option.{slice_get_read}
-use Rattle.cedar_graph.specs.Words.{GrowsBy, IsNumbered, StandsIn}
 use Rattle.cedar_graph.proofs.Gathering.{read_at}
 use Rattle.cedar_graph.proofs.Growing.{grows_onwards, grows_weaker}
 use Rattle.cedar_graph.proofs.Numbers.{numbered_from_name, name_from_numbered}
 use Rattle.cedar_graph.proofs.list_edges.add_edges.Goals as goal
 use Rattle.cedar_graph.proofs.list_edges.add_edges.Goals.{After-index}
+use Rattle.cedar_graph.specs.Words.{GrowsBy, IsNumbered, StandsIn}
 
 pub index-requires : goal.index-requires
 index-requires g c = c.requires (get_or c.args.numbers.now c.loop-number.number-index 0)

@@ -1,6 +1,6 @@
 use Rattle.std.proofs.Common.{ℕ, ◌<◌, IsTrue, get_or}
-use Rattle.cedar_graph.specs.Words.{GrowsBy, IsNumbered, StandsIn}
 use Rattle.cedar_graph.proofs.list_edges.add_edges.Given as goal
+use Rattle.cedar_graph.specs.Words.{GrowsBy, IsNumbered, StandsIn}
 
 abbrev pub invariant-loop-number : goal.invariant-loop-number
 invariant-loop-number g l = record {

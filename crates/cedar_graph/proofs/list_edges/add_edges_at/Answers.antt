@@ -1,8 +1,8 @@
 use Rattle.std.proofs.Common.{Some, ◌≡◌, sym, ap, is_some}
 use Rattle.std.specs.HashMap.{get}
-use Rattle.cedar_graph.specs.Numbering.{StandsIn}
 use Rattle.cedar_graph.proofs.Growing.{updated_grows}
 use Rattle.cedar_graph.proofs.list_edges.add_edges_at.Goals as goal
+use Rattle.cedar_graph.specs.Numbering.{StandsIn}
 
 pub returns-in-Some-clause-grows : goal.returns-in-Some-clause-grows
 returns-in-Some-clause-grows g c =

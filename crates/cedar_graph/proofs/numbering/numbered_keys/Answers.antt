@@ -1,14 +1,14 @@
 use Rattle.std.proofs.Common.{◌≡◌, ◌<◌, ◌≤◌, ◌+◌, Some, length, vec_len, hash_map_len, drop, IfSome, slice_get, sym, ◌∙◌, ap, subst, arith, inl, inr}
-use Rattle.std.specs.HashMap.{keys}
-use Rattle.std.specs.Map.Iter.{deref}
 use Rattle.std.proofs.lemmas.Bool.{cases_lt}
 use Rattle.std.proofs.lemmas.Map.Iter.{rest_more, rest_all}
 use Rattle.std.proofs.lemmas.Option.{IfSome_then, MatchOption-from_none, slice_get_past}
-use Rattle.cedar_graph.specs.Numbering.{IsNumbered}
+use Rattle.std.specs.HashMap.{keys}
+use Rattle.std.specs.Map.Iter.{deref}
 use Rattle.cedar_graph.proofs.Lists.{drop_next, drop_done}
 use Rattle.cedar_graph.proofs.Numbers.{no_number_yet}
 use Rattle.cedar_graph.proofs.numbering.numbered_keys.Goals as goal
 use Rattle.cedar_graph.proofs.numbering.numbered_keys.Goals.{In-Some}
+use Rattle.cedar_graph.specs.Numbering.{IsNumbered}
 
 -- the key of this turn stands at the next place
 next_key : (g : _) (c : In-Some g) → (vec_len c.loop-key.numbering.names < length (keys c.args.nodes.now))

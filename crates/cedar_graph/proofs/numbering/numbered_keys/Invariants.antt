@@ -1,7 +1,7 @@
 use Rattle.std.proofs.Common.{◌≡◌, ℕ, ◌<◌, ◌≤◌, vec_len, length, drop, IfSome, slice_get}
 use Rattle.std.specs.HashMap.{keys}
-use Rattle.cedar_graph.specs.Numbering.{IsNumbered, AreNumbers}
 use Rattle.cedar_graph.proofs.numbering.numbered_keys.Given as goal
+use Rattle.cedar_graph.specs.Numbering.{IsNumbered, AreNumbers}
 
 abbrev pub invariant-loop-key : goal.invariant-loop-key
 invariant-loop-key g l = record {

@@ -1,8 +1,8 @@
 use Rattle.std.proofs.Common.{◌≡◌, ◌⊎◌, ◌<◌, ◌+◌, ℕ, zero, suc, List, [], ◌∷◌, ◌++◌, ap, sym, subst, refl, inl, inr, arith, Contains}
 use Rattle.std.proofs.lemmas.List.Elements.{Contains-append_left, Contains-append_right, Contains-append_cases}
 use Rattle.cedar_graph.proofs.OrderSteps.{enter_or_leave, single}
-use Rattle.cedar_graph.specs.Words.{Enter, Leave, Step}
 use Rattle.cedar_graph.proofs.ordering.enter_below.Goals as goal
+use Rattle.cedar_graph.specs.Words.{Enter, Leave, Step}
 
 -- what is below the next number is below this one or is it
 below_or_this : (k n : ℕ) → k < n + 1 → (k < n) ⊎ (n ≡ k)

@@ -1,11 +1,11 @@
 use Rattle.std.proofs.Common.{◌≡◌, ◌++◌, ◌<◌, ℕ, zero, suc, replicate, Contains, ◌+◌, length, List, [], ◌∷◌, None, map, ap, sym, subst, ◌∙◌, refl, arith}
 use Rattle.std.proofs.lemmas.List.{append_assoc, length-append, length-map}
 use Rattle.cedar_graph.proofs.Lists.{items_at-read}
-use Rattle.cedar_graph.specs.Words.{Enter, Leave, Mark, items_at}
 use Rattle.cedar_graph.proofs.OrderProgress.{Progress, mark_at, mark_read, at_first, skipped, left, opened, cycle, whole, no_cycle, opening_pays, leaving_is_free}
 use Rattle.cedar_graph.proofs.OrderSteps.{left_within}
-use Rattle.cedar_graph.specs.declared.ordering.Mark.TheVariants.{Fresh}
 use Rattle.cedar_graph.proofs.ordering.topo_sort.Goals as goal
+use Rattle.cedar_graph.specs.Words.{Enter, Leave, Mark, items_at}
+use Rattle.cedar_graph.specs.declared.ordering.Mark.TheVariants.{Fresh}
 
 -- the mark of a number of which all are fresh
 fresh_at : (count n : ℕ) → n < count → mark_at (replicate count Fresh) n ≡ Fresh

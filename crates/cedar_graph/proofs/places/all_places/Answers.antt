@@ -1,16 +1,16 @@
 use Rattle.std.proofs.Common.{◌≡◌, ◌+◌, ◌<◌, ◌≤◌, Some, length, vec_len, drop, IfSome, slice_get, sym, ◌∙◌, ap, subst, arith, inl, inr}
-use Rattle.std.specs.Map.{keys_of, values_of}
-use Rattle.std.specs.Map.Iter.{deref}
 use Rattle.std.proofs.lemmas.Bool.{cases_lt}
 use Rattle.std.proofs.lemmas.List.{length-map}
 use Rattle.std.proofs.lemmas.Map.Iter.{rest_more, rest_all}
 use Rattle.std.proofs.lemmas.Option.{MatchOption-from_none, slice_get_past}
 use Rattle.std.proofs.lemmas.Result.{err_from_is_err_and}
-use Rattle.cedar_graph.specs.Words.{AreNumbersOf, items_at}
+use Rattle.std.specs.Map.{keys_of, values_of}
+use Rattle.std.specs.Map.Iter.{deref}
 use Rattle.cedar_graph.proofs.Lists.{drop_next, drop_done, each_after_push}
 use Rattle.cedar_graph.proofs.TableEdges.{lack_of_table}
 use Rattle.cedar_graph.proofs.places.all_places.Goals as goal
 use Rattle.cedar_graph.proofs.places.all_places.Goals.{In_ok-push, In-Some}
+use Rattle.cedar_graph.specs.Words.{AreNumbersOf, items_at}
 
 -- the node of this turn stands at its place, and the others come after it
 turn : (g : _) (c : In-Some g) → (vec_len c.loop-node.targets < length (values_of c.args.nodes.now.entries))

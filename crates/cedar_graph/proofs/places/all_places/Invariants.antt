@@ -1,7 +1,7 @@
 use Rattle.std.proofs.Common.{◌≡◌, ◌<◌, ◌≤◌, ℕ, vec_len, length, drop, IfSome, slice_get}
 use Rattle.std.specs.Map.{keys_of, values_of}
-use Rattle.cedar_graph.specs.Words.{AreNumbersOf, items_at}
 use Rattle.cedar_graph.proofs.places.all_places.Given as goal
+use Rattle.cedar_graph.specs.Words.{AreNumbersOf, items_at}
 
 abbrev pub invariant-loop-node : goal.invariant-loop-node
 invariant-loop-node g l = record {

@@ -1,15 +1,16 @@
 use Rattle.std.proofs.Common.{◌≡◌, ◌∷◌, [], Contains, sym, ◌∙◌, ap, subst, inl, inr}
-use Rattle.std.specs.List.{list_any}
-use Rattle.std.specs.Map.{keys_of}
-use Rattle.std.specs.Map.Iter.{deref}
 use Rattle.std.proofs.lemmas.Bool.{or_cases, or_left, or_right}
 use Rattle.std.proofs.lemmas.List.Elements.{Contains-push, Contains-push_cases, Contains-append_left}
 use Rattle.std.proofs.lemmas.Map.Iter.{rest_more}
-use Rattle.cedar_graph.specs.Numbering.{IsNumbered}
+use Rattle.std.specs.List.{list_any}
+use Rattle.std.specs.Map.{keys_of}
+use Rattle.std.specs.Map.Iter.{deref}
 use Rattle.cedar_graph.proofs.Numbers.{number_alike}
 use Rattle.cedar_graph.proofs.places.places_of.Goals as goal
+use Rattle.cedar_graph.specs.Numbering.{IsNumbered}
 
--- one more key is passed, whose place is the last: each place is an edge's, each edge has its place or waits, and what waits is an edge
+-- one more key is passed, whose place is the last: each place is an edge's, each edge has its place
+-- or waits, and what waits is an edge
 pub loop-key-preserved : goal.loop-key-preserved
 loop-key-preserved g c =
     let eq = g.K.PartialEq.eq in

@@ -1,8 +1,8 @@
 use Rattle.std.proofs.Common.{◌≡◌, ◌⊎◌, ℕ, true, IsTrue, Contains}
 use Rattle.std.specs.List.{list_any}
 use Rattle.std.specs.Map.{keys_of}
-use Rattle.cedar_graph.specs.Numbering.{IsNumbered}
 use Rattle.cedar_graph.proofs.places.places_of.Given as goal
+use Rattle.cedar_graph.specs.Numbering.{IsNumbered}
 
 abbrev pub invariant-loop-key : goal.invariant-loop-key
 invariant-loop-key g l =

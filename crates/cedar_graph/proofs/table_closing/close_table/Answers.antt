@@ -1,12 +1,12 @@
 use Rattle.std.proofs.Common.{◌≡◌, ◌↔◌, arith, length}
 use Rattle.std.proofs.lemmas.Result.{IfErr-weaker, IfOk-weaker, on_ok_weaker}
 use Rattle.std.specs.Map.{keys_of}
-use Rattle.cedar_below.proofs.Chains.{refined}
-use Rattle.cedar_graph.specs.Words.{AreInTurn, Chain, HasEntry, HoldsPairwise, IsClosedTo, IsCycle, IsGrown, IsTableFault, ListHas, StepsTo, one}
+use Rattle.cedar_ast.proofs.Chains.{refined}
 use Rattle.cedar_graph.proofs.TableClosing.{closed_pairwise, fault_of_steps, on_ok_anyway}
 use Rattle.cedar_graph.proofs.TableEdges.{leads_there, linked, list_from_step, step_from_list, within}
 use Rattle.cedar_graph.proofs.table_closing.close_table.Goals as goal
 use Rattle.cedar_graph.proofs.table_closing.close_table.Goals.{In_ok-targets}
+use Rattle.cedar_graph.specs.Words.{AreInTurn, Chain, HasEntry, HoldsPairwise, IsClosedTo, IsCycle, IsGrown, IsTableFault, ListHas, StepsTo, one}
 
 -- steps by places are the edges of the table
 steps : (g : _) (c : In_ok-targets g) (a b : _)

@@ -3,13 +3,13 @@ use Rattle.std.proofs.lemmas.List.{length-map}
 use Rattle.std.proofs.lemmas.Option.{slice_get_read}
 use Rattle.std.specs.List.{IsDistinct, zip}
 use Rattle.std.specs.Map.{keys_of}
-use Rattle.cedar_below.proofs.Chains.{last_step}
-use Rattle.cedar_graph.specs.Words.{AreInTurn, Chain, IsGrown, IsTarget, ListHas, StandsIn, items_at}
+use Rattle.cedar_ast.proofs.Chains.{last_step}
 use Rattle.cedar_graph.proofs.Numbers.{eq_back, numbered_from_name}
 use Rattle.cedar_graph.proofs.TableClosing.{distinct_keys, grown_entries}
 use Rattle.cedar_graph.proofs.TableEdges.{chain_of_keys, chain_of_numbers, one_place}
 use Rattle.cedar_graph.proofs.table_closing.closed_table.Goals as goal
 use Rattle.cedar_graph.proofs.table_closing.closed_table.Goals.{After-into_parts-keys}
+use Rattle.cedar_graph.specs.Words.{AreInTurn, Chain, IsGrown, IsTarget, ListHas, StandsIn, items_at}
 
 pub closed_lists-requires : goal.closed_lists-requires
 closed_lists-requires g c = record {

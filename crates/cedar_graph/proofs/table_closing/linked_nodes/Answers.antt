@@ -1,11 +1,11 @@
 use Rattle.std.proofs.Common.{◌≡◌, ℕ, inl, inr, ◌∙◌, Contains, Some, ap, arith, length, refl, slice_get, subst, sym}
 use Rattle.std.proofs.lemmas.List.{length-set}
 use Rattle.std.proofs.lemmas.Option.{MatchOption-at_some, same_Some, slice_get_read, slice_get_within}
-use Rattle.cedar_graph.specs.Words.{IsGrown, StandsIn, items_at}
 use Rattle.cedar_graph.proofs.Lists.{items_at-read}
 use Rattle.cedar_graph.proofs.TableEdges.{grown_after, item_kept, one_more_in_turn}
 use Rattle.cedar_graph.proofs.table_closing.linked_nodes.Goals as goal
 use Rattle.cedar_graph.proofs.table_closing.linked_nodes.Goals.{After-numbers_after}
+use Rattle.cedar_graph.specs.Words.{IsGrown, StandsIn, items_at}
 
 -- the numbers that are gone through here
 list_here : (g : _) (c : After-numbers_after g) → c.deref.result.now ≡ items_at c.args.lists.now.items c.loop-place.place

@@ -1,6 +1,6 @@
 use Rattle.std.proofs.Common.{◌≡◌, ◌<◌, ◌≤◌, ℕ, Some, length, slice_get}
-use Rattle.cedar_graph.specs.Words.{IsGrown, StandsIn, items_at}
 use Rattle.cedar_graph.proofs.table_closing.linked_nodes.Given as goal
+use Rattle.cedar_graph.specs.Words.{IsGrown, StandsIn, items_at}
 
 abbrev pub invariant-loop-place : goal.invariant-loop-place
 invariant-loop-place g l = record {

@@ -1,8 +1,8 @@
 use Rattle.std.proofs.Common.{◌≡◌, ◌++◌, ◌∷◌, ◌∙◌, [], ◌<◌, ap, arith, length, sym}
-use Rattle.cedar_graph.specs.Words.{items_at}
 use Rattle.cedar_graph.proofs.Lists.{items_at-read}
 use Rattle.cedar_graph.proofs.TableLinking.{target_added, target_cases, target_kept}
 use Rattle.cedar_graph.proofs.table_linking.add_target.Goals as goal
+use Rattle.cedar_graph.specs.Words.{items_at}
 
 -- the number has a list
 within : (c : goal.In_ok-push) → c.args.from < length c.args.targets.now.items

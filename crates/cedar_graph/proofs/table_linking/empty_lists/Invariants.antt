@@ -1,6 +1,6 @@
 use Rattle.std.proofs.Common.{◌≡◌, ℕ, vec_len}
-use Rattle.cedar_graph.specs.Words.{IsTarget}
 use Rattle.cedar_graph.proofs.table_linking.empty_lists.Given as goal
+use Rattle.cedar_graph.specs.Words.{IsTarget}
 
 abbrev pub invariant-loop-place : goal.invariant-loop-place
 invariant-loop-place l = record {

@@ -2,11 +2,11 @@ use Rattle.std.proofs.Common.{◌≡◌, ◌↔◌, arith, subst}
 use Rattle.std.proofs.lemmas.List.{length-map}
 use Rattle.std.proofs.lemmas.Result.{IfErr-weaker, IfOk-weaker, err_from_is_err_and, on_ok_weaker}
 use Rattle.std.specs.Map.{keys_of}
-use Rattle.cedar_below.proofs.Chains.{refined}
-use Rattle.cedar_graph.specs.Words.{AreInTurn, AreTargetsOf, Chain, HasEntry, HoldsPairwise, IsCycle, IsEdgeIn, IsEndIn, IsGrown, IsLack, IsLinkedTo, ListHas, one}
+use Rattle.cedar_ast.proofs.Chains.{refined}
 use Rattle.cedar_graph.proofs.TableLinking.{edge_from_list, fault_of_cycle, fault_of_ends, linked_pairwise, list_from_edge, not_linked, targets_within}
 use Rattle.cedar_graph.proofs.table_linking.link_table.Goals as goal
 use Rattle.cedar_graph.proofs.table_linking.link_table.Goals.{In_ok-targets}
+use Rattle.cedar_graph.specs.Words.{AreInTurn, AreTargetsOf, Chain, HasEntry, HoldsPairwise, IsCycle, IsEdgeIn, IsEndIn, IsGrown, IsLack, IsLinkedTo, ListHas, one}
 
 -- the places are those of the edges
 of_edges : (g : _) (c : In_ok-targets g)

@@ -1,12 +1,12 @@
 use Rattle.std.proofs.Common.{◌≡◌, ◌+◌, ◌++◌, ◌∷◌, ◌∙◌, [], Contains, ap, arith, inl, inr, sym, take}
-use Rattle.std.specs.Map.{keys_of}
 use Rattle.std.proofs.lemmas.List.{length-map, take_all, take_more}
 use Rattle.std.proofs.lemmas.List.Elements.{Contains-get_or}
 use Rattle.std.proofs.lemmas.Result.{err_from_is_err_and}
-use Rattle.cedar_graph.specs.Words.{HasEntry}
+use Rattle.std.specs.Map.{keys_of}
 use Rattle.cedar_graph.proofs.Numbers.{number_below}
 use Rattle.cedar_graph.proofs.TableLinking.{end_lacked, targets_of_more, targets_of_none}
 use Rattle.cedar_graph.proofs.table_linking.places_of_edges.Goals as goal
+use Rattle.cedar_graph.specs.Words.{HasEntry}
 
 pub loop-edge-init : goal.loop-edge-init
 loop-edge-init g c = record {

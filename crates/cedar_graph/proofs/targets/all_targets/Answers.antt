@@ -1,13 +1,13 @@
 use Rattle.std.proofs.Common.{◌≡◌, ◌≤◌, length, vec_len, hash_map_len, drop, IfSome, slice_get, sym, ◌∙◌, ap, subst, arith, inl, inr}
-use Rattle.std.specs.HashMap.{values}
-use Rattle.std.specs.Map.Iter.{deref}
 use Rattle.std.proofs.lemmas.Bool.{cases_lt}
 use Rattle.std.proofs.lemmas.Map.Iter.{rest_more, rest_all}
 use Rattle.std.proofs.lemmas.Option.{IfSome_then, MatchOption-from_none, slice_get_past}
-use Rattle.cedar_graph.specs.Words.{AreNumbersOf, items_at}
+use Rattle.std.specs.HashMap.{values}
+use Rattle.std.specs.Map.Iter.{deref}
 use Rattle.cedar_graph.proofs.Lists.{drop_next, drop_done, each_after_push}
 use Rattle.cedar_graph.proofs.Numbers.{numbers_of_kept}
 use Rattle.cedar_graph.proofs.targets.all_targets.Goals as goal
+use Rattle.cedar_graph.specs.Words.{AreNumbersOf, items_at}
 
 pub loop-node-preserved : goal.loop-node-preserved
 loop-node-preserved g c =

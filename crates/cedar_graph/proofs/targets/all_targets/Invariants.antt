@@ -1,7 +1,7 @@
 use Rattle.std.proofs.Common.{◌≡◌, ◌<◌, ◌≤◌, ℕ, vec_len, length, drop, IfSome, slice_get}
 use Rattle.std.specs.HashMap.{values}
-use Rattle.cedar_graph.specs.Words.{AreNumbers, AreNumbersOf, KeepsNumbers, items_at}
 use Rattle.cedar_graph.proofs.targets.all_targets.Given as goal
+use Rattle.cedar_graph.specs.Words.{AreNumbers, AreNumbersOf, KeepsNumbers, items_at}
 
 abbrev pub invariant-loop-node : goal.invariant-loop-node
 invariant-loop-node g l = record {

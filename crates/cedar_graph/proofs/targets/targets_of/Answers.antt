@@ -1,14 +1,15 @@
 use Rattle.std.proofs.Common.{◌≡◌, ◌∷◌, [], Contains, sym, ◌∙◌, ap, subst, inl, inr}
-use Rattle.std.specs.List.{list_any}
-use Rattle.std.specs.Map.Iter.{deref}
 use Rattle.std.proofs.lemmas.Bool.{or_cases, or_left, or_right}
 use Rattle.std.proofs.lemmas.List.Elements.{Contains-push, Contains-push_cases, Contains-append_left}
 use Rattle.std.proofs.lemmas.Map.Iter.{rest_more}
-use Rattle.cedar_graph.specs.Numbering.{IsNumbered}
+use Rattle.std.specs.List.{list_any}
+use Rattle.std.specs.Map.Iter.{deref}
 use Rattle.cedar_graph.proofs.Numbers.{number_alike}
 use Rattle.cedar_graph.proofs.targets.targets_of.Goals as goal
+use Rattle.cedar_graph.specs.Numbering.{IsNumbered}
 
--- one more target is numbered, whose number is the last: names keep their numbers, each number is an edge's, each edge has its number or waits, and what waits is an edge
+-- one more target is numbered, whose number is the last: names keep their numbers, each number is
+-- an edge's, each edge has its number or waits, and what waits is an edge
 pub loop-target-preserved : goal.loop-target-preserved
 loop-target-preserved g c =
     let eq = g.K.PartialEq.eq in

@@ -1,7 +1,7 @@
 use Rattle.std.proofs.Common.{◌≡◌, ◌⊎◌, ℕ, true, IsTrue, Contains}
 use Rattle.std.specs.List.{list_any}
-use Rattle.cedar_graph.specs.Numbering.{IsNumbered, AreNumbers, KeepsNumbers}
 use Rattle.cedar_graph.proofs.targets.targets_of.Given as goal
+use Rattle.cedar_graph.specs.Numbering.{IsNumbered, AreNumbers, KeepsNumbers}
 
 abbrev pub invariant-loop-target : goal.invariant-loop-target
 invariant-loop-target g l = record {

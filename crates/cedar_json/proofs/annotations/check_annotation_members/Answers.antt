@@ -1,12 +1,12 @@
 use Rattle.std.proofs.Common.{◌≡◌, ◌+◌, true, false, ◌&&◌, IsSomeAnd, Some, ap, ap₂, drop, option_and_then, subst, sym, ◌∙◌}
 use Rattle.std.proofs.lemmas.Bool.{false≢true}
-use Rattle.json.specs.Json.{object}
-use Rattle.json.specs.Value.{members_view, value_view}
-use Rattle.cedar_below.specs.Identifier.{IsIdentifier, is_identifier_text}
-use Rattle.cedar_json.specs.Words.{are_annotations, is_text_or_null}
+use Rattle.cedar_ast.specs.Identifier.{IsIdentifier, is_identifier_text}
 use Rattle.cedar_json.proofs.FieldLemmas.{nth_member-is}
 use Rattle.cedar_json.proofs.TypeLemmas.{members_from_index}
 use Rattle.cedar_json.proofs.annotations.check_annotation_members.Goals as goal
+use Rattle.cedar_json.specs.Words.{are_annotations, is_text_or_null}
+use Rattle.json.specs.Json.{object}
+use Rattle.json.specs.Value.{members_view, value_view}
 
 -- a member whose key is no identifier is no annotation
 pub returns-then-not-is_identifier : goal.returns-then-not-is_identifier

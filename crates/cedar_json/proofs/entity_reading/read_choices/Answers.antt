@@ -1,10 +1,10 @@
 use Rattle.std.proofs.Common.{◌≡◌, Some, length, map, ap, arith, option_and_then, ◌∙◌}
-use Rattle.json.specs.Find.{as_array, as_str}
-use Rattle.json.specs.Value.{value_view}
-use Rattle.cedar_below.specs.Eid.{eid_text}
-use Rattle.cedar_json.specs.Words.{at_least_one}
+use Rattle.cedar_ast.specs.Eid.{eid_text}
 use Rattle.cedar_json.proofs.ListLemmas.{no_length, none_listed}
 use Rattle.cedar_json.proofs.entity_reading.read_choices.Goals as goal
+use Rattle.cedar_json.specs.Words.{at_least_one}
+use Rattle.json.specs.Find.{as_array, as_str}
+use Rattle.json.specs.Value.{value_view}
 
 pub returns-then-is_empty : goal.returns-then-is_empty
 returns-then-is_empty c =

@@ -1,8 +1,8 @@
 use Rattle.std.proofs.Common.{ap, option_map, sym, ◌∙◌}
-use Rattle.json.specs.Value.{value_view}
-use Rattle.cedar_names.specs.Words.{enumerated}
-use Rattle.cedar_json.specs.Words.{body_by, if_so}
 use Rattle.cedar_json.proofs.entity_reading.read_kind.Goals as goal
+use Rattle.cedar_json.specs.Words.{body_by, if_so}
+use Rattle.cedar_schema_ast.specs.Words.{enumerated}
+use Rattle.json.specs.Value.{value_view}
 
 -- a declaration with the field `enum` lists the ids that it holds
 pub returns-in-Ok : goal.returns-in-Ok

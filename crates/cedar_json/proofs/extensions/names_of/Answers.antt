@@ -1,7 +1,7 @@
 use Rattle.std.proofs.Common.{[], Bor}
 use Rattle.cedar_json.proofs.ExtensionLemmas.{all_named, name_at, name_more}
-use Rattle.cedar_json.specs.Words.{Text}
 use Rattle.cedar_json.proofs.extensions.names_of.Goals as goal
+use Rattle.cedar_json.specs.Words.{Text}
 
 abbrev blank : Bor Text
 blank = record { ref_ptr = (0, 0); now = [] }

@@ -1,6 +1,6 @@
 use Rattle.std.proofs.Common.{◌≡◌, drop, map, take}
-use Rattle.cedar_json.specs.Words.{AreKinds, core_ty_of, kind_type}
 use Rattle.cedar_json.proofs.extensions.types_of.Given as goal
+use Rattle.cedar_json.specs.Words.{AreKinds, core_ty_of, kind_type}
 
 abbrev pub invariant-loop-kind : goal.invariant-loop-kind
 invariant-loop-kind l = record {

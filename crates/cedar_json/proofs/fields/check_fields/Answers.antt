@@ -1,8 +1,8 @@
 use Rattle.std.proofs.Common.{◌≡◌, ◌++◌, ap₂, subst, sym}
-use Rattle.json.specs.Value.{members_view, value_view}
 use Rattle.cedar_json.proofs.FieldLemmas.{has_only-other, member_at-other}
 use Rattle.cedar_json.proofs.fields.check_fields.Goals as goal
 use Rattle.cedar_json.specs.Fields.{IsOther, known_fields, texts_of}
+use Rattle.json.specs.Value.{members_view, value_view}
 
 pub returns-in-Some-other_member : goal.returns-in-Some-other_member
 returns-in-Some-other_member c =

@@ -1,7 +1,7 @@
 use Rattle.std.proofs.Common.{◌≡◌, ◌++◌, drop}
-use Rattle.json.specs.Value.{members_view}
-use Rattle.cedar_json.specs.Fields.{keys_among, texts_of}
 use Rattle.cedar_json.proofs.fields.other_member.Given as goal
+use Rattle.cedar_json.specs.Fields.{keys_among, texts_of}
+use Rattle.json.specs.Value.{members_view}
 
 abbrev pub invariant-loop-index : goal.invariant-loop-index
 invariant-loop-index l =

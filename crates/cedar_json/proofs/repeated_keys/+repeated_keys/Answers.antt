@@ -1,11 +1,11 @@
 use Rattle.std.proofs.Common.{Some, ap, option_and_then, subst, sym}
-use Rattle.json.specs.Json.{array, object}
-use Rattle.json.specs.Strict.{ItemsHaveUniqueKeys, MembersHaveUniqueKeys}
-use Rattle.json.specs.Value.{items_view, members_view, value_view}
 use Rattle.cedar_json.proofs.FieldLemmas.{nth_member-is}
 use Rattle.cedar_json.proofs.ListLemmas.{get_item-is, items_from_index}
 use Rattle.cedar_json.proofs.TypeLemmas.{members_from_index}
 use Rattle.cedar_json.proofs.repeated_keys.+repeated_keys.Goals as goal
+use Rattle.json.specs.Json.{array, object}
+use Rattle.json.specs.Strict.{ItemsHaveUniqueKeys, MembersHaveUniqueKeys}
+use Rattle.json.specs.Value.{items_view, members_view, value_view}
 
 pub check_items-returns-in-Err : goal.check_items-returns-in-Err
 check_items-returns-in-Err t c =

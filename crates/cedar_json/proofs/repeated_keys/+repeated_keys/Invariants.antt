@@ -1,7 +1,7 @@
 use Rattle.std.proofs.Common.{drop}
+use Rattle.cedar_json.proofs.repeated_keys.+repeated_keys.Given as goal
 use Rattle.json.specs.Strict.{ItemsHaveUniqueKeys, MembersHaveUniqueKeys}
 use Rattle.json.specs.Value.{items_view, members_view}
-use Rattle.cedar_json.proofs.repeated_keys.+repeated_keys.Given as goal
 
 abbrev pub invariant-check_items-loop-index : goal.invariant-check_items-loop-index
 invariant-check_items-loop-index l =

@@ -1,5 +1,5 @@
 use Rattle.std.proofs.Common.{IsSomeAnd, Some, ap, subst, sym, ◌∙◌}
-use Rattle.cedar_below.specs.NameText.{IsNameText}
+use Rattle.cedar_ast.specs.NameText.{IsNameText}
 use Rattle.cedar_json.proofs.NameLemmas.{no_name, spelled_name-none, spelled_raw}
 use Rattle.cedar_json.proofs.spelling.read_name.Goals as goal
 

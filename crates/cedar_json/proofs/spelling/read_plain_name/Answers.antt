@@ -1,5 +1,5 @@
 use Rattle.std.proofs.Common.{IsSomeAnd, subst, sym}
-use Rattle.cedar_below.specs.NameText.{IsNameText, IsReservedNameText}
+use Rattle.cedar_ast.specs.NameText.{IsNameText, IsReservedNameText}
 use Rattle.cedar_json.proofs.NameLemmas.{no_plain_name, plain_name_in-none, plain_name_in-read, plain_name_in-reserved, reserved_name}
 use Rattle.cedar_json.proofs.spelling.read_plain_name.Goals as goal
 

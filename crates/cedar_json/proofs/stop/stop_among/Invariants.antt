@@ -1,6 +1,6 @@
 use Rattle.std.proofs.Common.{◌≡◌, ◌≤◌, length, vec_len}
-use Rattle.cedar_json.specs.Nesting.{nests_too_deep}
 use Rattle.cedar_json.proofs.stop.stop_among.Given as goal
+use Rattle.cedar_json.specs.Nesting.{nests_too_deep}
 
 abbrev pub invariant-loop-token : goal.invariant-loop-token
 invariant-loop-token l = record {

@@ -1,18 +1,18 @@
 use Rattle.std.proofs.Common.{◌≡◌, ◌+◌, ◌*◌, ◌<◌, length, Some, None, option_and_then, option_map, codes, ap, sym, subst, ◌∙◌, arith, rules}
 use Rattle.std.proofs.lemmas.Result.{err_from_is_err_and}
+use Rattle.cedar_json.proofs.FieldLemmas.{get-smaller, nth_member-is, object_field-smaller, object_held}
+use Rattle.cedar_json.proofs.ReadLemmas.{read_inside, refused_inside}
+use Rattle.cedar_json.proofs.TypeLemmas.{all_read, attribute_read, attributes_field-held, attributes_field-none, described_too, element_field-held, members_from_index, name_held, no_annotations, no_attribute, no_name_held, no_required, no_type, one_more, raw_attribute-made, raw_record-made, record_of-no_flag, type_by_word-either, type_by_word-entity, type_by_word-other, type_with-known, type_with-no_word, type_with-unknown}
+use Rattle.cedar_json.proofs.type_reading.+type_reading.Goals as goal
+use Rattle.cedar_json.specs.Words.{Entity, IsPutUnder, RawName, additional_field, attribute_of, attributes_field, element_field, member_at, members_from, plain_members, raw_attribute, raw_expr, raw_name, raw_reference, record_expr, record_of, roll-RecordType, set_expr, text_held, type_by_word, type_of}
+use Rattle.cedar_schema_ast.proofs.VariantLemmas.{variant-Boolean, variant-Entity, variant-EntityOrCommon, variant-Long, variant-Record, variant-Set, variant-String}
+use Rattle.cedar_schema_ast.specs.Words.{named, reference_to}
+use Rattle.cedar_schema_ast.specs.declared.json_schema.reference_type.ReferenceType.TheVariants.{CommonOrEntity}
 use Rattle.json.proofs.Trees.{member_smaller}
 use Rattle.json.specs.Find.{get}
 use Rattle.json.specs.Json.{object}
 use Rattle.json.specs.Tree.{json_tokens, members_tokens}
 use Rattle.json.specs.Value.{value_view, members_view}
-use Rattle.cedar_names.proofs.VariantLemmas.{variant-Boolean, variant-Entity, variant-EntityOrCommon, variant-Long, variant-Record, variant-Set, variant-String}
-use Rattle.cedar_names.specs.Words.{named, reference_to}
-use Rattle.cedar_names.specs.declared.json_schema.reference_type.ReferenceType.TheVariants.{CommonOrEntity}
-use Rattle.cedar_json.specs.Words.{Entity, IsPutUnder, RawName, additional_field, attribute_of, attributes_field, element_field, member_at, members_from, plain_members, raw_attribute, raw_expr, raw_name, raw_reference, record_expr, record_of, roll-RecordType, set_expr, text_held, type_by_word, type_of}
-use Rattle.cedar_json.proofs.FieldLemmas.{get-smaller, nth_member-is, object_field-smaller, object_held}
-use Rattle.cedar_json.proofs.ReadLemmas.{read_inside, refused_inside}
-use Rattle.cedar_json.proofs.TypeLemmas.{all_read, attribute_read, attributes_field-held, attributes_field-none, described_too, element_field-held, members_from_index, name_held, no_annotations, no_attribute, no_name_held, no_required, no_type, one_more, raw_attribute-made, raw_record-made, record_of-no_flag, type_by_word-either, type_by_word-entity, type_by_word-other, type_with-known, type_with-no_word, type_with-unknown}
-use Rattle.cedar_json.proofs.type_reading.+type_reading.Goals as goal
 
 -- a value describes no attribute where its field `required` is no flag
 pub read_attribute-returns-in_err-required : goal.read_attribute-returns-in_err-required
@@ -50,8 +50,8 @@ read_attributes-read_attribute-read-requires t c =
     let smaller : 4 * length (json_tokens (value_view x.1)) + 3 < 4 * length (members_tokens (members_view c.args.members.now.items)) = omega (arith, below) in
     search rules
 
--- where one member describes no attribute, all together describe none, and the fault of the member's
--- value is found in the object at the index of the member
+-- where one member describes no attribute, all together describe none, and the fault of the
+-- member's value is found in the object at the index of the member
 pub read_attributes-returns-in_err-put_read : goal.read_attributes-returns-in_err-put_read
 read_attributes-returns-in_err-put_read t c =
     let x = c.member-item.result in
@@ -101,8 +101,8 @@ read_set-returns-in_ok-element-in-Ok t c =
     ap (option_map set_expr) (element_field-held (value_view c.args.value.now) (value_view c.in_ok-held.held.now) c.in_ok-held.ensures
     ∙ c.in-Ok.ensures) ∙ ap Some (sym made)
 
--- where the field `element` describes no type, there is no type of such sets, and the fault is found
--- in the value under `element`
+-- where the field `element` describes no type, there is no type of such sets, and the fault is
+-- found in the value under `element`
 pub read_set-returns-in-Err : goal.read_set-returns-in-Err
 read_set-returns-in-Err t c =
     let j = value_view c.args.value.now in
@@ -134,8 +134,8 @@ read_type_of-returns-in_err-check_fields t c =
       c.in_err-check_fields.ensures.1,
     )
 
--- where all fields are known, the type is that of the word in the field `type`; the word is what that
--- field holds, so a fault of the word is true of the value
+-- where all fields are known, the type is that of the word in the field `type`; the word is what
+-- that field holds, so a fault of the word is true of the value
 pub read_type_of-returns : goal.read_type_of-returns
 read_type_of-returns t c =
     described_too c.read_type_by.result (raw_expr None) _ _ _ _
@@ -277,8 +277,8 @@ read_record-returns-in-Ok t c =
     ap (record_of (additional_field j)) (attributes_field-held j _ c.in_ok-members.ensures ∙ c.in-Ok.ensures)
     ∙ ap (option_map (record_expr (members_from all))) c.in_ok-additional_attributes.ensures ∙ ap Some (sym made)
 
--- a value describes no record type where the members of its field `attributes` describe no attributes,
--- and the fault of the attributes is found in the value under `attributes`
+-- a value describes no record type where the members of its field `attributes` describe no
+-- attributes, and the fault of the attributes is found in the value under `attributes`
 pub read_record-returns-in-Err : goal.read_record-returns-in-Err
 read_record-returns-in-Err t c =
     let j = value_view c.args.value.now in

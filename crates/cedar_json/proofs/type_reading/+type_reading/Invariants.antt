@@ -1,8 +1,8 @@
 use Rattle.std.proofs.Common.{◌≡◌, ◌+◌, ◌*◌, [], None, drop, length}
+use Rattle.cedar_json.proofs.type_reading.+type_reading.Given as goal
+use Rattle.cedar_json.specs.Words.{attributes_of, plain_members}
 use Rattle.json.specs.Tree.{json_tokens, members_tokens}
 use Rattle.json.specs.Value.{value_view, members_view}
-use Rattle.cedar_json.specs.Words.{attributes_of, plain_members}
-use Rattle.cedar_json.proofs.type_reading.+type_reading.Given as goal
 
 abbrev pub decreases-read_type_of : goal.decreases-read_type_of
 decreases-read_type_of l = 4 * length (json_tokens (value_view l.value.now)) + 2

@@ -1,18 +1,18 @@
 use Rattle.std.proofs.Common.{◌≡◌, ◌++◌, [], ◌∷◌, ◌+◌, ◌*◌, ◌<◌, FitsSigned, w64, length, Some, ap, codes, option_and_then, option_map, subst, sym, ◌∙◌, arith, rules}
 use Rattle.std.proofs.lemmas.Result.{err_from_is_err_and}
-use Rattle.json.proofs.Trees.{item_smaller, member_smaller}
-use Rattle.json.specs.Find.{at}
-use Rattle.json.specs.Json.{array, object}
-use Rattle.json.specs.Tree.{items_tokens, json_tokens, members_tokens}
-use Rattle.json.specs.Value.{items_view, members_view, value_view}
-use Rattle.cedar_below.proofs.TreeLemmas.{tree_of-set, tree_of-uid}
-use Rattle.cedar_json.specs.Words.{IsPutUnder, IsTrueOf, call_value, member_at, no_tree, number_value, plain_name, record_of_pairs, set_value, tree, tree_of, uid_value, value_of}
+use Rattle.cedar_ast.proofs.TreeLemmas.{tree_of-set, tree_of-uid}
 use Rattle.cedar_json.proofs.FieldLemmas.{get-smaller, nth_member-is}
 use Rattle.cedar_json.proofs.ListLemmas.{get_item-is, items_from_index}
 use Rattle.cedar_json.proofs.ReadLemmas.{made, read_inside, refused_inside}
 use Rattle.cedar_json.proofs.TypeLemmas.{described_too, members_from_index}
 use Rattle.cedar_json.proofs.ValueLemmas.{all_pairs, all_values, array_is, array_row, call_no_argument, call_no_function, call_read, no_long, no_pair, no_value, null_is, null_row, number_read, number_row, pair_more, record_read, sole_held-get, sole_held-smaller, text_row, truth_row, value_more, value_of-call, value_of-entity, value_of-record}
 use Rattle.cedar_json.proofs.value_reading.+value_reading.Goals as goal
+use Rattle.cedar_json.specs.Words.{IsPutUnder, IsTrueOf, call_value, member_at, no_tree, number_value, plain_name, record_of_pairs, set_value, tree, tree_of, uid_value, value_of}
+use Rattle.json.proofs.Trees.{item_smaller, member_smaller}
+use Rattle.json.specs.Find.{at}
+use Rattle.json.specs.Json.{array, object}
+use Rattle.json.specs.Tree.{items_tokens, json_tokens, members_tokens}
+use Rattle.json.specs.Value.{items_view, members_view, value_view}
 
 -- a value describes no call where it calls no function
 pub read_call-returns-in_err-function : goal.read_call-returns-in_err-function

@@ -1,9 +1,9 @@
 use Rattle.std.proofs.Common.{◌≡◌, ◌+◌, ◌*◌, [], drop, length, option_map}
-use Rattle.json.specs.Tree.{items_tokens, json_tokens, members_tokens}
-use Rattle.json.specs.Value.{items_view, members_view, value_view}
-use Rattle.cedar_json.specs.Words.{pairs_of, tree_of, values_of}
 use Rattle.cedar_json.proofs.ValueLemmas.{before, shown}
 use Rattle.cedar_json.proofs.value_reading.+value_reading.Given as goal
+use Rattle.cedar_json.specs.Words.{pairs_of, tree_of, values_of}
+use Rattle.json.specs.Tree.{items_tokens, json_tokens, members_tokens}
+use Rattle.json.specs.Value.{items_view, members_view, value_view}
 
 abbrev pub decreases-read_expr : goal.decreases-read_expr
 decreases-read_expr l = 4 * length (json_tokens (value_view l.value.now))

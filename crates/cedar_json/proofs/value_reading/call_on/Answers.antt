@@ -1,7 +1,7 @@
 use Rattle.std.proofs.Common.{ap, ◌∙◌}
-use Rattle.cedar_below.proofs.TreeLemmas.{tree_of-call}
-use Rattle.cedar_json.specs.Words.{call_value, plain_name, trees_of}
+use Rattle.cedar_ast.proofs.TreeLemmas.{tree_of-call}
 use Rattle.cedar_json.proofs.value_reading.call_on.Goals as goal
+use Rattle.cedar_json.specs.Words.{call_value, plain_name, trees_of}
 
 pub returns : goal.returns
 returns c =

@@ -1,11 +1,11 @@
 use Rattle.std.proofs.Common.{◌≡◌, false, MatchOption, None, Some, ap, codes, ok_or, option_and_then, subst, sym, w64, ◌∙◌, arith}
 use Rattle.std.specs.Str.{bytes_eq}
 use Rattle.std.specs.Str.Parse.{ParsesSigned}
-use Rattle.json.specs.Find.{as_number}
-use Rattle.json.specs.Value.{value_view}
 use Rattle.cedar_json.proofs.NumberLemmas.{whole_number-parsed}
 use Rattle.cedar_json.proofs.value_reading.whole_number.Goals as goal
 use Rattle.cedar_json.specs.WholeNumber.{whole_number}
+use Rattle.json.specs.Find.{as_number}
+use Rattle.json.specs.Value.{value_view}
 
 pub returns : goal.returns
 returns c =

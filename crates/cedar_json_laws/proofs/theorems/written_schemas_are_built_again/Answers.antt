@@ -1,10 +1,10 @@
 use Rattle.std.proofs.Common.{◌≡◌, subst, ⊎_elim}
-use Rattle.cedar_declaration_laws.proofs.ComeBack.{declared_schemas_come_back}
-use Rattle.cedar_json_laws.specs.Words.{Bag, Fragment, IsConvertedBack, IsRewritten, RawName, raw_fragment, schema_of, written_fragment}
 use Rattle.cedar_json_laws.proofs.Declared.{declares_alike}
+use Rattle.cedar_json_laws.proofs.theorems.written_schemas_are_built_again.Goals as goal
+use Rattle.cedar_json_laws.specs.Words.{Bag, Fragment, IsConvertedBack, IsRewritten, RawName, raw_fragment, schema_of, written_fragment}
 use Rattle.cedar_json_writer.proofs.WrittenTwice.{described_once}
 use Rattle.cedar_schema.proofs.SchemaEquality.{schemas-Same}
-use Rattle.cedar_json_laws.proofs.theorems.written_schemas_are_built_again.Goals as goal
+use Rattle.cedar_schema_laws.proofs.ComeBack.{declared_schemas_come_back}
 
 -- what is read declares what was written
 same_bag : (fragment read : Fragment RawName) → IsRewritten fragment read → raw_fragment fragment ≡ raw_fragment read

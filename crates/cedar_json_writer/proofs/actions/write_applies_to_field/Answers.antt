@@ -1,10 +1,10 @@
 use Rattle.std.proofs.Common.{None, OnOk, Option, codes, map, option_map, subst, sym}
 use Rattle.std.proofs.lemmas.Result.{err_from_is_err_and}
-use Rattle.cedar_names.specs.declared.json_schema.action_type.ApplySpec.{ApplySpec}
-use Rattle.cedar_json_writer.specs.Words.{AddsField, Entity, IfThere, IsChecked, IsFlawOf, RawName, SoundRequests, flaws_in, raw_expr, raw_reference, reference_array, requests_document, requests_flaws, shape_held, written_requests}
 use Rattle.cedar_json_writer.proofs.WritingLemmas.{checked, object_by, on_ok}
 use Rattle.cedar_json_writer.proofs.WrittenActions.{requests_added, requests_free}
 use Rattle.cedar_json_writer.proofs.actions.write_applies_to_field.Goals as goal
+use Rattle.cedar_json_writer.specs.Words.{AddsField, Entity, IfThere, IsChecked, IsFlawOf, RawName, SoundRequests, flaws_in, raw_expr, raw_reference, reference_array, requests_document, requests_flaws, shape_held, written_requests}
+use Rattle.cedar_schema_ast.specs.declared.json_schema.action_type.ApplySpec.{ApplySpec}
 
 pub returns-clause-written : goal.returns-clause-written
 returns-clause-written c =

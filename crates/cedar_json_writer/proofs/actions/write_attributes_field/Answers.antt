@@ -1,7 +1,7 @@
 use Rattle.std.proofs.Common.{Global, OnOk, Option, String, codes, option_map, subst, sym}
 use Rattle.std.specs.BTreeMap.{BTreeMap}
-use Rattle.cedar_json_writer.specs.Words.{AddsField, Value, pairs_document, written_pairs}
 use Rattle.cedar_json_writer.proofs.actions.write_attributes_field.Goals as goal
+use Rattle.cedar_json_writer.specs.Words.{AddsField, Value, pairs_document, written_pairs}
 
 pub returns-clause-written : goal.returns-clause-written
 returns-clause-written c =

@@ -1,10 +1,10 @@
 use Rattle.std.proofs.Common.{◌≡◌, ◌+◌, ◌∷◌, Global, OnOk, Option, codes, drop, drop_of_length-le, map, option_map, subst, sym}
 use Rattle.std.specs.declared.vec.Vec.{Vec}
-use Rattle.cedar_below.proofs.TreeLemmas.{drop-at}
-use Rattle.cedar_json_writer.specs.Words.{ActionEntityUID, AddsField, RawName, parent_array, written_parent}
+use Rattle.cedar_ast.proofs.TreeLemmas.{drop-at}
 use Rattle.cedar_json_writer.proofs.WritingLemmas.{array_added, field_added, item_turn, on_ok}
 use Rattle.cedar_json_writer.proofs.WrittenNames.{parent_item, parents_added}
 use Rattle.cedar_json_writer.proofs.actions.write_member_of_field.Goals as goal
+use Rattle.cedar_json_writer.specs.Words.{ActionEntityUID, AddsField, RawName, parent_array, written_parent}
 
 pub loop-parent-preserved : goal.loop-parent-preserved
 loop-parent-preserved c =

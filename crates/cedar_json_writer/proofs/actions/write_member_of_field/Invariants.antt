@@ -1,8 +1,8 @@
 use Rattle.std.proofs.Common.{◌≡◌, ◌++◌, drop}
-use Rattle.json.specs.Tree.{items_tokens}
 use Rattle.cedar_json_writer.proofs.WritingLemmas.{items_from}
 use Rattle.cedar_json_writer.proofs.WrittenNames.{parent_item}
 use Rattle.cedar_json_writer.proofs.actions.write_member_of_field.Given as goal
+use Rattle.json.specs.Tree.{items_tokens}
 
 abbrev pub invariant-loop-parent : goal.invariant-loop-parent
 invariant-loop-parent l =

@@ -1,11 +1,11 @@
 use Rattle.std.proofs.Common.{List, refl, subst, sym, ◌∙◌, codes}
-use Rattle.std.proofs.lemmas.Bool.{false≢true}
-use Rattle.cedar_json_writer.proofs.WrittenDefinitions.{declarations_free, no_common_types, none_free, some_common_types}
 use Rattle.std.proofs.Common.{None as nothing}
+use Rattle.std.proofs.lemmas.Bool.{false≢true}
 use Rattle.cedar_json.proofs.NameLemmas.{common_key-read}
-use Rattle.cedar_json_writer.specs.Words.{AddsField, CommonType, Expr, RawName, SoundType, Text, common_key, common_type_text, common_types_held, raw_expr, type_flaws, written_common_types}
 use Rattle.cedar_json_writer.proofs.WritingLemmas.{checked_as, field_absent, on_ok}
+use Rattle.cedar_json_writer.proofs.WrittenDefinitions.{declarations_free, no_common_types, none_free, some_common_types}
 use Rattle.cedar_json_writer.proofs.definitions.write_common_types.Goals as goal
+use Rattle.cedar_json_writer.specs.Words.{AddsField, CommonType, Expr, RawName, SoundType, Text, common_key, common_type_text, common_types_held, raw_expr, type_flaws, written_common_types}
 
 -- where there are some, the object holds them all
 pub returns-clause-written : goal.returns-clause-written

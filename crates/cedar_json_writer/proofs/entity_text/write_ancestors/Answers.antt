@@ -1,8 +1,8 @@
 use Rattle.std.proofs.Common.{ap, map}
-use Rattle.cedar_json_writer.specs.Words.{entity_ancestors, uid_document, uid_of}
 use Rattle.cedar_json_writer.proofs.WritingLemmas.{array_added, item_turn, on_ok}
 use Rattle.cedar_json_writer.proofs.WrittenEntityData.{uids_added}
 use Rattle.cedar_json_writer.proofs.entity_text.write_ancestors.Goals as goal
+use Rattle.cedar_json_writer.specs.Words.{entity_ancestors, uid_document, uid_of}
 
 pub loop-uid-preserved : goal.loop-uid-preserved
 loop-uid-preserved c =

@@ -1,9 +1,9 @@
 use Rattle.std.proofs.Common.{refl, sym, ◌∙◌}
 use Rattle.std.proofs.lemmas.Bool.{false≢true}
-use Rattle.cedar_json_writer.specs.Words.{SoundPairs, pairs_flaws, written_pairs}
 use Rattle.cedar_json_writer.proofs.WritingLemmas.{flawless_as, on_ok}
 use Rattle.cedar_json_writer.proofs.WrittenEntityData.{some_tags, tags_absent, tags_free}
 use Rattle.cedar_json_writer.proofs.entity_text.write_tags.Goals as goal
+use Rattle.cedar_json_writer.specs.Words.{SoundPairs, pairs_flaws, written_pairs}
 
 pub returns-then-is_empty-clause-written : goal.returns-then-is_empty-clause-written
 returns-then-is_empty-clause-written c =

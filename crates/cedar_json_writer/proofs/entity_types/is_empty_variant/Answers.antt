@@ -1,10 +1,10 @@
 use Rattle.std.proofs.Common.{None, ap, sym, ◌∙◌}
 use Rattle.std.proofs.lemmas.Bool.{false≢true}
-use Rattle.cedar_names.proofs.ExprLemmas.{raw_record-entries}
-use Rattle.cedar_names.proofs.VariantLemmas.{raw_variant-Record}
-use Rattle.cedar_json_writer.specs.Words.{RawName, TypeVariant, is_empty_record, out-RecordType, raw_variant}
 use Rattle.cedar_json_writer.proofs.WrittenEntities.{filled_record}
 use Rattle.cedar_json_writer.proofs.entity_types.is_empty_variant.Goals as goal
+use Rattle.cedar_json_writer.specs.Words.{RawName, TypeVariant, is_empty_record, out-RecordType, raw_variant}
+use Rattle.cedar_schema_ast.proofs.ExprLemmas.{raw_record-entries}
+use Rattle.cedar_schema_ast.proofs.VariantLemmas.{raw_variant-Record}
 
 pub returns-else-is_empty : goal.returns-else-is_empty
 returns-else-is_empty c =

@@ -1,10 +1,10 @@
 use Rattle.std.proofs.Common.{None, OnOk, Option, sym, subst, ◌∙◌}
-use Rattle.cedar_names.specs.RawExpr.{raw_expr}
-use Rattle.json.specs.Json.{Json}
-use Rattle.cedar_json_writer.specs.Words.{AddsField, type_document}
 use Rattle.cedar_json_writer.proofs.WritingLemmas.{field_by}
 use Rattle.cedar_json_writer.proofs.WrittenEntities.{empty_free, filled_shape}
 use Rattle.cedar_json_writer.proofs.entity_types.write_shape_field.Goals as goal
+use Rattle.cedar_json_writer.specs.Words.{AddsField, type_document}
+use Rattle.cedar_schema_ast.specs.RawExpr.{raw_expr}
+use Rattle.json.specs.Json.{Json}
 
 pub returns-then-is_empty_record-clause-checked : goal.returns-then-is_empty_record-clause-checked
 returns-then-is_empty_record-clause-checked c =

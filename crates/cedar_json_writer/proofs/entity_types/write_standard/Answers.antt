@@ -1,9 +1,9 @@
 use Rattle.std.proofs.Common.{None, codes, map, option_map}
 use Rattle.std.proofs.lemmas.Result.{err_from_is_err_and}
-use Rattle.cedar_json_writer.specs.Words.{Entity, flaws_in, optional_member, parents_held, raw_expr, raw_reference, shape_held, type_document, type_flaws}
 use Rattle.cedar_json_writer.proofs.WritingLemmas.{checked_as, fields_after, flaw_left, flaw_right, on_ok}
 use Rattle.cedar_json_writer.proofs.WrittenEntities.{standard_free}
 use Rattle.cedar_json_writer.proofs.entity_types.write_standard.Goals as goal
+use Rattle.cedar_json_writer.specs.Words.{Entity, flaws_in, optional_member, parents_held, raw_expr, raw_reference, shape_held, type_document, type_flaws}
 
 pub returns-clause-written : goal.returns-clause-written
 returns-clause-written c =

@@ -1,9 +1,9 @@
 use Rattle.std.proofs.Common.{◌≡◌, ◌+◌, ◌∷◌, List, ℕ, drop, drop_of_length-le, ap, ◌∙◌, ◌++◌, []}
-use Rattle.json.specs.Token.{string}
-use Rattle.cedar_below.proofs.TreeLemmas.{drop-at}
+use Rattle.cedar_ast.proofs.TreeLemmas.{drop-at}
 use Rattle.cedar_json_writer.proofs.WritingLemmas.{item_turn, items_ended, on_ok}
 use Rattle.cedar_json_writer.proofs.WrittenNames.{id_item, ids_added}
 use Rattle.cedar_json_writer.proofs.fields.write_more_ids.Goals as goal
+use Rattle.json.specs.Token.{string}
 
 pub loop-id-preserved : goal.loop-id-preserved
 loop-id-preserved c =

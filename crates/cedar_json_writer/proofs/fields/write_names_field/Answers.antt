@@ -1,10 +1,10 @@
 use Rattle.std.proofs.Common.{◌≡◌, ◌+◌, ◌∷◌, None, drop, drop_of_length-le, map, subst}
-use Rattle.json.specs.Json.{string}
-use Rattle.cedar_below.proofs.TreeLemmas.{drop-at}
-use Rattle.cedar_json_writer.specs.Words.{AddsValue, Entity, PlainName, name_text, raw_reference, reference_array}
+use Rattle.cedar_ast.proofs.TreeLemmas.{drop-at}
 use Rattle.cedar_json_writer.proofs.WritingLemmas.{array_added, field_added, item_turn, on_ok}
 use Rattle.cedar_json_writer.proofs.WrittenNames.{name_item, names_added}
 use Rattle.cedar_json_writer.proofs.fields.write_names_field.Goals as goal
+use Rattle.cedar_json_writer.specs.Words.{AddsValue, Entity, PlainName, name_text, raw_reference, reference_array}
+use Rattle.json.specs.Json.{string}
 
 pub loop-name-preserved : goal.loop-name-preserved
 loop-name-preserved c =

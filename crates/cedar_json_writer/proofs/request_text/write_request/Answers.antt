@@ -1,8 +1,8 @@
-use Rattle.json.specs.Json.{string}
-use Rattle.cedar_json_writer.specs.Words.{pairs_document, pairs_flaws, uid_of, uid_text, written_pairs}
-use Rattle.cedar_json_writer.proofs.WrittenEntityData.{request_added}
 use Rattle.cedar_json_writer.proofs.WritingLemmas.{flawless_checked, on_ok}
+use Rattle.cedar_json_writer.proofs.WrittenEntityData.{request_added}
 use Rattle.cedar_json_writer.proofs.request_text.write_request.Goals as goal
+use Rattle.cedar_json_writer.specs.Words.{pairs_document, pairs_flaws, uid_of, uid_text, written_pairs}
+use Rattle.json.specs.Json.{string}
 
 pub returns-clause-written : goal.returns-clause-written
 returns-clause-written c =

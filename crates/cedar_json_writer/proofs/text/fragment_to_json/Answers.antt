@@ -1,15 +1,15 @@
 use Rattle.std.proofs.Common.{◌≡◌, IsSome, List, ℕ, ap, string_bytes, subst, sym, ◌∙◌}
 use Rattle.std.proofs.lemmas.Bool.{false≢true}
 use Rattle.std.proofs.lemmas.Result.{err_from_is_err_and}
-use Rattle.json.specs.Json.{document}
-use Rattle.json.specs.Layout.{pretty}
-use Rattle.json.specs.Lex.{tokens}
-use Rattle.json.specs.Tree.{json_tokens}
-use Rattle.cedar_json_writer.specs.Words.{fragment_document, nesting_flaws, parts_flaws, written_fragment}
 use Rattle.cedar_json_writer.proofs.WritingLemmas.{flaw_left}
 use Rattle.cedar_json_writer.proofs.WrittenDefinitions.{fragment_free}
 use Rattle.cedar_json_writer.proofs.WrittenText.{deep_text, described_text, writable_text, written_alone}
 use Rattle.cedar_json_writer.proofs.text.fragment_to_json.Goals as goal
+use Rattle.cedar_json_writer.specs.Words.{fragment_document, nesting_flaws, parts_flaws, written_fragment}
+use Rattle.json.specs.Json.{document}
+use Rattle.json.specs.Layout.{pretty}
+use Rattle.json.specs.Lex.{tokens}
+use Rattle.json.specs.Tree.{json_tokens}
 
 -- the tokens are those of the fragment's document
 pub returns-then-branch-clause-text : goal.returns-then-branch-clause-text
@@ -28,7 +28,8 @@ returns-then-branch-clause-writable c =
     let valid : IsSome (document text) = subst (λ (bytes : List ℕ). IsSome (document bytes)) c.as_str.ensures.value (c.in_ok-is_valid.ensures.ok.0 c.if-branch.true) in
     writable_text text it written c.in_ok-write.ensures.checked.flawless valid
 
--- the text is valid JSON and has the tokens of the fragment's document, so it describes the fragment
+-- the text is valid JSON and has the tokens of the fragment's document, so it describes the
+-- fragment
 pub returns-then-branch-clause-described : goal.returns-then-branch-clause-described
 returns-then-branch-clause-described c =
     let it = written_fragment c.args.fragment.now in

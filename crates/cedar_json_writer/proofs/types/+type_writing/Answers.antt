@@ -1,12 +1,12 @@
 use Rattle.std.proofs.Common.{Bool, List, None, OnOk, Some, ℕ, ap, refl, subst, sym, ◌∙◌}
 use Rattle.std.proofs.lemmas.Result.{err_from_is_err_and}
-use Rattle.cedar_names.proofs.ExprLemmas.{raw_attribute-parts, raw_record-entries}
-use Rattle.cedar_names.proofs.VariantLemmas.{raw_variant-Boolean, raw_variant-Entity, raw_variant-Long, raw_variant-String, type-CommonTypeRef, variant-EntityOrCommon, variant-Extension}
-use Rattle.cedar_names.specs.declared.json_schema.type_of.TypeOfAttribute.{out-TypeOfAttribute}
-use Rattle.cedar_json_writer.specs.Words.{AddsField, AddsFields, Expr, IsChecked, IsFlawOf, RawName, SoundType, attribute_document, out-RecordType, raw_attribute, raw_expr, raw_reference, raw_variant, type_flaws, type_members}
 use Rattle.cedar_json_writer.proofs.WritingLemmas.{begun, checked, checked_as, member_flaw, members_ended, members_free, object_added, object_by, on_ok, turn}
 use Rattle.cedar_json_writer.proofs.WrittenTypes.{FreeType, attribute_added, attributes_shape, either_fields, either_free, entity_fields, entity_free, extension_free, listed, long_fields, long_free, record_fields, record_flaw, record_free, set_fields, set_flaw, set_free, text_fields, text_free, truth_fields, truth_free}
 use Rattle.cedar_json_writer.proofs.types.+type_writing.Goals as goal
+use Rattle.cedar_json_writer.specs.Words.{AddsField, AddsFields, Expr, IsChecked, IsFlawOf, RawName, SoundType, attribute_document, out-RecordType, raw_attribute, raw_expr, raw_reference, raw_variant, type_flaws, type_members}
+use Rattle.cedar_schema_ast.proofs.ExprLemmas.{raw_attribute-parts, raw_record-entries}
+use Rattle.cedar_schema_ast.proofs.VariantLemmas.{raw_variant-Boolean, raw_variant-Entity, raw_variant-Long, raw_variant-String, type-CommonTypeRef, variant-EntityOrCommon, variant-Extension}
+use Rattle.cedar_schema_ast.specs.declared.json_schema.type_of.TypeOfAttribute.{out-TypeOfAttribute}
 
 -- the one field of the string type holds the word `String`
 pub write_variant-returns-in-String-clause-written : goal.write_variant-returns-in-String-clause-written

@@ -1,6 +1,6 @@
 use Rattle.std.proofs.Common.{sym, ◌∙◌, ap}
 use Rattle.std.proofs.lemmas.Bool.{false≢true}
-use Rattle.cedar_below.specs.PlainName.{PlainName}
+use Rattle.cedar_ast.specs.PlainName.{PlainName}
 use Rattle.cedar_json_writer.proofs.WrittenTypes.{qualified_apart}
 use Rattle.cedar_json_writer.proofs.types.common_word.Goals as goal
 

@@ -1,8 +1,8 @@
 use Rattle.std.proofs.Common.{Some, codes, subst}
-use Rattle.json.specs.Json.{string}
-use Rattle.cedar_json_writer.specs.Words.{AddsField, PlainName, name_text}
 use Rattle.cedar_json_writer.proofs.WrittenTypes.{common_fields, common_flaw, common_free}
 use Rattle.cedar_json_writer.proofs.types.write_common.Goals as goal
+use Rattle.cedar_json_writer.specs.Words.{AddsField, PlainName, name_text}
+use Rattle.json.specs.Json.{string}
 
 pub returns-in-Some-clause-checked : goal.returns-in-Some-clause-checked
 returns-in-Some-clause-checked c = common_flaw c.args.name.now c.in-Some.word.now c.in-Some.ensures.0 c.in-Some.ensures.1

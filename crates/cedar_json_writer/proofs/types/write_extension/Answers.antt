@@ -1,9 +1,9 @@
 use Rattle.std.proofs.Common.{List, ℕ, Some, codes, subst}
-use Rattle.json.specs.Json.{string}
-use Rattle.cedar_json_writer.specs.Words.{AddsField, optional_member, unreserved_id_text}
 use Rattle.cedar_json_writer.proofs.WritingLemmas.{fields_after}
 use Rattle.cedar_json_writer.proofs.WrittenTypes.{extension_fields}
 use Rattle.cedar_json_writer.proofs.types.write_extension.Goals as goal
+use Rattle.cedar_json_writer.specs.Words.{AddsField, optional_member, unreserved_id_text}
+use Rattle.json.specs.Json.{string}
 
 pub returns-clause-written : goal.returns-clause-written
 returns-clause-written c =

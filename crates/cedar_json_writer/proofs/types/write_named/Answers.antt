@@ -1,8 +1,8 @@
 use Rattle.std.proofs.Common.{Some, codes, subst}
-use Rattle.json.specs.Json.{string}
-use Rattle.cedar_json_writer.specs.Words.{AddsField, PlainName, name_text, optional_member, raw_name}
 use Rattle.cedar_json_writer.proofs.WritingLemmas.{fields_after}
 use Rattle.cedar_json_writer.proofs.types.write_named.Goals as goal
+use Rattle.cedar_json_writer.specs.Words.{AddsField, PlainName, name_text, optional_member, raw_name}
+use Rattle.json.specs.Json.{string}
 
 pub returns-clause-written : goal.returns-clause-written
 returns-clause-written c =

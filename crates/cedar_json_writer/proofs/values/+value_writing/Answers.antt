@@ -1,12 +1,12 @@
 use Rattle.std.proofs.Common.{◌≡◌, ◌+◌, ◌++◌, ◌∷◌, [], List, ℕ, OnOk, string_bytes, ap, drop, drop_of_length-le, arith, refl, subst, sym, ◌∙◌}
 use Rattle.std.proofs.lemmas.Result.{err_from_is_err_and}
-use Rattle.json.specs.Token.{key, string}
-use Rattle.cedar_below.proofs.TreeLemmas.{drop-at, tree_of-call, tree_of-record, tree_of-uid}
-use Rattle.cedar_below.proofs.ValueCopies.{tree_of-text, tree_of-truth}
-use Rattle.cedar_json_writer.specs.Words.{AddsValue, IsChecked, IsFlawOf, RestrictedExpr, SoundValue, Tree, call_value, entries_of, plain_name, set_value, tree_of, trees_of, value_document, value_flaws}
+use Rattle.cedar_ast.proofs.TreeLemmas.{drop-at, tree_of-call, tree_of-record, tree_of-uid}
+use Rattle.cedar_ast.proofs.ValueCopies.{tree_of-text, tree_of-truth}
 use Rattle.cedar_json_writer.proofs.WritingLemmas.{begun, checked, member_flaw, members_added, members_free, on_ok, turn_by}
 use Rattle.cedar_json_writer.proofs.WrittenValues.{FreeValue, argument_flaw, arity_flaw, call_added, call_free, long_added, long_free, one_item, pairs_free, pairs_shape, record_document, record_free, record_key_flaw, record_value_flaw, text_added, text_free, tree_of-long, truth_added, truth_free, uid_free, values_added, values_flaw, values_free, values_turn}
 use Rattle.cedar_json_writer.proofs.values.+value_writing.Goals as goal
+use Rattle.cedar_json_writer.specs.Words.{AddsValue, IsChecked, IsFlawOf, RestrictedExpr, SoundValue, Tree, call_value, entries_of, plain_name, set_value, tree_of, trees_of, value_document, value_flaws}
+use Rattle.json.specs.Token.{key, string}
 
 -- one more value is written behind those before it, and has no flaws
 pub write_values-loop-value-preserved : goal.write_values-loop-value-preserved

@@ -1,5 +1,5 @@
 use Rattle.std.proofs.Common.{drop}
-use Rattle.cedar_below.specs.RestrictedExpr.{tree_of}
+use Rattle.cedar_ast.specs.RestrictedExpr.{tree_of}
 use Rattle.cedar_json_writer.proofs.WritingLemmas.{SoFar}
 use Rattle.cedar_json_writer.proofs.WrittenValues.{ValuesSoFar, pairs_shape}
 use Rattle.cedar_json_writer.proofs.values.+value_writing.Given as goal

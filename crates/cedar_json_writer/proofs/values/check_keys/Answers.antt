@@ -1,7 +1,7 @@
 use Rattle.std.proofs.Common.{List, ℕ, ap, sym, ◌∙◌}
-use Rattle.cedar_json_writer.specs.Words.{is_among, value_keys}
 use Rattle.cedar_json_writer.proofs.WrittenValues.{keys_many, lone_flaw, lone_free}
 use Rattle.cedar_json_writer.proofs.values.check_keys.Goals as goal
+use Rattle.cedar_json_writer.specs.Words.{is_among, value_keys}
 
 pub returns-then-len-ne1 : goal.returns-then-len-ne1
 returns-then-len-ne1 c = keys_many c.args.values.now (λ one. c.if-len-ne1.true (c.len.ensures.len ∙ one))

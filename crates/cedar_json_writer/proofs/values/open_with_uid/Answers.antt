@@ -1,4 +1,4 @@
-use Rattle.cedar_below.specs.EntityUID.{uid_of}
+use Rattle.cedar_ast.specs.EntityUID.{uid_of}
 use Rattle.cedar_json_writer.proofs.WritingLemmas.{on_ok}
 use Rattle.cedar_json_writer.proofs.WrittenValues.{uid_opened}
 use Rattle.cedar_json_writer.proofs.values.open_with_uid.Goals as goal

@@ -1,9 +1,9 @@
 use Rattle.std.proofs.Common.{OnOk, Some, subst}
-use Rattle.json.specs.Json.{Members, object}
-use Rattle.cedar_json_writer.specs.Words.{AddsField, written_pairs}
 use Rattle.cedar_json_writer.proofs.WritingLemmas.{checked_as}
 use Rattle.cedar_json_writer.proofs.WrittenPairs.{keyed-members, keyed_values_flaw, keyed_values_free}
 use Rattle.cedar_json_writer.proofs.values.write_attribute_values.Goals as goal
+use Rattle.cedar_json_writer.specs.Words.{AddsField, written_pairs}
+use Rattle.json.specs.Json.{Members, object}
 
 pub returns-clause-written : goal.returns-clause-written
 returns-clause-written c =

@@ -1,7 +1,7 @@
 use Rattle.std.proofs.Common.{rules}
-use Rattle.json.proofs.Printed.Decimals.{IsNumber-signed_decimal}
 use Rattle.cedar_json_writer.proofs.WrittenValues.{long_true}
 use Rattle.cedar_json_writer.proofs.values.write_number.Goals as goal
+use Rattle.json.proofs.Printed.Decimals.{IsNumber-signed_decimal}
 
 pub token-requires : goal.token-requires
 token-requires c = search (rules, IsNumber-signed_decimal)

@@ -1,9 +1,9 @@
 use Rattle.std.proofs.Common.{List, ℕ, Some, codes, subst, ◌∙◌}
-use Rattle.json.specs.Json.{string}
-use Rattle.cedar_json_writer.specs.Words.{AddsField, PlainName, name_text, uid_of}
 use Rattle.cedar_json_writer.proofs.WritingLemmas.{on_ok}
 use Rattle.cedar_json_writer.proofs.WrittenValues.{uid_fields_added}
 use Rattle.cedar_json_writer.proofs.values.write_uid.Goals as goal
+use Rattle.cedar_json_writer.specs.Words.{AddsField, PlainName, name_text, uid_of}
+use Rattle.json.specs.Json.{string}
 
 pub returns : goal.returns
 returns c =

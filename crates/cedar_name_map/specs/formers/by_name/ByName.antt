@@ -10,11 +10,11 @@ use denote.Hole.Carrier.{listed}
 use denote.Param.Nested.{deepest}
 use denote.Param.Weighed.{Weighed, most, none_max, List-puts, w_pair, w_const}
 use denote.Struct.Tuple.{Tuple, tuple_type}
-use Rattle.std.specs.Prelude.{Bool, Option, string_bytes}
 use Rattle.std.specs.Cmp.Derive.Mapped.{pointwise-map, lex_map, slice_partial_cmp-map, items_map}
 use Rattle.std.specs.Cmp.Lexicographic.{pointwise, slice_cmp, slice_partial_cmp}
 use Rattle.std.specs.Hash.{HashWrites, slice}
 use Rattle.std.specs.List.Sorted.{IsStrictlySortedBy}
+use Rattle.std.specs.Prelude.{Bool, Option, string_bytes}
 use Rattle.std.specs.contracts.alloc.Global as heap
 use Rattle.std.specs.contracts.impls.GlobalAllocator.TheImpl.{ghosts}
 use Rattle.std.specs.contracts.string.String as string
@@ -22,7 +22,7 @@ use Rattle.std.specs.declared.alloc.Global.{Global}
 use Rattle.std.specs.declared.cmp.Ordering.{Ordering}
 use Rattle.std.specs.declared.string.String.{String}
 use Rattle.std.specs.formers.vec.Vec as vec
-use Rattle.cedar_below.specs.Text.{text_cmp}
+use Rattle.cedar_ast.specs.Text.{text_cmp}
 use Rattle.cedar_name_map.specs.ByName.{entry_texts, AreSortedByName, AreSortedByName-prop}
 use Rattle.cedar_name_map.specs.contracts.by_name.ByName as C
 use Rattle.cedar_name_map.specs.declared.by_name.ByName.{ByName}

@@ -1,8 +1,8 @@
 use Rattle.std.proofs.Common.{◌++◌, ◌∷◌, cond, ap, map, sym, ◌∙◌}
 use Rattle.std.specs.List.{filter}
 use Rattle.cedar_queries.proofs.BorrowedLemmas.{borrowed, borrowed_all, borrowed_push}
-use Rattle.cedar_queries.specs.Selected.{values_where}
 use Rattle.cedar_queries.proofs.completeness.selected_names.Goals as goal
+use Rattle.cedar_queries.specs.Selected.{values_where}
 
 -- at first all nodes are left
 pub loop-node-init : goal.loop-node-init

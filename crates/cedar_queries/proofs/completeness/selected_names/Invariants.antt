@@ -1,8 +1,8 @@
 use Rattle.std.proofs.Common.{◌≡◌, ◌++◌, map}
 use Rattle.std.specs.List.{filter}
 use Rattle.cedar_queries.proofs.BorrowedLemmas.{borrowed}
-use Rattle.cedar_queries.specs.Selected.{values_where}
 use Rattle.cedar_queries.proofs.completeness.selected_names.Given as goal
+use Rattle.cedar_queries.specs.Selected.{values_where}
 
 abbrev pub invariant-loop-node : goal.invariant-loop-node
 invariant-loop-node g l =

@@ -1,8 +1,8 @@
 use Rattle.std.proofs.Common.{◌++◌, ◌∷◌, ◌∙◌, [], List, ap, flat_map, map, refl, sym, take}
 use Rattle.std.proofs.lemmas.Grind.{put_two}
 use Rattle.std.proofs.lemmas.List.{flat_map_more, map-append, take_more}
-use Rattle.cedar_queries.specs.Words.{EntityUID, external_action_text, uid_of}
 use Rattle.cedar_queries.proofs.completeness.write_actions.Goals as goal
+use Rattle.cedar_queries.specs.Words.{EntityUID, external_action_text, uid_of}
 
 pub loop-uid-preserved : goal.loop-uid-preserved
 loop-uid-preserved g c plain =

@@ -1,8 +1,8 @@
 use Rattle.std.proofs.Common.{◌++◌, ◌∷◌, ◌∙◌, [], List, ap, flat_map, map, refl, sym, take}
 use Rattle.std.proofs.lemmas.Grind.{put_two}
 use Rattle.std.proofs.lemmas.List.{flat_map_more, map-append, take_more}
-use Rattle.cedar_queries.specs.Words.{EntityType, external_type_text, type_name}
 use Rattle.cedar_queries.proofs.completeness.write_types.Goals as goal
+use Rattle.cedar_queries.specs.Words.{EntityType, external_type_text, type_name}
 
 pub loop-ty-preserved : goal.loop-ty-preserved
 loop-ty-preserved g c plain =

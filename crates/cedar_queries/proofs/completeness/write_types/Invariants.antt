@@ -1,8 +1,8 @@
 use Rattle.std.proofs.Common.{map, take}
 use Rattle.std.specs.Fmt.{HasWritten, IsPlainFormatter}
 use Rattle.std.specs.List.{flat_map}
-use Rattle.cedar_queries.specs.Words.{external_type_text, type_name}
 use Rattle.cedar_queries.proofs.completeness.write_types.Given as goal
+use Rattle.cedar_queries.specs.Words.{external_type_text, type_name}
 
 abbrev pub invariant-loop-ty : goal.invariant-loop-ty
 invariant-loop-ty g l =

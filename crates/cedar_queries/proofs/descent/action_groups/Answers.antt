@@ -1,6 +1,6 @@
-use Rattle.cedar_queries.specs.Words.{action_of, is_nonempty, uid_of}
 use Rattle.cedar_queries.proofs.SelectedLemmas.{keys_where-map}
 use Rattle.cedar_queries.proofs.descent.action_groups.Goals as goal
+use Rattle.cedar_queries.specs.Words.{action_of, is_nonempty, uid_of}
 
 pub returns : goal.returns
 returns c =

@@ -3,10 +3,10 @@ use Rattle.std.proofs.lemmas.Bool.{false≢true}
 use Rattle.std.proofs.lemmas.List.{flat_map_more, take_all, take_more}
 use Rattle.std.proofs.lemmas.List.Elements.{All-more}
 use Rattle.std.specs.List.{flat_map}
-use Rattle.cedar_queries.specs.Words.{EntityUID, PlainUid, action_descendants, action_of, plain_action_entry, uid_of}
 use Rattle.cedar_queries.proofs.BorrowedLemmas.{borrowed}
 use Rattle.cedar_queries.proofs.LookupLemmas.{action_descendants_found, action_known}
 use Rattle.cedar_queries.proofs.descent.actions_in_set.Goals as goal
+use Rattle.cedar_queries.specs.Words.{EntityUID, PlainUid, action_descendants, action_of, plain_action_entry, uid_of}
 
 -- an action that is not declared is one of the set
 pub returns-in-None-clause-known : goal.returns-in-None-clause-known

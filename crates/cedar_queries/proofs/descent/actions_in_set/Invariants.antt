@@ -1,7 +1,7 @@
 use Rattle.std.proofs.Common.{◌≡◌, ◌++◌, ◌∷◌, [], All, Contains, map, take}
 use Rattle.std.specs.List.{flat_map}
-use Rattle.cedar_queries.specs.Words.{action_descendants, plain_action_entry, uid_of}
 use Rattle.cedar_queries.proofs.descent.actions_in_set.Given as goal
+use Rattle.cedar_queries.specs.Words.{action_descendants, plain_action_entry, uid_of}
 
 abbrev pub invariant-loop-uid : goal.invariant-loop-uid
 invariant-loop-uid l = record {

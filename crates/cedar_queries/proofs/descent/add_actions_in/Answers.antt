@@ -2,7 +2,7 @@ use Rattle.std.proofs.Common.{◌≡◌, ◌++◌, ◌∷◌, [], map, rules, ap
 use Rattle.std.proofs.lemmas.List.{map-append}
 use Rattle.std.proofs.lemmas.Map.Iter.{iter_end}
 use Rattle.std.specs.Map.Iter.{deref}
-use Rattle.cedar_below.specs.EntityUID.{uid_of}
+use Rattle.cedar_ast.specs.EntityUID.{uid_of}
 use Rattle.cedar_queries.proofs.BorrowedLemmas.{borrowed, borrowed_more}
 use Rattle.cedar_queries.proofs.descent.add_actions_in.Goals as goal
 

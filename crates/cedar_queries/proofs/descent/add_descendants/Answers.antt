@@ -1,10 +1,10 @@
 use Rattle.std.proofs.Common.{◌≡◌, map, rules}
 use Rattle.std.proofs.lemmas.Map.Iter.{iter_end}
 use Rattle.std.specs.Map.Iter.{deref}
-use Rattle.cedar_schema_elements.proofs.SetLemmas.{types_once}
-use Rattle.cedar_below.specs.EntityType.{type_name}
+use Rattle.cedar_ast.specs.EntityType.{type_name}
 use Rattle.cedar_queries.proofs.BorrowedLemmas.{borrowed_more}
 use Rattle.cedar_queries.proofs.descent.add_descendants.Goals as goal
+use Rattle.cedar_schema_elements.proofs.SetLemmas.{types_once}
 
 pub returns-clause-names : goal.returns-clause-names
 returns-clause-names c =

@@ -1,9 +1,9 @@
 use Rattle.std.proofs.Common.{ap, map, refl, ◌∙◌}
 use Rattle.std.proofs.lemmas.Bool.{false≢true}
-use Rattle.cedar_queries.specs.Words.{has_name, type_name}
 use Rattle.cedar_queries.proofs.LookupLemmas.{plain_type, type_known}
 use Rattle.cedar_queries.proofs.SelectedLemmas.{keys_where-map}
 use Rattle.cedar_queries.proofs.descent.ancestors.Goals as goal
+use Rattle.cedar_queries.specs.Words.{has_name, type_name}
 
 pub returns-then-not-contains_key-clause-known : goal.returns-then-not-contains_key-clause-known
 returns-then-not-contains_key-clause-known c =

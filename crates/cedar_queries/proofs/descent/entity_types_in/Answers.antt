@@ -1,11 +1,11 @@
 use Rattle.std.proofs.Common.{◌≡◌, ◌++◌, ◌∷◌, [], Bor, List, map, ap, arith, sym, ◌∙◌}
 use Rattle.std.proofs.lemmas.List.{map-append}
-use Rattle.cedar_queries.specs.Words.{EntityType, PlainName, descendant_names, descendants_of, plain_entry, type_name}
 use Rattle.std.specs.Global.{Vec}
 use Rattle.cedar_queries.proofs.BorrowedLemmas.{borrowed}
 use Rattle.cedar_queries.proofs.LookupLemmas.{descendants_found, descendants_none}
 use Rattle.cedar_queries.proofs.descent.entity_types_in.Goals as goal
 use Rattle.cedar_queries.proofs.descent.entity_types_in.Goals.{in-Some+in_ok-add_descendants, in_default}
+use Rattle.cedar_queries.specs.Words.{EntityType, PlainName, descendant_names, descendants_of, plain_entry, type_name}
 
 pub returns-clause-names : goal.returns-clause-names
 returns-clause-names c =

@@ -1,10 +1,10 @@
 use Rattle.std.proofs.Common.{ap, map, sym, refl, ◌∙◌}
 use Rattle.std.proofs.lemmas.Bool.{false≢true}
-use Rattle.cedar_queries.specs.Words.{HasBelow, plain_action_entry, type_name}
-use Rattle.cedar_below.proofs.Names.{entity_type_eq-same}
+use Rattle.cedar_ast.proofs.Names.{entity_type_eq-same}
 use Rattle.cedar_queries.proofs.AnyLemmas.{any_finds, any_skips}
 use Rattle.cedar_queries.proofs.descent.has_action_below.Goals as goal
 use Rattle.cedar_queries.proofs.descent.has_action_below.Goals.{else-eq-via-then-eq+else-has_descendant_of, else-eq-via-else-eq}
+use Rattle.cedar_queries.specs.Words.{HasBelow, plain_action_entry, type_name}
 
 pub returns-then-has_descendant_of : goal.returns-then-has_descendant_of
 returns-then-has_descendant_of c =

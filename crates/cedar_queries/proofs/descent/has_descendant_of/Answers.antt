@@ -1,9 +1,9 @@
 use Rattle.std.proofs.Common.{◌≡◌, ap, map, sym, refl, ◌∙◌}
 use Rattle.std.proofs.lemmas.Bool.{false≢true}
-use Rattle.cedar_below.proofs.Names.{entity_type_eq-same}
-use Rattle.cedar_queries.specs.Words.{type_name, uid_of}
+use Rattle.cedar_ast.proofs.Names.{entity_type_eq-same}
 use Rattle.cedar_queries.proofs.AnyLemmas.{any_finds, any_skips}
 use Rattle.cedar_queries.proofs.descent.has_descendant_of.Goals as goal
+use Rattle.cedar_queries.specs.Words.{type_name, uid_of}
 
 pub returns-then-eq : goal.returns-then-eq
 returns-then-eq c =

@@ -1,6 +1,6 @@
 use Rattle.std.proofs.Common.{inl, inr, refl, sym, ◌∙◌}
 use Rattle.std.proofs.lemmas.Bool.{false≢true}
-use Rattle.cedar_below.proofs.Names.{entity_type_eq-same}
+use Rattle.cedar_ast.proofs.Names.{entity_type_eq-same}
 use Rattle.cedar_queries.proofs.descent.may_be_in.Goals as goal
 use Rattle.cedar_queries.proofs.descent.may_be_in.Goals.{then-eq-via-then-eq, then-eq-via-else-eq+then-is_descendant}
 

@@ -1,8 +1,8 @@
 use Rattle.std.proofs.Common.{None, Some, map, sym, ◌≡◌, ◌∙◌}
 use Rattle.std.proofs.lemmas.Result.{IfOk-weaker}
-use Rattle.cedar_queries.specs.Words.{declared_fields, fields_of, plain_entry, type_name}
 use Rattle.cedar_queries.proofs.DeclaredLemmas.{fields_found}
 use Rattle.cedar_queries.proofs.known.declared_attributes.Goals as goal
+use Rattle.cedar_queries.specs.Words.{declared_fields, fields_of, plain_entry, type_name}
 
 pub returns-in-Some : goal.returns-in-Some
 returns-in-Some c =

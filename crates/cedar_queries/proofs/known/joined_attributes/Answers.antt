@@ -1,8 +1,8 @@
 use Rattle.std.proofs.Common.{◌≡◌, Err, map, ap, sym, ◌∙◌}
 use Rattle.std.proofs.lemmas.Result.{IfOk-weaker}
-use Rattle.cedar_queries.specs.Words.{AreKnownOfAll, fields_of, lub_names, plain_entry, ty_of}
 use Rattle.cedar_queries.proofs.JoinedLemmas.{fields_in, joined_open, joined_type}
 use Rattle.cedar_queries.proofs.known.joined_attributes.Goals as goal
+use Rattle.cedar_queries.specs.Words.{AreKnownOfAll, fields_of, lub_names, plain_entry, ty_of}
 
 pub attributes_of-requires : goal.attributes_of-requires
 attributes_of-requires c =

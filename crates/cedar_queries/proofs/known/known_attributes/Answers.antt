@@ -1,8 +1,8 @@
 use Rattle.std.proofs.Common.{◌∷◌, [], List, map, sym, subst}
 use Rattle.std.proofs.lemmas.Result.{IfOk-weaker}
-use Rattle.cedar_queries.specs.Words.{AreAttributesOf, AreKnownOfAll, AreTexts-fields, AreWellFormed-fields, Attributes, EntityKind, Fields, IsSortedByName-fields, IsWellFormed, OpenAttributes, PlainName, fields_of, kind_ty, lub_names, plain_entry, record_of, type_name}
 use Rattle.cedar_queries.proofs.JoinedLemmas.{known_alone, only_is}
 use Rattle.cedar_queries.proofs.known.known_attributes.Goals as goal
+use Rattle.cedar_queries.specs.Words.{AreAttributesOf, AreKnownOfAll, AreTexts-fields, AreWellFormed-fields, Attributes, EntityKind, Fields, IsSortedByName-fields, IsWellFormed, OpenAttributes, PlainName, fields_of, kind_ty, lub_names, plain_entry, record_of, type_name}
 
 -- attributes stand for an open record that is well formed
 record_formed : (attrs : Attributes) → IsWellFormed (record_of (fields_of attrs) OpenAttributes)

@@ -1,10 +1,10 @@
 use Rattle.std.proofs.Common.{◌++◌, ◌∷◌, [], List, ap, append_assoc, map, sym, ◌∙◌}
 use Rattle.std.proofs.lemmas.List.{map-append}
 use Rattle.std.specs.Slice.Iter.{iter_rest}
+use Rattle.cedar_queries.proofs.known.open_records.Goals as goal
 use Rattle.cedar_queries.specs.Words.{EntityType, Fields, OpenAttributes, PlainName, Ty, «Type», open_record, plain_entry, record_of, ty_of, type_name}
 use Rattle.cedar_types.proofs.MemberParts.{ty_of-record}
 use Rattle.cedar_types.specs.declared.types.«Type».TheVariants as variant
-use Rattle.cedar_queries.proofs.known.open_records.Goals as goal
 
 pub loop-ty-preserved : goal.loop-ty-preserved
 loop-ty-preserved c =

@@ -1,11 +1,11 @@
 use Rattle.std.proofs.Common.{◌≡◌, ◌++◌, List, ap, sym, ◌∙◌}
 use Rattle.std.proofs.IntoIterSteps.{All-taken}
 use Rattle.std.proofs.lemmas.List.{append-nil}
-use Rattle.cedar_type_rules.proofs.Extensional.{fields_from-HoldsLast}
-use Rattle.cedar_queries.specs.Words.{AttributeType, fields_from, fields_of, plain_attributes}
 use Rattle.std.specs.declared.alloc.Global.{Global}
 use Rattle.std.specs.declared.string.String.{String}
 use Rattle.cedar_queries.proofs.known.without_locations.Goals as goal
+use Rattle.cedar_queries.specs.Words.{AttributeType, fields_from, fields_of, plain_attributes}
+use Rattle.cedar_type_rules.proofs.Extensional.{fields_from-HoldsLast}
 
 abbrev Items : Type 0
 Items = List (String Global × AttributeType)

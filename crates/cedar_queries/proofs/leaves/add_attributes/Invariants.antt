@@ -1,6 +1,6 @@
 use Rattle.std.proofs.Common.{◌≡◌, ◌++◌}
-use Rattle.cedar_queries.specs.Words.{field_types, fields_from, plain_attributes, shown_types}
 use Rattle.cedar_queries.proofs.leaves.add_attributes.Given as goal
+use Rattle.cedar_queries.specs.Words.{field_types, fields_from, plain_attributes, shown_types}
 
 abbrev pub invariant-loop-attribute : goal.invariant-loop-attribute
 invariant-loop-attribute l =

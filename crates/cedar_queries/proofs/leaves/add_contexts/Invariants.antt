@@ -1,7 +1,7 @@
 use Rattle.std.proofs.Common.{◌≡◌, ◌++◌}
 use Rattle.cedar_queries.proofs.LeafLemmas.{contexts_of_each}
-use Rattle.cedar_queries.specs.Leaves.{shown_types}
 use Rattle.cedar_queries.proofs.leaves.add_contexts.Given as goal
+use Rattle.cedar_queries.specs.Leaves.{shown_types}
 
 abbrev pub invariant-loop-action : goal.invariant-loop-action
 invariant-loop-action l =

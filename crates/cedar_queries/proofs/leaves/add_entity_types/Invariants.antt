@@ -1,7 +1,7 @@
 use Rattle.std.proofs.Common.{◌≡◌, ◌++◌}
 use Rattle.cedar_queries.proofs.LeafLemmas.{types_of_each}
-use Rattle.cedar_queries.specs.Leaves.{shown_types}
 use Rattle.cedar_queries.proofs.leaves.add_entity_types.Given as goal
+use Rattle.cedar_queries.specs.Leaves.{shown_types}
 
 abbrev pub invariant-loop-ty : goal.invariant-loop-ty
 invariant-loop-ty l =

@@ -1,10 +1,10 @@
 use Rattle.std.proofs.Common.{ap, map, refl, ◌∙◌}
 use Rattle.std.proofs.lemmas.Bool.{false≢true}
 use Rattle.std.specs.Slice.Iter.{iter_rest}
-use Rattle.cedar_queries.specs.Words.{IsDeclared, plain_entry, type_name}
 use Rattle.cedar_queries.proofs.AllLemmas.{all_cons, all_none}
 use Rattle.cedar_queries.proofs.LookupLemmas.{type_known}
 use Rattle.cedar_queries.proofs.possible.all_declared.Goals as goal
+use Rattle.cedar_queries.specs.Words.{IsDeclared, plain_entry, type_name}
 
 -- at first all members are left
 pub loop-member-init : goal.loop-member-init

@@ -1,9 +1,9 @@
 use Rattle.std.proofs.Common.{ap, map, refl, sym, ◌∙◌}
 use Rattle.std.proofs.lemmas.Bool.{false≢true}
 use Rattle.std.specs.Slice.Iter.{iter_rest}
-use Rattle.cedar_queries.specs.Words.{HasTags, plain_entry, type_name}
 use Rattle.cedar_queries.proofs.AnyLemmas.{any_finds, any_skips}
 use Rattle.cedar_queries.proofs.possible.any_has_tags.Goals as goal
+use Rattle.cedar_queries.specs.Words.{HasTags, plain_entry, type_name}
 
 pub returns-then-has_tags : goal.returns-then-has_tags
 returns-then-has_tags c =

@@ -1,7 +1,7 @@
 use Rattle.std.proofs.Common.{◌↔◌, Any, map}
 use Rattle.std.specs.Slice.Iter.{iter_rest}
-use Rattle.cedar_queries.specs.Words.{HasTags, lub_names, plain_entry, type_name}
 use Rattle.cedar_queries.proofs.possible.any_has_tags.Given as goal
+use Rattle.cedar_queries.specs.Words.{HasTags, lub_names, plain_entry, type_name}
 
 abbrev pub invariant-loop-member : goal.invariant-loop-member
 invariant-loop-member l =

@@ -1,9 +1,9 @@
 use Rattle.std.proofs.Common.{ap, map, refl, sym, ◌∙◌}
 use Rattle.std.proofs.lemmas.Bool.{false≢true}
 use Rattle.std.specs.Slice.Iter.{iter_rest}
-use Rattle.cedar_queries.specs.Words.{MemberMayHave, plain_entry, type_name}
 use Rattle.cedar_queries.proofs.AnyLemmas.{any_finds, any_skips}
 use Rattle.cedar_queries.proofs.possible.any_may_have.Goals as goal
+use Rattle.cedar_queries.specs.Words.{MemberMayHave, plain_entry, type_name}
 
 pub returns-then-member_may_have : goal.returns-then-member_may_have
 returns-then-member_may_have c =

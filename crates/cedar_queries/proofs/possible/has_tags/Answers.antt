@@ -1,8 +1,8 @@
 use Rattle.std.proofs.Common.{None, Some, sym, ◌∙◌}
 use Rattle.std.proofs.lemmas.Bool.{false≢true}
 use Rattle.cedar_queries.proofs.DeclaredLemmas.{some_shown, tags_found}
-use Rattle.cedar_types.specs.Meaning.{ty_of}
 use Rattle.cedar_queries.proofs.possible.has_tags.Goals as goal
+use Rattle.cedar_types.specs.Meaning.{ty_of}
 
 pub returns-in-Some : goal.returns-in-Some
 returns-in-Some c =

@@ -1,8 +1,8 @@
 use Rattle.std.proofs.Common.{inl, inr, subst, sym, ◌∙◌}
 use Rattle.std.proofs.lemmas.Bool.{false≢true}
-use Rattle.cedar_queries.specs.Words.{IsActionType, PlainName, uid_of}
 use Rattle.cedar_queries.proofs.LookupLemmas.{action_known, type_known}
 use Rattle.cedar_queries.proofs.possible.is_known_uid.Goals as goal
+use Rattle.cedar_queries.specs.Words.{IsActionType, PlainName, uid_of}
 
 pub returns-then-is_action : goal.returns-then-is_action
 returns-then-is_action c =

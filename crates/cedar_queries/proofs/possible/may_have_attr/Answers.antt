@@ -1,9 +1,9 @@
 use Rattle.std.proofs.Common.{ap, inr, sym, ◌∙◌, inl}
 use Rattle.std.proofs.lemmas.Bool.{false≢true}
+use Rattle.cedar_queries.proofs.possible.may_have_attr.Goals as goal
 use Rattle.cedar_type_rules.proofs.InclusionLemmas.{found-Decides}
 use Rattle.cedar_types.proofs.MemberParts.{ty_of-record}
 use Rattle.cedar_types.specs.Meaning.{attribute_of, fields_of, ty_of}
-use Rattle.cedar_queries.proofs.possible.may_have_attr.Goals as goal
 
 pub returns-else-is_open : goal.returns-else-is_open
 returns-else-is_open c =

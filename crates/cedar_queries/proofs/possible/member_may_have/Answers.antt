@@ -2,9 +2,9 @@ use Rattle.std.proofs.Common.{None, Some, inl, inr, sym, ◌∙◌, arith}
 use Rattle.std.proofs.lemmas.Bool.{false≢true}
 use Rattle.cedar_queries.proofs.DeclaredLemmas.{fields_found, openness_found}
 use Rattle.cedar_queries.proofs.NotLemmas.{not_false, not_true}
+use Rattle.cedar_queries.proofs.possible.member_may_have.Goals as goal
 use Rattle.cedar_type_rules.proofs.InclusionLemmas.{found-Decides}
 use Rattle.cedar_types.specs.Meaning.{attribute_of}
-use Rattle.cedar_queries.proofs.possible.member_may_have.Goals as goal
 
 -- the type is no type of actions and is open, so its entities may have any attribute
 pub returns-then-is_open_type : goal.returns-then-is_open_type

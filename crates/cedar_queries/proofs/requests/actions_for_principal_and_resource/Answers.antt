@@ -1,7 +1,7 @@
 use Rattle.std.proofs.Common.{◌&&◌, ap, map, ◌∙◌}
-use Rattle.cedar_queries.specs.Words.{action_of, has_name, kind_principals, kind_resources, type_name, uid_of}
 use Rattle.cedar_queries.proofs.SelectedLemmas.{keys_where-map}
 use Rattle.cedar_queries.proofs.requests.actions_for_principal_and_resource.Goals as goal
+use Rattle.cedar_queries.specs.Words.{action_of, has_name, kind_principals, kind_resources, type_name, uid_of}
 
 pub returns : goal.returns
 returns c =

@@ -1,8 +1,8 @@
 use Rattle.std.proofs.Common.{None, Some, ap, sym, ◌∙◌}
 use Rattle.std.specs.Option.{option_and_then}
-use Rattle.cedar_queries.specs.Words.{SchemaAction, kind_context}
 use Rattle.cedar_queries.proofs.LookupLemmas.{action_shown}
 use Rattle.cedar_queries.proofs.requests.context_type.Goals as goal
+use Rattle.cedar_queries.specs.Words.{SchemaAction, kind_context}
 
 pub returns-in_err-get : goal.returns-in_err-get
 returns-in_err-get c =

@@ -1,8 +1,8 @@
 use Rattle.std.proofs.Common.{None, Some, ap, sym, ◌∙◌}
 use Rattle.std.specs.Option.{option_map}
-use Rattle.cedar_queries.specs.Words.{SchemaAction, kind_resources}
 use Rattle.cedar_queries.proofs.LookupLemmas.{action_shown}
 use Rattle.cedar_queries.proofs.requests.resources_for_action.Goals as goal
+use Rattle.cedar_queries.specs.Words.{SchemaAction, kind_resources}
 
 pub returns-in_err-get-clause-names : goal.returns-in_err-get-clause-names
 returns-in_err-get-clause-names c =

@@ -1,11 +1,11 @@
 use Rattle.std.proofs.Common.{Contains, subst}
-use Rattle.cedar_below.proofs.Lists.{Contains-preimage}
-use Rattle.cedar_queries.specs.Words.{PlainName, SchemaEntityType, has_name}
-use Rattle.cedar_declarations.proofs.OccurrenceLemmas.{Contains-filter, Contains-image}
+use Rattle.std.specs.List.{filter}
+use Rattle.cedar_ast.proofs.Lists.{Contains-preimage}
 use Rattle.cedar_queries.proofs.NameLemmas.{has_name-Decides}
 use Rattle.cedar_queries.proofs.SelectedLemmas.{Contains-kept}
-use Rattle.std.specs.List.{filter}
 use Rattle.cedar_queries.proofs.theorems.ancestors_are_inverted_descendants.Goals as goal
+use Rattle.cedar_queries.specs.Words.{PlainName, SchemaEntityType, has_name}
+use Rattle.cedar_schema_semantics.proofs.OccurrenceLemmas.{Contains-filter, Contains-image}
 
 pub returns : goal.returns
 returns c schema lower upper = (

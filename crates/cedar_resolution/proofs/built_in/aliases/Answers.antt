@@ -1,9 +1,9 @@
 use Rattle.std.proofs.Common.{◌≡◌, ◌++◌, [], ◌∷◌, ap, arith, cond, map, not, sym, ◌∙◌}
 use Rattle.std.proofs.lemmas.List.{nil_from_length}
-use Rattle.cedar_resolution.specs.Words.{None, alias_name, held_names, id_text, name_of, type_expr, type_names, written_common}
 use Rattle.cedar_resolution.proofs.KeptSoFar.{KeptSoFar-none, KeptSoFar-next, KeptSoFar-all}
 use Rattle.cedar_resolution.proofs.TakenNames.{taken_is}
 use Rattle.cedar_resolution.proofs.built_in.aliases.Goals as goal
+use Rattle.cedar_resolution.specs.Words.{None, alias_name, held_names, id_text, name_of, type_expr, type_names, written_common}
 
 pub loop-word-init : goal.loop-word-init
 loop-word-init g c =

@@ -1,8 +1,8 @@
 use Rattle.std.proofs.Common.{not}
 use Rattle.std.specs.Vec.Iter.{into_iter_items}
-use Rattle.cedar_resolution.specs.Words.{Expr, Text, None, alias_name, held_names, id_text, is_taken, type_expr, type_names, written_common}
 use Rattle.cedar_resolution.proofs.KeptSoFar.{KeptSoFar}
 use Rattle.cedar_resolution.proofs.built_in.aliases.Given as goal
+use Rattle.cedar_resolution.specs.Words.{Expr, Text, None, alias_name, held_names, id_text, is_taken, type_expr, type_names, written_common}
 
 abbrev pub invariant-loop-word : goal.invariant-loop-word
 invariant-loop-word g l =

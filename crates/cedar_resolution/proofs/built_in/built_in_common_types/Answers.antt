@@ -1,7 +1,7 @@
 use Rattle.std.proofs.Common.{◌++◌, ap, map, ◌∙◌}
 use Rattle.std.proofs.lemmas.List.{map-append}
-use Rattle.cedar_resolution.specs.Words.{Expr, InternalName, PlainName, Text, «Type», Written, built_in_name, free_aliases, held_names, name_of, type_names, written_common, written_expr}
 use Rattle.cedar_resolution.proofs.built_in.built_in_common_types.Goals as goal
+use Rattle.cedar_resolution.specs.Words.{Expr, InternalName, PlainName, Text, «Type», Written, built_in_name, free_aliases, held_names, name_of, type_names, written_common, written_expr}
 
 pub returns : goal.returns
 returns g c =

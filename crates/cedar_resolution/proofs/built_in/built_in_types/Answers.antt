@@ -1,11 +1,11 @@
 use Rattle.std.proofs.Common.{◌≡◌, List, [], ◌∷◌, ◌++◌, codes, map, ap, sym, ◌∙◌}
 use Rattle.std.proofs.lemmas.List.{take_all}
 use Rattle.std.proofs.lemmas.Simd.{map-map}
-use Rattle.cedar_names.proofs.VariantLemmas.{variant-Boolean, variant-Long, variant-String}
-use Rattle.cedar_below.specs.declared.id.Id.{Id}
-use Rattle.cedar_names.specs.declared.json_schema.type_of.Type.{«Type»}
-use Rattle.cedar_resolution.specs.Words.{Expr, Name, None, PlainName, Text, extension_expr, long_expr, named_types, plain_name, text_expr, truth_expr}
+use Rattle.cedar_ast.specs.declared.id.Id.{Id}
 use Rattle.cedar_resolution.proofs.built_in.built_in_types.Goals as goal
+use Rattle.cedar_resolution.specs.Words.{Expr, Name, None, PlainName, Text, extension_expr, long_expr, named_types, plain_name, text_expr, truth_expr}
+use Rattle.cedar_schema_ast.proofs.VariantLemmas.{variant-Boolean, variant-Long, variant-String}
+use Rattle.cedar_schema_ast.specs.declared.json_schema.type_of.Type.{«Type»}
 
 -- what an extension type stands for, under its base name
 abbrev entry : PlainName → Text × Expr

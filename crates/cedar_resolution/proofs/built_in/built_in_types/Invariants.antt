@@ -1,6 +1,6 @@
 use Rattle.std.proofs.Common.{◌≡◌, ◌∷◌, codes, map, take}
-use Rattle.cedar_resolution.specs.Words.{None, extension_expr, long_expr, named_types, plain_name, text_expr, truth_expr}
 use Rattle.cedar_resolution.proofs.built_in.built_in_types.Given as goal
+use Rattle.cedar_resolution.specs.Words.{None, extension_expr, long_expr, named_types, plain_name, text_expr, truth_expr}
 
 abbrev pub invariant-loop-name : goal.invariant-loop-name
 invariant-loop-name g l =

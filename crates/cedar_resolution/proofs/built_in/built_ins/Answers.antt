@@ -2,9 +2,9 @@ use Rattle.std.proofs.Common.{arith, sym, ◌∙◌}
 use Rattle.std.proofs.lemmas.List.{nil_from_length}
 use Rattle.std.proofs.lemmas.Simd.{map-map}
 use Rattle.std.specs.Option.{option_map}
-use Rattle.cedar_resolution.specs.Words.{Expr, Id, None, PlainName, Text, «Type», built_in_name, id_text, name_of, type_expr}
 use Rattle.cedar_fragments.proofs.ListedSoFar.{ListedSoFar-none, ListedSoFar-more, listed_same}
 use Rattle.cedar_resolution.proofs.built_in.built_ins.Goals as goal
+use Rattle.cedar_resolution.specs.Words.{Expr, Id, None, PlainName, Text, «Type», built_in_name, id_text, name_of, type_expr}
 
 pub loop-word-init : goal.loop-word-init
 loop-word-init g c = ListedSoFar-none _ _ _ _ _ _ (sym c.into_iter-word-iterator.ensures.into_iter_gives.0) c.new-named.ensures.items

@@ -1,7 +1,7 @@
 use Rattle.std.specs.Vec.Iter.{into_iter_items}
-use Rattle.cedar_resolution.specs.Words.{Expr, None, PlainName, built_in_name, id_text, name_of, type_expr, written_expr}
 use Rattle.cedar_fragments.proofs.ListedSoFar.{ListedSoFar}
 use Rattle.cedar_resolution.proofs.built_in.built_ins.Given as goal
+use Rattle.cedar_resolution.specs.Words.{Expr, None, PlainName, built_in_name, id_text, name_of, type_expr, written_expr}
 
 abbrev pub invariant-loop-word : goal.invariant-loop-word
 invariant-loop-word g l =

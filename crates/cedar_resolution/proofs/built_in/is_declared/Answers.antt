@@ -1,8 +1,8 @@
 use Rattle.std.proofs.Common.{sym, ◌∙◌, inl, inr}
 use Rattle.std.proofs.lemmas.Bool.{false≢true}
 use Rattle.std.proofs.lemmas.List.Elements.{Contains-append_left, Contains-append_right, Contains-append_cases}
-use Rattle.cedar_resolution.specs.Words.{held_names, name_of}
 use Rattle.cedar_resolution.proofs.built_in.is_declared.Goals as goal
+use Rattle.cedar_resolution.specs.Words.{held_names, name_of}
 
 pub returns-then-is_defined_as_common : goal.returns-then-is_defined_as_common
 returns-then-is_defined_as_common c =

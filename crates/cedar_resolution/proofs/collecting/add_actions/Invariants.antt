@@ -1,9 +1,9 @@
 use Rattle.std.proofs.Common.{◌≡◌, ◌++◌, map}
 use Rattle.std.specs.Option.{option_map}
 use Rattle.std.specs.Vec.Iter.{into_iter_items}
-use Rattle.cedar_resolution.specs.Words.{action_fragment_declarations, declared_actions, name_of, written_actions}
 use Rattle.cedar_resolution.proofs.Items.{action_item}
 use Rattle.cedar_resolution.proofs.collecting.add_actions.Given as goal
+use Rattle.cedar_resolution.specs.Words.{action_fragment_declarations, declared_actions, name_of, written_actions}
 
 abbrev pub invariant-loop-def : goal.invariant-loop-def
 invariant-loop-def g l =

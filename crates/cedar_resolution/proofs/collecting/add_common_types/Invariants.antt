@@ -1,9 +1,9 @@
 use Rattle.std.proofs.Common.{◌≡◌, ◌++◌, map}
 use Rattle.std.specs.Option.{option_map}
 use Rattle.std.specs.Vec.Iter.{into_iter_items}
-use Rattle.cedar_resolution.specs.Words.{common_type_declarations, declared_common, name_of, written_common}
 use Rattle.cedar_resolution.proofs.Items.{common_item}
 use Rattle.cedar_resolution.proofs.collecting.add_common_types.Given as goal
+use Rattle.cedar_resolution.specs.Words.{common_type_declarations, declared_common, name_of, written_common}
 
 abbrev pub invariant-loop-def : goal.invariant-loop-def
 invariant-loop-def g l =

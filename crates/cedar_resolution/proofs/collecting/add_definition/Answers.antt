@@ -1,8 +1,8 @@
 use Rattle.std.proofs.Common.{◌≡◌, ◌∙◌}
 use Rattle.std.specs.Option.{option_map}
-use Rattle.cedar_resolution.specs.Words.{definition_namespace, name_of}
 use Rattle.cedar_resolution.proofs.CollectedTogether.{collect_parts}
 use Rattle.cedar_resolution.proofs.collecting.add_definition.Goals as goal
+use Rattle.cedar_resolution.specs.Words.{definition_namespace, name_of}
 
 pub returns : goal.returns
 returns g c =

@@ -2,11 +2,11 @@ use Rattle.std.proofs.Common.{arith, map, ap, sym, ◌∙◌, refl}
 use Rattle.std.proofs.lemmas.List.{nil_from_length}
 use Rattle.std.specs.Option.{option_map}
 use Rattle.std.specs.Vec.Iter.{into_iter_items}
-use Rattle.cedar_resolution.specs.Words.{declared_entities, fragment_body, name_of, type_name, written_entity_body}
 use Rattle.cedar_fragments.proofs.DeclaredParts.{entities_declared}
 use Rattle.cedar_resolution.proofs.Adding.{add_none, add_next, add_all}
 use Rattle.cedar_resolution.proofs.Items.{entity_item}
 use Rattle.cedar_resolution.proofs.collecting.add_entity_types.Goals as goal
+use Rattle.cedar_resolution.specs.Words.{declared_entities, fragment_body, name_of, type_name, written_entity_body}
 
 pub loop-def-init : goal.loop-def-init
 loop-def-init g c =

@@ -1,9 +1,9 @@
 use Rattle.std.proofs.Common.{◌≡◌, ◌++◌, map}
 use Rattle.std.specs.Option.{option_map}
 use Rattle.std.specs.Vec.Iter.{into_iter_items}
-use Rattle.cedar_resolution.specs.Words.{entity_type_declarations, declared_entities, name_of, written_entities}
 use Rattle.cedar_resolution.proofs.Items.{entity_item}
 use Rattle.cedar_resolution.proofs.collecting.add_entity_types.Given as goal
+use Rattle.cedar_resolution.specs.Words.{entity_type_declarations, declared_entities, name_of, written_entities}
 
 abbrev pub invariant-loop-def : goal.invariant-loop-def
 invariant-loop-def g l =

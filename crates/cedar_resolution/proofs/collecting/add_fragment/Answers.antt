@@ -1,10 +1,10 @@
 use Rattle.std.proofs.Common.{ap, arith, sym}
-use Rattle.std.specs.List.{flat_map}
 use Rattle.std.proofs.lemmas.List.{nil_from_length}
+use Rattle.std.specs.List.{flat_map}
 use Rattle.std.specs.Vec.Iter.{into_iter_items}
-use Rattle.cedar_resolution.specs.Words.{written_definition}
 use Rattle.cedar_resolution.proofs.CollectedTogether.{collect_none, collect_next, collect_all}
 use Rattle.cedar_resolution.proofs.collecting.add_fragment.Goals as goal
+use Rattle.cedar_resolution.specs.Words.{written_definition}
 
 pub loop-definition-init : goal.loop-definition-init
 loop-definition-init g c =

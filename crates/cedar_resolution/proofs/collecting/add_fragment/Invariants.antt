@@ -1,8 +1,8 @@
 use Rattle.std.specs.List.{flat_map}
 use Rattle.std.specs.Vec.Iter.{into_iter_items}
-use Rattle.cedar_resolution.specs.Words.{written_definition, written_fragment}
 use Rattle.cedar_resolution.proofs.CollectedTogether.{CollectsTogether}
 use Rattle.cedar_resolution.proofs.collecting.add_fragment.Given as goal
+use Rattle.cedar_resolution.specs.Words.{written_definition, written_fragment}
 
 abbrev pub invariant-loop-definition : goal.invariant-loop-definition
 invariant-loop-definition g l =

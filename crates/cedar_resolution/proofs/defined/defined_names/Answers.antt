@@ -1,9 +1,9 @@
 use Rattle.std.proofs.Common.{◌≡◌, ◌⊎◌, ◌++◌, ap, ◌∙◌, inl, inr}
 use Rattle.std.proofs.lemmas.Result.{err_from_is_err_and}
 use Rattle.std.proofs.lemmas.Simd.{map-map}
-use Rattle.cedar_resolution.specs.Words.{Bag, DeclaresJust, Expr, InternalName, IsFault, PlainName, «Type», Written, built_ins, fault_of, held_names, name_of, out_of_memory, written_common, written_expr}
 use Rattle.cedar_resolution.proofs.NamesDefined.{shadowing_fault, no_type_fault, no_action_fault, same_aliases, same_common, same_entities}
 use Rattle.cedar_resolution.proofs.defined.defined_names.Goals as goal
+use Rattle.cedar_resolution.specs.Words.{Bag, DeclaresJust, Expr, InternalName, IsFault, PlainName, «Type», Written, built_ins, fault_of, held_names, name_of, out_of_memory, written_common, written_expr}
 
 pub returns-in_err-rfc_70_shadowing_checks-clause-fault :
     goal.returns-in_err-rfc_70_shadowing_checks-clause-fault

@@ -1,7 +1,7 @@
 use Rattle.std.proofs.Common.{◌∙◌}
-use Rattle.cedar_resolution.specs.Words.{InternalName, PlainName, «Type», Written, held_names, name_of}
 use Rattle.cedar_fragments.proofs.SetLemmas.{HasAlso-next, HasAlso-all}
 use Rattle.cedar_resolution.proofs.defined.with_common_types.Goals as goal
+use Rattle.cedar_resolution.specs.Words.{InternalName, PlainName, «Type», Written, held_names, name_of}
 
 -- the name of a common type
 abbrev key : {N : Type 0} → InternalName × Written («Type» N) → PlainName

@@ -1,6 +1,6 @@
 use Rattle.std.proofs.Common.{◌≡◌, map, take}
-use Rattle.cedar_resolution.specs.Words.{HasAlso, held_names, name_of}
 use Rattle.cedar_resolution.proofs.defined.with_common_types.Given as goal
+use Rattle.cedar_resolution.specs.Words.{HasAlso, held_names, name_of}
 
 abbrev pub invariant-loop-it : goal.invariant-loop-it
 invariant-loop-it g l =

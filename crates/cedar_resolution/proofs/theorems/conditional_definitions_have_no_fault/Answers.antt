@@ -1,6 +1,6 @@
-use Rattle.cedar_resolution.specs.Words.{ConditionalName, action_attributes, action_entity_type, positional_reference, reserved_name}
 use Rattle.cedar_fragments.proofs.SoundFragments.{fragments_have_no_fault}
 use Rattle.cedar_resolution.proofs.theorems.conditional_definitions_have_no_fault.Goals as goal
+use Rattle.cedar_resolution.specs.Words.{ConditionalName, action_attributes, action_entity_type, positional_reference, reserved_name}
 
 pub returns-clause-attributes : goal.returns-clause-attributes
 returns-clause-attributes c fragments extensions ids =

@@ -1,6 +1,6 @@
-use Rattle.cedar_resolution.specs.Words.{EntityType, InternalName, action_attributes, action_entity_type, reserved_name, resolved_action_type, resolved_reference}
 use Rattle.cedar_fragments.proofs.SoundFragments.{fragments_have_no_fault}
 use Rattle.cedar_resolution.proofs.theorems.resolved_definitions_have_no_fault.Goals as goal
+use Rattle.cedar_resolution.specs.Words.{EntityType, InternalName, action_attributes, action_entity_type, reserved_name, resolved_action_type, resolved_reference}
 
 pub returns-clause-attributes : goal.returns-clause-attributes
 returns-clause-attributes c fragments extensions ids =

@@ -1,8 +1,8 @@
 use Rattle.std.proofs.Common.{List, subst}
 use Rattle.std.proofs.lemmas.Result.{IfOk-weaker}
 use Rattle.cedar_schema.proofs.AllYielded.{all_yielded}
-use Rattle.cedar_schema.specs.Words.{AreTakenOver, ValidatorSchemaFragment}
 use Rattle.cedar_schema.proofs.building.build.Goals as goal
+use Rattle.cedar_schema.specs.Words.{AreCollectedFragments, ValidatorSchemaFragment}
 
 -- at first nothing is taken over
 pub loop-fragment-init : goal.loop-fragment-init
@@ -20,8 +20,8 @@ returns-clause-built g c =
     let each = all_yielded begun.result c.loop-fragment.fragment-iterator c.next.new.self all c.loop-fragment.yielded
     begun.ensures.into_iter_gives.0 begun.result.rest.ok.0 c.loop-fragment.yielded_by c.in-None.ensures.steps in
     let P : List (ValidatorSchemaFragment g.row.N.Denot g.row.N.Denot) → Type 0 = λ fragments.
-    AreTakenOver g.row.N.Denot g.N.WrittenName.refer fragments c.loop-fragment.taken in
-    c.build_taken_over.ensures.built all (subst P each c.loop-fragment.invariant)
+    AreCollectedFragments g.row.N.Denot g.N.WrittenName.refer fragments c.loop-fragment.taken in
+    c.build_collected.ensures.built all (subst P each c.loop-fragment.invariant)
 
 -- and shows all
 pub returns-clause-located : goal.returns-clause-located
@@ -31,6 +31,6 @@ returns-clause-located g c =
     let each = all_yielded begun.result c.loop-fragment.fragment-iterator c.next.new.self all c.loop-fragment.yielded
     begun.ensures.into_iter_gives.0 begun.result.rest.ok.0 c.loop-fragment.yielded_by c.in-None.ensures.steps in
     let P : List (ValidatorSchemaFragment g.row.N.Denot g.row.N.Denot) → Type 0 = λ fragments.
-    AreTakenOver g.row.N.Denot g.N.WrittenName.refer fragments c.loop-fragment.taken in
-    IfOk-weaker c.build_taken_over.result _ _ (λ parts shown. shown all (subst P each c.loop-fragment.invariant))
-    c.build_taken_over.ensures.located
+    AreCollectedFragments g.row.N.Denot g.N.WrittenName.refer fragments c.loop-fragment.taken in
+    IfOk-weaker c.build_collected.result _ _ (λ parts shown. shown all (subst P each c.loop-fragment.invariant))
+    c.build_collected.ensures.located

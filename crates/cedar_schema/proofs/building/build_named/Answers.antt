@@ -1,15 +1,15 @@
 use Rattle.std.proofs.Common.{map, refl}
-use Rattle.cedar_schema.specs.Words.{held_names, plain_action_entry, plain_entry, written_actions, written_bag, written_common, written_entities}
-use Rattle.cedar_fragments.proofs.SoundFragments.{written_have_no_fault}
 use Rattle.cedar_fragments.proofs.FragmentLemmas.{exit_holds}
-use Rattle.cedar_schema_elements.specs.Words.{listed_entities}
-use Rattle.cedar_schema_elements.proofs.ListedEntities.{listed_of_keys}
+use Rattle.cedar_fragments.proofs.SoundFragments.{written_have_no_fault}
 use Rattle.cedar_schema.proofs.CollectedBags.{collected_unreserved}
 use Rattle.cedar_schema.proofs.DeclaredParts.{declared_parts}
 use Rattle.cedar_schema.proofs.ReadySteps.{actions_of, ready, types_of}
 use Rattle.cedar_schema.proofs.SchemaNames.{names_of_types_sorted, uids_of_actions_sorted}
 use Rattle.cedar_schema.proofs.SurePieces.{pieces_well}
 use Rattle.cedar_schema.proofs.building.build_named.Goals as goal
+use Rattle.cedar_schema.specs.Words.{held_names, plain_action_entry, plain_entry, written_actions, written_bag, written_common, written_entities}
+use Rattle.cedar_schema_elements.proofs.ListedEntities.{listed_of_keys}
+use Rattle.cedar_schema_elements.specs.Words.{listed_entities}
 
 -- a refused common type is a fault of the bag
 pub returns-in_err-common-clause-fault : goal.returns-in_err-common-clause-fault

@@ -3,9 +3,9 @@ use Rattle.std.proofs.lemmas.List.{append-nil, map-append}
 use Rattle.std.specs.List.{flat_map}
 use Rattle.cedar_schema.proofs.InOrder.{flat_map_next, flat_map_whole}
 use Rattle.cedar_schema.proofs.ShownLemmas.{each_to_show, one_to_show}
-use Rattle.cedar_schema.specs.Words.{declared_common_type, shown_common_type}
 use Rattle.cedar_schema.proofs.common_types.with_common_types.Goals as goal
 use Rattle.cedar_schema.proofs.common_types.with_common_types.Goals.{then-is_to_be_shown+in_ok-at+in_ok-push, else-is_to_be_shown}
+use Rattle.cedar_schema.specs.Words.{declared_common_type, shown_common_type}
 
 -- one more common type adds itself where it is to be shown, and nothing elsewhere
 pub loop-def-preserved : goal.loop-def-preserved

@@ -1,8 +1,8 @@
 use Rattle.std.proofs.Common.{◌≡◌, ◌++◌, map, take}
 use Rattle.std.specs.List.{flat_map}
 use Rattle.cedar_schema.proofs.ShownLemmas.{one_to_show}
-use Rattle.cedar_schema.specs.Words.{shown_common_type}
 use Rattle.cedar_schema.proofs.common_types.with_common_types.Given as goal
+use Rattle.cedar_schema.specs.Words.{shown_common_type}
 
 abbrev pub invariant-loop-def : goal.invariant-loop-def
 invariant-loop-def g l =

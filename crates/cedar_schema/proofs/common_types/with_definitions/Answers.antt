@@ -1,8 +1,8 @@
 use Rattle.std.proofs.Common.{◌++◌, List, ap, map, sym, ◌∙◌}
-use Rattle.cedar_schema.specs.Words.{ShownCommonType, ValidatorNamespaceDef, common_types_to_show, definition_common_types, shown_common_type}
 use Rattle.cedar_schema.proofs.InOrder.{flat_map_next, flat_map_whole}
 use Rattle.cedar_schema.proofs.ShownLemmas.{to_show-flat}
 use Rattle.cedar_schema.proofs.common_types.with_definitions.Goals as goal
+use Rattle.cedar_schema.specs.Words.{ShownCommonType, ValidatorNamespaceDef, common_types_to_show, definition_common_types, shown_common_type}
 
 pub loop-definition-preserved : goal.loop-definition-preserved
 loop-definition-preserved g c =

@@ -1,7 +1,7 @@
 use Rattle.std.proofs.Common.{◌≡◌, ◌++◌, map, take}
 use Rattle.std.specs.List.{flat_map}
-use Rattle.cedar_schema.specs.Words.{common_types_to_show, definition_common_types, shown_common_type}
 use Rattle.cedar_schema.proofs.common_types.with_definitions.Given as goal
+use Rattle.cedar_schema.specs.Words.{common_types_to_show, definition_common_types, shown_common_type}
 
 abbrev pub invariant-loop-definition : goal.invariant-loop-definition
 invariant-loop-definition g l =

@@ -1,9 +1,9 @@
 use Rattle.std.proofs.Common.{◌++◌, List, sym, subst, take}
 use Rattle.std.proofs.lemmas.List.{append-nil}
 use Rattle.std.specs.List.{flat_map}
-use Rattle.cedar_schema.specs.Words.{DefinedNamespace, HoldsNamespaces, definition_namespaces}
 use Rattle.cedar_schema.proofs.InOrder.{flat_map_next, flat_map_whole}
 use Rattle.cedar_schema.proofs.namespaces.with_definitions.Goals as goal
+use Rattle.cedar_schema.specs.Words.{DefinedNamespace, HoldsNamespaces, definition_namespaces}
 
 pub loop-definition-init : goal.loop-definition-init
 loop-definition-init g c = λ defined holds.

@@ -1,7 +1,7 @@
 use Rattle.std.proofs.Common.{◌++◌, List, take}
 use Rattle.std.specs.List.{flat_map}
-use Rattle.cedar_schema.specs.Words.{DefinedNamespace, HoldsNamespaces, definition_namespaces}
 use Rattle.cedar_schema.proofs.namespaces.with_definitions.Given as goal
+use Rattle.cedar_schema.specs.Words.{DefinedNamespace, HoldsNamespaces, definition_namespaces}
 
 abbrev pub invariant-loop-definition : goal.invariant-loop-definition
 invariant-loop-definition g l =

@@ -1,7 +1,7 @@
 use Rattle.std.proofs.Common.{◌≡◌, ◌∷◌, ◌++◌, [], List, sym, subst}
-use Rattle.cedar_schema.specs.Words.{DefinedNamespace, HoldsNamespaces, definition_namespaces, name_loc, name_of, named_namespace}
 use Rattle.cedar_schema.proofs.NamespaceLemmas.{namespace_put}
 use Rattle.cedar_schema.proofs.namespaces.with_namespace.Goals as goal
+use Rattle.cedar_schema.specs.Words.{DefinedNamespace, HoldsNamespaces, definition_namespaces, name_loc, name_of, named_namespace}
 
 pub returns : goal.returns
 returns g c = λ defined holds.

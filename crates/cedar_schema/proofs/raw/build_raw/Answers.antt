@@ -1,7 +1,7 @@
 use Rattle.std.proofs.Common.{◌≡◌, [], ◌∷◌, ◌++◌, Err, IfOk, List, ap, arith, inl, inr, refl, subst, sym, ◌∙◌}
 use Rattle.std.proofs.lemmas.List.{nil_from_length}
-use Rattle.std.specs.List.{flat_map}
 use Rattle.std.proofs.lemmas.Result.{err_from_is_err_and, IfErr-weaker, IfOk-weaker}
+use Rattle.std.specs.List.{flat_map}
 use Rattle.std.specs.Result.{result_map_both}
 use Rattle.cedar_fragments.proofs.FragmentLemmas.{exit_holds, flat_map-each, flat_map-included, flat_map-same, refusal_included}
 use Rattle.cedar_fragments.proofs.ListedSoFar.{ListedSoFar-more, ListedSoFar-none, listed_each, listed_same}
@@ -9,13 +9,13 @@ use Rattle.cedar_fragments.proofs.NamedOfDefinition.{named_among, none_named}
 use Rattle.cedar_fragments.proofs.OneMore.{flat_one_more}
 use Rattle.cedar_fragments.proofs.SoundLemmas.{sound_bag}
 use Rattle.cedar_fragments.specs.Words.{IsSound, raw_common_names, raw_namespaces, written_fragment}
-use Rattle.cedar_names.specs.Words.{raw_reference}
-use Rattle.cedar_declaration_laws.proofs.BuiltFrom.{built_from}
-use Rattle.cedar_schema.specs.Words.{Bag, DefinedNamespace, IsBuiltFrom, LocatedName, RawName, Shows, fault_of, parts_schema, raw_bag, raw_fragment, written_bag}
 use Rattle.cedar_schema.proofs.AllYielded.{all_yielded}
 use Rattle.cedar_schema.proofs.Mapped.{IfErr-unmapped}
 use Rattle.cedar_schema.proofs.WrittenSoFar.{next_fragment}
 use Rattle.cedar_schema.proofs.raw.build_raw.Goals as goal
+use Rattle.cedar_schema.specs.Words.{Bag, DefinedNamespace, IsBuiltFrom, LocatedName, RawName, Shows, fault_of, parts_schema, raw_bag, raw_fragment, written_bag}
+use Rattle.cedar_schema_ast.specs.Words.{raw_reference}
+use Rattle.cedar_schema_laws.proofs.BuiltFrom.{built_from}
 
 -- at first no fragment is taken over
 pub loop-fragment-init : goal.loop-fragment-init
@@ -72,8 +72,8 @@ returns-clause-built c =
     let none_left = nil_from_length _ (omega (arith, c.in-None.ensures.steps.0, c.loop-fragment.fragment-iterator.rest.ok.0)) in
     let same : written_bag RawName raw_reference so_far.0 ≡ raw_bag c.args.fragments.items =
     flat_map-same (written_fragment RawName raw_reference) raw_fragment _ _ (listed_same _ _ _ _ _ _ none_left so_far.1) in
-    let P : Bag → Type 0 = λ bag. IsBuiltFrom bag c.args.extensions.now (result_map_both parts_schema fault_of c.build_taken_over.result) in
-    subst P same (c.build_taken_over.ensures.built so_far.0 so_far.4)
+    let P : Bag → Type 0 = λ bag. IsBuiltFrom bag c.args.extensions.now (result_map_both parts_schema fault_of c.build_collected.result) in
+    subst P same (c.build_collected.ensures.built so_far.0 so_far.4)
 
 -- it has no fault of a definition, so the build refuses no actions with attributes
 pub returns-clause-all_named : goal.returns-clause-all_named
@@ -83,13 +83,13 @@ returns-clause-all_named c =
     let none_left = nil_from_length _ (omega (arith, c.in-None.ensures.steps.0, c.loop-fragment.fragment-iterator.rest.ok.0)) in
     let same : written_bag RawName raw_reference so_far.0 ≡ raw_bag all =
     flat_map-same (written_fragment RawName raw_reference) raw_fragment _ _ (listed_same _ _ _ _ _ _ none_left so_far.1) in
-    let P : Bag → Type 0 = λ bag. IsBuiltFrom bag c.args.extensions.now (result_map_both parts_schema fault_of c.build_taken_over.result) in
-    let built = subst P same (c.build_taken_over.ensures.built so_far.0 so_far.4) in
+    let P : Bag → Type 0 = λ bag. IsBuiltFrom bag c.args.extensions.now (result_map_both parts_schema fault_of c.build_collected.result) in
+    let built = subst P same (c.build_collected.ensures.built so_far.0 so_far.4) in
     let no_fault = sound_bag (raw_bag all)
     (flat_map-each raw_fragment IsSound _ (listed_each _ _ _ _ _ _ none_left so_far.1)) in
-    IfErr-weaker c.build_taken_over.result _ _
+    IfErr-weaker c.build_collected.result _ _
     (λ error. none_named all (raw_bag all) c.args.extensions.now no_fault (fault_of error))
-    (IfErr-unmapped parts_schema fault_of c.build_taken_over.result _ built.fault)
+    (IfErr-unmapped parts_schema fault_of c.build_collected.result _ built.fault)
 
 -- and the common types and namespaces of what is written
 pub returns-clause-located : goal.returns-clause-located
@@ -99,6 +99,6 @@ returns-clause-located c =
     let begun = c.into_iter-fragment-iterator in
     let each = all_yielded begun.result c.loop-fragment.fragment-iterator c.next.new.self all c.loop-fragment.yielded
     begun.ensures.into_iter_gives.0 begun.result.rest.ok.0 c.loop-fragment.yielded_by c.in-None.ensures.steps in
-    let P : List LocatedName × List DefinedNamespace → Type 0 = λ it. IfOk c.build_taken_over.result (λ parts. Shows it.0 it.1 parts.located) in
+    let P : List LocatedName × List DefinedNamespace → Type 0 = λ it. IfOk c.build_collected.result (λ parts. Shows it.0 it.1 parts.located) in
     subst P (λ i. ((so_far.2 ∙ ap (flat_map raw_common_names) each) i, (so_far.3 ∙ ap (flat_map raw_namespaces) each) i))
-    (IfOk-weaker c.build_taken_over.result _ _ (λ parts shown. (shown so_far.0 so_far.4).shown) c.build_taken_over.ensures.located)
+    (IfOk-weaker c.build_collected.result _ _ (λ parts shown. (shown so_far.0 so_far.4).shown) c.build_collected.ensures.located)

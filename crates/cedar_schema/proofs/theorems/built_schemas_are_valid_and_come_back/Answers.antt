@@ -1,8 +1,8 @@
-use Rattle.cedar_declaration_laws.proofs.ValidLaws.{declared_closed, declared_valid}
 use Rattle.cedar_schema.proofs.ClosedTwice.{closed_same}
 use Rattle.cedar_schema.proofs.SchemaEquality.{schemas-Same}
-use Rattle.cedar_schema.specs.ValidatorSchema.{schema_of}
 use Rattle.cedar_schema.proofs.theorems.built_schemas_are_valid_and_come_back.Goals as goal
+use Rattle.cedar_schema.specs.ValidatorSchema.{schema_of}
+use Rattle.cedar_schema_laws.proofs.ValidLaws.{declared_closed, declared_valid}
 
 pub returns-clause-valid : goal.returns-clause-valid
 returns-clause-valid c = λ bag extensions schema fit type_locations built.

@@ -1,8 +1,8 @@
 use Rattle.std.proofs.Common.{inl, inr}
-use Rattle.cedar_declaration_laws.proofs.ComeBack.{declared_schemas_come_back}
 use Rattle.cedar_schema.proofs.SchemaEquality.{schemas-Same}
-use Rattle.cedar_schema.specs.ValidatorSchema.{schema_of}
 use Rattle.cedar_schema.proofs.theorems.converted_schemas_are_built_again.Goals as goal
+use Rattle.cedar_schema.specs.ValidatorSchema.{schema_of}
+use Rattle.cedar_schema_laws.proofs.ComeBack.{declared_schemas_come_back}
 
 pub returns-clause-equal : goal.returns-clause-equal
 returns-clause-equal c = λ bag again extensions schema other fit type_locations built writable written rebuilt.

@@ -1,8 +1,8 @@
 use Rattle.std.proofs.Common.{inl, inr}
-use Rattle.cedar_declaration_laws.proofs.SameBagLaws.{same_bags}
 use Rattle.cedar_schema.proofs.SchemaEquality.{schemas-Same}
 use Rattle.cedar_schema.proofs.theorems.declarations_that_say_the_same_build_equal_schemas.Goals as goal
 use Rattle.cedar_schema.specs.ValidatorSchema.{schema_of}
+use Rattle.cedar_schema_laws.proofs.SameBagLaws.{same_bags}
 
 pub returns-clause-equal : goal.returns-clause-equal
 returns-clause-equal c = λ bag other extensions a b same first second.

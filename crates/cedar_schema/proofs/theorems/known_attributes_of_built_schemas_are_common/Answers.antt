@@ -1,7 +1,7 @@
 use Rattle.cedar_queries.proofs.KnownLemmas.{known_is_common, larger_knows_less}
 use Rattle.cedar_schema.proofs.KnownOfBuilt.{declared_clean_types}
-use Rattle.cedar_schema.specs.ValidatorSchema.{schema_of}
 use Rattle.cedar_schema.proofs.theorems.known_attributes_of_built_schemas_are_common.Goals as goal
+use Rattle.cedar_schema.specs.ValidatorSchema.{schema_of}
 
 pub returns-clause-exactly : goal.returns-clause-exactly
 returns-clause-exactly c = λ bag extensions schema members known built joined.

@@ -1,8 +1,8 @@
 use Rattle.cedar_schema.proofs.ClosedTwice.{closed_same}
 use Rattle.cedar_schema.proofs.SchemaEquality.{schemas-Same}
+use Rattle.cedar_schema.proofs.theorems.validation_again_changes_nothing.Goals as goal
 use Rattle.cedar_schema.specs.ValidatorSchema.{schema_of}
 use Rattle.cedar_validation.proofs.ClosedAgain.{closes_again, fault_back}
-use Rattle.cedar_schema.proofs.theorems.validation_again_changes_nothing.Goals as goal
 
 pub returns-clause-valid : goal.returns-clause-valid
 returns-clause-valid c = λ extensions schema closed closes valid fault at.

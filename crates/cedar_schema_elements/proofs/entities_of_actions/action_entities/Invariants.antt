@@ -1,6 +1,6 @@
-use Rattle.cedar_schema_elements.proofs.EntityLemmas.{EntitiesSoFar, UppersLeft}
+use Rattle.cedar_schema_elements.proofs.EntityLemmas.{EntitiesSoFar, AncestorsLeft}
 use Rattle.cedar_schema_elements.proofs.entities_of_actions.action_entities.Given as goal
 
 abbrev pub invariant-loop-uid : goal.invariant-loop-uid
 invariant-loop-uid l =
-    EntitiesSoFar l.actions.entries l.entities l.uid-iterator × UppersLeft l.actions.entries l.uppers l.uid-iterator
+    EntitiesSoFar l.actions.entries l.entities l.uid-iterator × AncestorsLeft l.actions.entries l.ancestors l.uid-iterator

@@ -1,7 +1,7 @@
 use Rattle.std.proofs.Common.{map}
 use Rattle.cedar_schema_elements.proofs.NamedTypes.{NamedSoFar}
-use Rattle.cedar_schema_elements.specs.Words.{held_names, type_name}
 use Rattle.cedar_schema_elements.proofs.qualified.named_types.Given as goal
+use Rattle.cedar_schema_elements.specs.Words.{held_names, type_name}
 
 abbrev pub invariant-loop-reference : goal.invariant-loop-reference
 invariant-loop-reference l =

@@ -1,6 +1,6 @@
 use Rattle.std.proofs.Common.{◌≡◌, ◌++◌, map, take}
-use Rattle.cedar_schema_elements.specs.Words.{owned_environment, requested_principals, requested_resources, ty_of, uid_of, with_principals}
 use Rattle.cedar_schema_elements.proofs.request_environments.add_principals.Given as goal
+use Rattle.cedar_schema_elements.specs.Words.{owned_environment, requested_principals, requested_resources, ty_of, uid_of, with_principals}
 
 abbrev pub invariant-loop-principal : goal.invariant-loop-principal
 invariant-loop-principal l =

@@ -1,10 +1,10 @@
 use Rattle.std.proofs.Common.{rules, ◌<◌, ◌≤◌, ◌++◌, ap, length, map, sym, ◌∙◌}
 use Rattle.std.proofs.lemmas.List.{append-nil}
 use Rattle.std.proofs.lemmas.List.Concat.{flat_map_single}
-use Rattle.cedar_schema_elements.specs.Words.{empty_name, environment_at, owned_environment, requested_resources, set_name_at, ty_of, uid_of}
 use Rattle.cedar_schema_elements.proofs.EnvironmentLemmas.{environment, one_more_shown, resource_environments}
 use Rattle.cedar_schema_elements.proofs.GivenLemmas.{taken_all, taken_more}
 use Rattle.cedar_schema_elements.proofs.request_environments.add_resources.Goals as goal
+use Rattle.cedar_schema_elements.specs.Words.{empty_name, environment_at, owned_environment, requested_resources, set_name_at, ty_of, uid_of}
 
 -- at first no environment is added
 pub loop-resource-init : goal.loop-resource-init

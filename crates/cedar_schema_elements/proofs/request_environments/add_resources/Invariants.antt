@@ -1,8 +1,8 @@
 use Rattle.std.proofs.Common.{◌≡◌, ◌++◌, map, take}
 use Rattle.std.specs.List.{flat_map}
-use Rattle.cedar_schema_elements.specs.Words.{owned_environment, requested_resources, set_name_at, ty_of, uid_of}
 use Rattle.cedar_schema_elements.proofs.EnvironmentLemmas.{resource_environments}
 use Rattle.cedar_schema_elements.proofs.request_environments.add_resources.Given as goal
+use Rattle.cedar_schema_elements.specs.Words.{owned_environment, requested_resources, set_name_at, ty_of, uid_of}
 
 abbrev pub invariant-loop-resource : goal.invariant-loop-resource
 invariant-loop-resource l =

@@ -1,10 +1,10 @@
 use Rattle.std.proofs.Common.{◌≡◌, ◌++◌, List, [], map, ap, subst, ◌∙◌}
-use Rattle.cedar_schema_elements.specs.Words.{Environment, Twice, action_of, kind_environments, kind_of_requests, owned_environment, plain_action_entry, requested_principals, requested_resources, ty_of, uid_of}
 use Rattle.cedar_schema_elements.proofs.EnvironmentLemmas.{are_environments, environments_under, of_action, pairs_once}
 use Rattle.cedar_schema_elements.proofs.GivenLemmas.{given_all, given_more, given_none, given_nothing, given_once}
 use Rattle.cedar_schema_elements.proofs.KeyLemmas.{uids_once, under}
 use Rattle.cedar_schema_elements.proofs.TypeSetLemmas.{set_once}
 use Rattle.cedar_schema_elements.proofs.request_environments.environments.Goals as goal
+use Rattle.cedar_schema_elements.specs.Words.{Environment, Twice, action_of, kind_environments, kind_of_requests, owned_environment, plain_action_entry, requested_principals, requested_resources, ty_of, uid_of}
 
 -- at first no environment is given, and all actions are left
 pub loop-uid-init : goal.loop-uid-init

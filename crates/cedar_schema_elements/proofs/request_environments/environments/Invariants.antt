@@ -1,9 +1,9 @@
 use Rattle.std.proofs.Common.{[], map}
-use Rattle.cedar_schema_elements.specs.Words.{owned_environment, plain_action_entry}
 use Rattle.cedar_schema_elements.proofs.EnvironmentLemmas.{environments_under}
 use Rattle.cedar_schema_elements.proofs.GivenLemmas.{GivenSoFar}
 use Rattle.cedar_schema_elements.proofs.KeyLemmas.{under}
 use Rattle.cedar_schema_elements.proofs.request_environments.environments.Given as goal
+use Rattle.cedar_schema_elements.specs.Words.{owned_environment, plain_action_entry}
 
 abbrev pub invariant-loop-uid : goal.invariant-loop-uid
 invariant-loop-uid l =

@@ -1,7 +1,7 @@
 use Rattle.std.proofs.Common.{ap, sym, ◌∙◌}
-use Rattle.cedar_below.proofs.Uids.{entity_uid_eq-same}
-use Rattle.cedar_schema_elements.specs.Words.{Requests, uid_of}
+use Rattle.cedar_ast.proofs.Uids.{entity_uid_eq-same}
 use Rattle.cedar_schema_elements.proofs.request_environments.requests_of.Goals as goal
+use Rattle.cedar_schema_elements.specs.Words.{Requests, uid_of}
 
 -- requests under this very uid are shared
 pub returns-then-eq-clause-action : goal.returns-then-eq-clause-action

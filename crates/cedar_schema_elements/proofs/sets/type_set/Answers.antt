@@ -1,6 +1,6 @@
 use Rattle.std.proofs.Common.{List, map, subst}
-use Rattle.cedar_schema_elements.specs.Words.{EntityType, SameItems, set_names, type_name}
 use Rattle.cedar_schema_elements.proofs.sets.type_set.Goals as goal
+use Rattle.cedar_schema_elements.specs.Words.{EntityType, SameItems, set_names, type_name}
 
 pub returns : goal.returns
 returns g c =

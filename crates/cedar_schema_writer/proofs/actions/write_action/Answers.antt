@@ -1,7 +1,7 @@
 use Rattle.std.proofs.Common.{refl}
-use Rattle.cedar_schema_writer.specs.Parts.{plain_namespace}
 use Rattle.cedar_schema_writer.proofs.KindLemmas.{written_parents}
 use Rattle.cedar_schema_writer.proofs.actions.write_action.Goals as goal
+use Rattle.cedar_schema_writer.specs.Parts.{plain_namespace}
 
 pub returns-clause-written : goal.returns-clause-written
 returns-clause-written c =

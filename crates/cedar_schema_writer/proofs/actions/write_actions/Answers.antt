@@ -1,6 +1,5 @@
 use Rattle.std.proofs.Common.{◌≡◌, ◌↔◌, Bool, List, ap, map, refl, string_bytes, sym, ◌∙◌, Contains}
 use Rattle.std.proofs.lemmas.Bool.{false≢true}
-use Rattle.cedar_schema_writer.specs.Words.{IsActionDeclaration, IsPathOf, IsSoundAction, IsSoundActionEntry, ListsDescendantAction, NamesNoOtherAction, PlainName, PlainUid, RawName, SchemaAction, Text, action, action_body, action_declared, action_word, definitions_bag, full_uid, known_names, known_schema, name_within, plain_action_entry, plain_namespace, raw_reference, uid_of, written_uid}
 use Rattle.cedar_schema_elements.proofs.KeyLemmas.{names_of_keys, uids_once}
 use Rattle.cedar_schema_writer.proofs.KindLemmas.{images, images-same}
 use Rattle.cedar_schema_writer.proofs.NameLemmas.{in_each_namespace}
@@ -8,6 +7,7 @@ use Rattle.cedar_schema_writer.proofs.Put.{put_here, put_more, put_none, put_oth
 use Rattle.cedar_schema_writer.proofs.Refusals.{refusal_passed}
 use Rattle.cedar_schema_writer.proofs.actions.write_actions.Goals as goal
 use Rattle.cedar_schema_writer.proofs.actions.write_actions.Goals.{In_ok-parents, In-Some}
+use Rattle.cedar_schema_writer.specs.Words.{IsActionDeclaration, IsPathOf, IsSoundAction, IsSoundActionEntry, ListsDescendantAction, NamesNoOtherAction, PlainName, PlainUid, RawName, SchemaAction, Text, action, action_body, action_declared, action_word, definitions_bag, full_uid, known_names, known_schema, name_within, plain_action_entry, plain_namespace, raw_reference, uid_of, written_uid}
 
 -- nothing is put yet, and each uid is there once
 pub loop-uid-init : goal.loop-uid-init
@@ -59,7 +59,7 @@ returns-in_err-parents-clause-refusal c =
     (λ some. (
       turn at,
       listed at,
-      λ sound. some.2 (sound.above _ is some.0 ((c.requires.uppers c.in-Some.uid.now some.0).0 some.1)),
+      λ sound. some.2 (sound.above _ is some.0 ((c.requires.ancestors c.in-Some.uid.now some.0).0 some.1)),
     ))
 
 -- nor one whose requests can't be written
@@ -73,8 +73,8 @@ returns-in_err-declared-clause-refusal c =
       λ sound. unsound (sound.kind _ (path (goal.at.returns-in_err-declared-clause-refusal c).In_ok-parents)),
     ))
 
--- the declaration is put under the uid of this turn, which is written from its namespace and id; its
--- parents are the uids that list it
+-- the declaration is put under the uid of this turn, which is written from its namespace and id;
+-- its parents are the uids that list it
 pub loop-uid-preserved : goal.loop-uid-preserved
 loop-uid-preserved c =
     let known = c.args.known.now in
@@ -95,7 +95,7 @@ loop-uid-preserved c =
     let Lists : PlainUid → Type 0 = λ upper. ListsDescendantAction schema it.0 upper in
     let same : (upper : PlainUid) → Contains uids upper ↔ Lists upper = λ upper.
     let names = c.in_ok-parents.ensures.names upper in
-    let lists = c.requires.uppers c.in-Some.uid.now upper in (λ among. lists.0 (names.0 among), λ of. names.1 (lists.1 of)) in
+    let lists = c.requires.ancestors c.in-Some.uid.now upper in (λ among. lists.0 (names.0 among), λ of. names.1 (lists.1 of)) in
     let written = c.in_ok-declared.ensures.written in
     let steps = ap (map plain_action_entry) c.in-Some.ensures.steps in
     let sound : IsSoundActionEntry known it = record {
@@ -104,7 +104,7 @@ loop-uid-preserved c =
           c.in_ok-declared.ensures.sound;
       above = in_each_namespace (λ each. (upper : PlainUid) → Lists upper → NamesNoOtherAction (known_names known) each upper) namespace
           _ (path at)
-          (λ upper lists. c.in_ok-parents.ensures.no_other upper ((c.requires.uppers c.in-Some.uid.now upper).1 lists));
+          (λ upper lists. c.in_ok-parents.ensures.no_other upper ((c.requires.ancestors c.in-Some.uid.now upper).1 lists));
       below = rw (names_of_keys uid_of plain_action_entry (λ e. refl) known.actions.now.entries)
           c.in_ok-check_descendants.ensures.there;
     } in

@@ -1,7 +1,7 @@
 use Rattle.std.proofs.Common.{map}
-use Rattle.cedar_schema_writer.specs.Words.{AreProper, IsActionDeclaration, IsSoundActionEntry, PlainUid, SchemaAction, definitions_bag, known_schema, plain_action_entry}
 use Rattle.cedar_schema_writer.proofs.Put.{PutSoFar}
 use Rattle.cedar_schema_writer.proofs.actions.write_actions.Given as goal
+use Rattle.cedar_schema_writer.specs.Words.{AreProper, IsActionDeclaration, IsSoundActionEntry, PlainUid, SchemaAction, definitions_bag, known_schema, plain_action_entry}
 
 abbrev pub invariant-loop-uid : goal.invariant-loop-uid
 invariant-loop-uid l = record {

@@ -1,8 +1,8 @@
 use Rattle.std.proofs.Common.{Some, ap, sym, ◌∙◌}
-use Rattle.cedar_schema_writer.specs.Words.{action_of, known_names, plain_namespace, ty_of}
-use Rattle.cedar_schema_writer.proofs.Refusals.{refusal_passed}
 use Rattle.cedar_schema_writer.proofs.KindLemmas.{defined_written, principal_of, resource_of, sound_action}
+use Rattle.cedar_schema_writer.proofs.Refusals.{refusal_passed}
 use Rattle.cedar_schema_writer.proofs.actions.write_requests.Goals as goal
+use Rattle.cedar_schema_writer.specs.Words.{action_of, known_names, plain_namespace, ty_of}
 
 pub returns-in_err-principal_types-clause-refusal : goal.returns-in_err-principal_types-clause-refusal
 returns-in_err-principal_types-clause-refusal c =

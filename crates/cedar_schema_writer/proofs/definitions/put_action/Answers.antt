@@ -4,15 +4,15 @@ use Rattle.std.proofs.lemmas.Map.Views.{All-values-insert_entry}
 use Rattle.std.specs.BTreeMap.{insert_entry, is_at}
 use Rattle.std.specs.Map.{lookup}
 use Rattle.std.specs.Option.{option_cmp}
+use Rattle.std.specs.String.{string_cmp}
 use Rattle.std.specs.declared.string.String.{String}
-use Rattle.cedar_below.proofs.Texts.{text_cmp-Equal}
-use Rattle.cedar_below.specs.contracts.name.NameOrd.TheImpl as name_ord
-use Rattle.cedar_declarations.proofs.OccurrenceLemmas.{Contains-image}
-use Rattle.cedar_schema_writer.specs.Words.{ActionType, AppliesIfDefined, Declaration, IsProper, NamespaceDefinition, RawName, action_body, action_declared, common_declarations, entity_declarations, plain_namespace, raw_reference}
+use Rattle.cedar_ast.proofs.Texts.{text_cmp-Equal}
+use Rattle.cedar_ast.specs.contracts.name.NameOrd.TheImpl as name_ord
+use Rattle.cedar_schema_semantics.proofs.OccurrenceLemmas.{Contains-image}
 use Rattle.cedar_schema_writer.proofs.Answered.{on_to}
 use Rattle.cedar_schema_writer.proofs.DefinitionLemmas.{absent_key, end-some, inserted-some, one_more_end, put_again, shown_inserted, tied, was_declared}
-use Rattle.std.specs.String.{string_cmp}
 use Rattle.cedar_schema_writer.proofs.definitions.put_action.Goals as goal
+use Rattle.cedar_schema_writer.specs.Words.{ActionType, AppliesIfDefined, Declaration, IsProper, NamespaceDefinition, RawName, action_body, action_declared, common_declarations, entity_declarations, plain_namespace, raw_reference}
 
 -- the action is new in its namespace, so just one more is declared
 pub returns-clause-put : goal.returns-clause-put

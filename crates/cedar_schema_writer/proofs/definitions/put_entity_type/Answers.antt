@@ -4,15 +4,15 @@ use Rattle.std.proofs.lemmas.Map.Views.{All-values-insert_entry}
 use Rattle.std.specs.BTreeMap.{insert_entry, is_at}
 use Rattle.std.specs.Map.{lookup}
 use Rattle.std.specs.Option.{option_cmp}
-use Rattle.cedar_below.proofs.Texts.{text_cmp-Equal}
-use Rattle.cedar_below.specs.contracts.name.NameOrd.TheImpl as name_ord
-use Rattle.cedar_declarations.proofs.OccurrenceLemmas.{Contains-image}
-use Rattle.cedar_schema_writer.specs.Words.{Declaration, EntityType, IsProper, NamespaceDefinition, RawName, UnreservedId, action_declarations, common_declarations, plain_namespace, raw_entity_body, raw_reference, type_declared, unreserved_id_text}
+use Rattle.cedar_ast.proofs.Ids.{unreserved_id_ord-text_cmp}
+use Rattle.cedar_ast.proofs.Texts.{text_cmp-Equal}
+use Rattle.cedar_ast.specs.contracts.name.NameOrd.TheImpl as name_ord
+use Rattle.cedar_ast.specs.contracts.unreserved_id.UnreservedIdOrd.TheImpl as id_ord
+use Rattle.cedar_schema_semantics.proofs.OccurrenceLemmas.{Contains-image}
 use Rattle.cedar_schema_writer.proofs.Answered.{on_to}
 use Rattle.cedar_schema_writer.proofs.DefinitionLemmas.{absent_key, inserted-some, middle-some, one_more, put_again, shown_inserted, tied, was_declared}
-use Rattle.cedar_below.proofs.Ids.{unreserved_id_ord-text_cmp}
-use Rattle.cedar_below.specs.contracts.unreserved_id.UnreservedIdOrd.TheImpl as id_ord
 use Rattle.cedar_schema_writer.proofs.definitions.put_entity_type.Goals as goal
+use Rattle.cedar_schema_writer.specs.Words.{Declaration, EntityType, IsProper, NamespaceDefinition, RawName, UnreservedId, action_declarations, common_declarations, plain_namespace, raw_entity_body, raw_reference, type_declared, unreserved_id_text}
 
 -- the entity type is new in its namespace, so just one more is declared
 pub returns-clause-put : goal.returns-clause-put

@@ -1,11 +1,11 @@
 use Rattle.std.proofs.Common.{Option, sym}
-use Rattle.std.specs.BTreeMap.{is_at}
 use Rattle.std.proofs.lemmas.List.Elements.{All-nil}
+use Rattle.std.specs.BTreeMap.{is_at}
 use Rattle.std.specs.Option.{option_cmp}
-use Rattle.cedar_below.specs.contracts.name.NameOrd.TheImpl as name_ord
-use Rattle.cedar_schema_writer.specs.Words.{AppliesIfDefined, IsProper, Name, NamespaceDefinition, RawName, plain_namespace, raw_declarations}
+use Rattle.cedar_ast.specs.contracts.name.NameOrd.TheImpl as name_ord
 use Rattle.cedar_schema_writer.proofs.DefinitionLemmas.{given_removed, namespace_tie, value_found, values_left}
 use Rattle.cedar_schema_writer.proofs.definitions.take_definition.Goals as goal
+use Rattle.cedar_schema_writer.specs.Words.{AppliesIfDefined, IsProper, Name, NamespaceDefinition, RawName, plain_namespace, raw_declarations}
 
 -- the definition of the namespace is taken from the others
 pub returns-in-Some-clause-taken : goal.returns-in-Some-clause-taken

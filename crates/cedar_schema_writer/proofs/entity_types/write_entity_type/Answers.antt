@@ -1,8 +1,8 @@
 use Rattle.std.proofs.Common.{ap, map, Contains}
-use Rattle.cedar_schema_writer.specs.Words.{entity_type_of, known_names, plain_kind, plain_namespace, raw_name}
-use Rattle.cedar_schema_writer.proofs.Refusals.{refusal_passed, refusal_weaker}
 use Rattle.cedar_schema_writer.proofs.KindLemmas.{enumerated_alone, shows_none, standard-parts, written_names}
+use Rattle.cedar_schema_writer.proofs.Refusals.{refusal_passed, refusal_weaker}
 use Rattle.cedar_schema_writer.proofs.entity_types.write_entity_type.Goals as goal
+use Rattle.cedar_schema_writer.specs.Words.{entity_type_of, known_names, plain_kind, plain_namespace, raw_name}
 
 pub returns-in_err-standard-in-Standard-clause-refusal : goal.returns-in_err-standard-in-Standard-clause-refusal
 returns-in_err-standard-in-Standard-clause-refusal c =

@@ -1,5 +1,4 @@
 use Rattle.std.proofs.Common.{◌≡◌, ◌↔◌, List, ap, map, refl, sym, ◌∙◌, Contains}
-use Rattle.cedar_schema_writer.specs.Words.{IsPathOf, IsSoundEntityType, IsSoundKind, IsTypeDeclaration, ListsDescendant, NamesNoOther, PlainName, SchemaEntityType, Text, definitions_bag, known_names, known_schema, name_within, plain_entry, plain_namespace, raw_entity_body, raw_name, type_declared, type_name, unreserved_id_text}
 use Rattle.cedar_schema_elements.proofs.KeyLemmas.{names_of_keys, names_once}
 use Rattle.cedar_schema_writer.proofs.KindLemmas.{kind-same, sound_kind-same}
 use Rattle.cedar_schema_writer.proofs.NameLemmas.{in_each_namespace}
@@ -8,6 +7,7 @@ use Rattle.cedar_schema_writer.proofs.Refusals.{refusal_passed}
 use Rattle.cedar_schema_writer.proofs.Written.{none_there}
 use Rattle.cedar_schema_writer.proofs.entity_types.write_entity_types.Goals as goal
 use Rattle.cedar_schema_writer.proofs.entity_types.write_entity_types.Goals.{In_ok-parents, In-Some}
+use Rattle.cedar_schema_writer.specs.Words.{IsPathOf, IsSoundEntityType, IsSoundKind, IsTypeDeclaration, ListsDescendant, NamesNoOther, PlainName, SchemaEntityType, Text, definitions_bag, known_names, known_schema, name_within, plain_entry, plain_namespace, raw_entity_body, raw_name, type_declared, type_name, unreserved_id_text}
 
 pub loop-name-init : goal.loop-name-init
 loop-name-init c =
@@ -38,7 +38,7 @@ parents : (c : In_ok-parents) (upper : PlainName) → Contains (map raw_name c.i
     ↔ ListsDescendant (known_schema c.args.known.now) (type_name c.in-Some.name.now) upper
 parents c upper =
     let names = c.in_ok-parents.ensures.names upper in
-    let lists = c.requires.uppers c.in-Some.name.now upper in (λ among. lists.0 (names.0 among), λ of. names.1 (lists.1 of))
+    let lists = c.requires.ancestors c.in-Some.name.now upper in (λ among. lists.0 (names.0 among), λ of. names.1 (lists.1 of))
 
 pub returns-in_err-check_descendants-clause-refusal : goal.returns-in_err-check_descendants-clause-refusal
 returns-in_err-check_descendants-clause-refusal c =
@@ -57,7 +57,7 @@ returns-in_err-parents-clause-refusal c =
     (λ some. (
       turn at,
       listed at,
-      λ sound. some.2 (sound.above _ is some.0 ((c.requires.uppers c.in-Some.name.now some.0).0 some.1)),
+      λ sound. some.2 (sound.above _ is some.0 ((c.requires.ancestors c.in-Some.name.now some.0).0 some.1)),
     ))
 
 pub returns-in_err-declared-clause-refusal : goal.returns-in_err-declared-clause-refusal
@@ -104,7 +104,7 @@ loop-name-preserved c =
                 (sound_kind-same namespace Above Lists (parents at) (known_names known) it.1.kind c.in_ok-declared.ensures.sound);
             above = in_each_namespace (λ each. (upper : PlainName) → Lists upper → NamesNoOther (known_names known) each upper) namespace
                 _ (path at)
-                (λ upper lists. c.in_ok-parents.ensures.no_other upper ((c.requires.uppers c.in-Some.name.now upper).1 lists));
+                (λ upper lists. c.in_ok-parents.ensures.no_other upper ((c.requires.ancestors c.in-Some.name.now upper).1 lists));
             below = rw (names_of_keys type_name plain_entry (λ e. refl) known.entity_types.now.entries)
                 c.in_ok-check_descendants.ensures.there;
           })

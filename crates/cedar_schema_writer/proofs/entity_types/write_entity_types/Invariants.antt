@@ -1,7 +1,7 @@
 use Rattle.std.proofs.Common.{map}
-use Rattle.cedar_schema_writer.specs.Words.{AreProper, IsSoundEntityType, IsTypeDeclaration, PlainName, SchemaEntityType, definitions_bag, known_schema, plain_entry}
 use Rattle.cedar_schema_writer.proofs.Put.{PutSoFar}
 use Rattle.cedar_schema_writer.proofs.entity_types.write_entity_types.Given as goal
+use Rattle.cedar_schema_writer.specs.Words.{AreProper, IsSoundEntityType, IsTypeDeclaration, PlainName, SchemaEntityType, definitions_bag, known_schema, plain_entry}
 
 abbrev pub invariant-loop-name : goal.invariant-loop-name
 invariant-loop-name l = record {

@@ -1,8 +1,8 @@
 use Rattle.std.proofs.Common.{inl, refl}
-use Rattle.cedar_schema_writer.specs.Words.{entity_type_of, kind_fields, kind_openness, plain_namespace, record_of}
-use Rattle.cedar_schema_writer.proofs.Refusals.{refusal_passed}
 use Rattle.cedar_schema_writer.proofs.KindLemmas.{written_names}
+use Rattle.cedar_schema_writer.proofs.Refusals.{refusal_passed}
 use Rattle.cedar_schema_writer.proofs.entity_types.write_standard.Goals as goal
+use Rattle.cedar_schema_writer.specs.Words.{entity_type_of, kind_fields, kind_openness, plain_namespace, record_of}
 
 pub returns-in_err-shape-clause-refusal : goal.returns-in_err-shape-clause-refusal
 returns-in_err-shape-clause-refusal c =

@@ -1,6 +1,6 @@
 use Rattle.std.proofs.Common.{Some, ap, sym, ◌∙◌}
-use Rattle.cedar_schema_writer.specs.Parts.{plain_namespace}
 use Rattle.cedar_schema_writer.proofs.entity_types.write_tags.Goals as goal
+use Rattle.cedar_schema_writer.specs.Parts.{plain_namespace}
 
 pub returns-in_ok-to_json_type-in-Some-clause-written : goal.returns-in_ok-to_json_type-in-Some-clause-written
 returns-in_ok-to_json_type-in-Some-clause-written c =

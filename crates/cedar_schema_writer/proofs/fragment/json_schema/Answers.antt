@@ -1,11 +1,11 @@
 use Rattle.std.proofs.Common.{Contains, ap, refl}
 use Rattle.std.proofs.lemmas.List.Elements.{All-nil}
-use Rattle.cedar_schema_writer.specs.Words.{IsProper, Known, SchemaAction, SchemaEntityType, ValidatorActionId, ValidatorEntityType, action_of, definitions_bag, descendant_names, known_schema, plain_action_entry, plain_entry, type_name, uid_of}
-use Rattle.cedar_schema_elements.proofs.UpperLemmas.{node_plain}
+use Rattle.cedar_schema_elements.proofs.AncestorLemmas.{node_plain}
 use Rattle.cedar_schema_writer.proofs.Refusals.{refusal_passed}
 use Rattle.cedar_schema_writer.proofs.Whole.{action_writable, no_action, parts_writable, parts_written, type_writable}
 use Rattle.cedar_schema_writer.proofs.fragment.json_schema.Goals as goal
 use Rattle.cedar_schema_writer.proofs.fragment.json_schema.Goals.{In_ok-action_types}
+use Rattle.cedar_schema_writer.specs.Words.{IsProper, Known, SchemaAction, SchemaEntityType, ValidatorActionId, ValidatorEntityType, action_of, definitions_bag, descendant_names, known_schema, plain_action_entry, plain_entry, type_name, uid_of}
 
 -- what is known, once the types of the actions are collected
 abbrev known : In_ok-action_types → Known
@@ -16,19 +16,19 @@ known c = record {
   action_types = record { ref_ptr = c.args.entity_types.ref_ptr; now = c.in_ok-action_types.action_types };
 }
 
-pub write_entity_types-requires-clause-uppers : goal.write_entity_types-requires-clause-uppers
-write_entity_types-requires-clause-uppers c = λ key above.
+pub write_entity_types-requires-clause-ancestors : goal.write_entity_types-requires-clause-ancestors
+write_entity_types-requires-clause-ancestors c = λ key above.
     let lists = node_plain type_name (λ (it : ValidatorEntityType). Contains (descendant_names it) (type_name key)) plain_entry
     (λ (it : SchemaEntityType). Contains it.descendants (type_name key)) (λ e. refl) (λ e. (λ is. is, λ is. is))
     c.args.entity_types.now.entries above in
-    let stands = c.in_ok-type_uppers.ensures key above in (λ upper. lists.0 (stands.0 upper), λ of. stands.1 (lists.1 of))
+    let stands = c.in_ok-type_ancestors.ensures key above in (λ upper. lists.0 (stands.0 upper), λ of. stands.1 (lists.1 of))
 
-pub write_actions-requires-clause-uppers : goal.write_actions-requires-clause-uppers
-write_actions-requires-clause-uppers c = λ key above.
+pub write_actions-requires-clause-ancestors : goal.write_actions-requires-clause-ancestors
+write_actions-requires-clause-ancestors c = λ key above.
     let lists = node_plain uid_of (λ (it : ValidatorActionId). Contains (action_of it).descendants (uid_of key)) plain_action_entry
     (λ (it : SchemaAction). Contains it.descendants (uid_of key)) (λ e. refl) (λ e. (λ is. is, λ is. is))
     c.args.actions.now.entries above in
-    let stands = c.in_ok-action_uppers.ensures key above in (λ upper. lists.0 (stands.0 upper), λ of. stands.1 (lists.1 of))
+    let stands = c.in_ok-action_ancestors.ensures key above in (λ upper. lists.0 (stands.0 upper), λ of. stands.1 (lists.1 of))
 
 pub returns-in_err-write_entity_types-clause-refusal : goal.returns-in_err-write_entity_types-clause-refusal
 returns-in_err-write_entity_types-clause-refusal c =

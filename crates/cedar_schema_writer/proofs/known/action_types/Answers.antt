@@ -3,11 +3,11 @@ use Rattle.std.proofs.lemmas.List.{map-append}
 use Rattle.std.proofs.lemmas.Map.Iter.{iter_end}
 use Rattle.std.specs.Map.{keys_of}
 use Rattle.std.specs.Map.Iter.{deref}
-use Rattle.cedar_schema_writer.specs.Words.{EntityUID, PlainUid, SchemaAction, ValidatorActionId, plain_action_entry, type_name}
-use Rattle.cedar_below.proofs.Names.{entity_type_eq-same}
-use Rattle.cedar_below.specs.contracts.entity_type.EntityTypeEq.TheImpl as entity_type_equal
+use Rattle.cedar_ast.proofs.Names.{entity_type_eq-same}
+use Rattle.cedar_ast.specs.contracts.entity_type.EntityTypeEq.TheImpl as entity_type_equal
 use Rattle.cedar_schema_elements.proofs.SetLemmas.{AnswersAlike-insert, SameItems-types}
 use Rattle.cedar_schema_writer.proofs.known.action_types.Goals as goal
+use Rattle.cedar_schema_writer.specs.Words.{EntityUID, PlainUid, SchemaAction, ValidatorActionId, plain_action_entry, type_name}
 
 -- the names of the types of actions are those of their uids
 types_of : (actions : List (EntityUID × ValidatorActionId))

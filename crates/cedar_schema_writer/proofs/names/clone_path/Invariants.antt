@@ -1,5 +1,5 @@
 use Rattle.std.proofs.Common.{◌≡◌, map, take}
-use Rattle.cedar_below.specs.Id.{id_text}
+use Rattle.cedar_ast.specs.Id.{id_text}
 use Rattle.cedar_schema_writer.proofs.names.clone_path.Given as goal
 
 abbrev pub invariant-loop-part : goal.invariant-loop-part

@@ -1,7 +1,7 @@
 use Rattle.std.proofs.Common.{◌≡◌, ◌++◌, ◌-◌, length, List, [], ◌∷◌, sym, subst, ◌∙◌, map, take}
-use Rattle.cedar_schema_writer.specs.Words.{IsReserved, PlainName, Text, id_text, name_of, plain_name}
 use Rattle.cedar_schema_writer.proofs.NameLemmas.{found_path, front_and_last, path-unreserved}
 use Rattle.cedar_schema_writer.proofs.names.namespace_of.Goals as goal
+use Rattle.cedar_schema_writer.specs.Words.{IsReserved, PlainName, Text, id_text, name_of, plain_name}
 
 pub returns-in_ok-clone-in-len1-up : goal.returns-in_ok-clone-in-len1-up
 returns-in_ok-clone-in-len1-up c =

@@ -1,9 +1,9 @@
 use Rattle.std.proofs.Common.{◌≡◌, ◌++◌, List, [], ◌∷◌, Some, ap, sym, subst, ◌∙◌, map}
 use Rattle.std.proofs.lemmas.Bool.{false≢true}
 use Rattle.std.proofs.lemmas.List.{map-append}
-use Rattle.cedar_schema_writer.specs.Words.{IsReserved, PlainName, Text, id_text, name_of, name_within, plain_name}
 use Rattle.cedar_schema_writer.proofs.NameLemmas.{within-unreserved}
 use Rattle.cedar_schema_writer.proofs.names.within.Goals as goal
+use Rattle.cedar_schema_writer.specs.Words.{IsReserved, PlainName, Text, id_text, name_of, name_within, plain_name}
 
 pub unreachable-requires : goal.unreachable-requires
 unreachable-requires c =

@@ -2,7 +2,7 @@ use Rattle.std.proofs.Common.{[], ◌++◌, ◌∷◌, ap, sym, ◌∙◌, map, 
 use Rattle.std.proofs.lemmas.Bool.{false≢true}
 use Rattle.std.specs.BTreeMap.{is_at}
 use Rattle.std.specs.Map.{keys_of}
-use Rattle.cedar_schema_elements.proofs.UpperLemmas.{key_tie}
+use Rattle.cedar_schema_elements.proofs.AncestorLemmas.{key_tie}
 use Rattle.cedar_schema_writer.proofs.Keyed.{found-key}
 use Rattle.cedar_schema_writer.proofs.Written.{each_sound, written_here, written_more, written_none}
 use Rattle.cedar_schema_writer.proofs.parents.check_descendants.Goals as goal

@@ -2,8 +2,8 @@ use Rattle.std.proofs.Common.{[], ◌∷◌, ap, map}
 use Rattle.std.proofs.lemmas.List.{map-append}
 use Rattle.cedar_schema_writer.proofs.Refusals.{refusal_passed}
 use Rattle.cedar_schema_writer.proofs.Written.{each_sound, written_all, written_here, written_more, written_none}
-use Rattle.cedar_schema_writer.specs.Parts.{known_names, plain_namespace}
 use Rattle.cedar_schema_writer.proofs.parents.write_keys.Goals as goal
+use Rattle.cedar_schema_writer.specs.Parts.{known_names, plain_namespace}
 
 -- at first no key is written
 pub loop-key-init : goal.loop-key-init

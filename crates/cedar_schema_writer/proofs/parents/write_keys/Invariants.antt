@@ -1,7 +1,7 @@
 use Rattle.std.proofs.Common.{map}
 use Rattle.cedar_schema_writer.proofs.Written.{WrittenSoFar}
-use Rattle.cedar_schema_writer.specs.Parts.{known_names, plain_namespace}
 use Rattle.cedar_schema_writer.proofs.parents.write_keys.Given as goal
+use Rattle.cedar_schema_writer.specs.Parts.{known_names, plain_namespace}
 
 abbrev pub invariant-loop-key : goal.invariant-loop-key
 invariant-loop-key g l =

@@ -1,6 +1,6 @@
 use Rattle.std.proofs.Common.{[], map, ap, refl, sym}
-use Rattle.cedar_schema_elements.proofs.UpperLemmas.{none_above, some_above}
-use Rattle.cedar_schema_elements.specs.Uppers.{upper_set}
+use Rattle.cedar_schema_elements.proofs.AncestorLemmas.{none_above, some_above}
+use Rattle.cedar_schema_elements.specs.Ancestors.{upper_set}
 use Rattle.cedar_schema_writer.proofs.Answered.{ok_to, on_to}
 use Rattle.cedar_schema_writer.proofs.Refusals.{refusal_weaker}
 use Rattle.cedar_schema_writer.proofs.Written.{none_there}
@@ -31,7 +31,7 @@ returns-in-Some-clause-refusal g c =
 -- nothing stands above the node, and nothing is written
 pub returns-in-None-clause-names : goal.returns-in-None-clause-names
 returns-in-None-clause-names g c = λ upper.
-    let above = none_above g.K.WrittenKey.named (upper_set g.K.Ord.cmp c.args.uppers.now c.args.lower.now) []
+    let above = none_above g.K.WrittenKey.named (upper_set g.K.Ord.cmp c.args.ancestors.now c.args.lower.now) []
     (sym c.in-None.ensures.value) refl upper in (
       λ among. absurd (none_there _ upper (ap (map g.K.WrittenKey.written) c.new.ensures.items) among),
       λ stands. absurd (none_there [] upper refl (above.0 stands)),
@@ -40,6 +40,6 @@ returns-in-None-clause-names g c = λ upper.
 -- nothing stands above the node, so no upper is ambiguous
 pub returns-in-None-clause-no_other : goal.returns-in-None-clause-no_other
 returns-in-None-clause-no_other g c = λ upper stands.
-    let above = none_above g.K.WrittenKey.named (upper_set g.K.Ord.cmp c.args.uppers.now c.args.lower.now) []
+    let above = none_above g.K.WrittenKey.named (upper_set g.K.Ord.cmp c.args.ancestors.now c.args.lower.now) []
     (sym c.in-None.ensures.value) refl upper in
     absurd (none_there [] upper refl (above.0 stands))

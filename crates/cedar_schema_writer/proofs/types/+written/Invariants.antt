@@ -1,6 +1,6 @@
-use Rattle.cedar_schema_writer.specs.Words.{fields_from, fields_of, known_names, plain_attributes, plain_members, plain_namespace, ty_of}
 use Rattle.cedar_schema_writer.proofs.TypeLemmas.{AttributesSoFar, fields_size, ty_size}
 use Rattle.cedar_schema_writer.proofs.types.+written.Given as goal
+use Rattle.cedar_schema_writer.specs.Words.{fields_from, fields_of, known_names, plain_attributes, plain_members, plain_namespace, ty_of}
 
 abbrev pub decreases-to_json_type : goal.decreases-to_json_type
 decreases-to_json_type l = ty_size (ty_of l.ty.now)

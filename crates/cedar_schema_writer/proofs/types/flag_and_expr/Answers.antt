@@ -1,5 +1,5 @@
 use Rattle.std.proofs.Common.{◌∙◌}
-use Rattle.cedar_names.proofs.ExprLemmas.{raw_attribute-parts}
+use Rattle.cedar_schema_ast.proofs.ExprLemmas.{raw_attribute-parts}
 use Rattle.cedar_schema_writer.proofs.types.flag_and_expr.Goals as goal
 
 pub returns : goal.returns

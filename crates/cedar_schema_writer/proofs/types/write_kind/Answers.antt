@@ -1,8 +1,8 @@
 use Rattle.std.proofs.Common.{◌≡◌, Some, ap, sym}
-use Rattle.cedar_schema_writer.specs.Words.{kind_ty, known_names, lub_names, only_name, plain_namespace, type_name}
 use Rattle.cedar_schema_writer.proofs.Refusals.{refusal_passed}
 use Rattle.cedar_schema_writer.proofs.TypeLemmas.{sound-union}
 use Rattle.cedar_schema_writer.proofs.types.write_kind.Goals as goal
+use Rattle.cedar_schema_writer.specs.Words.{kind_ty, known_names, lub_names, only_name, plain_namespace, type_name}
 
 pub returns-in_err-write_name-in-Some-clause-refusal : goal.returns-in_err-write_name-in-Some-clause-refusal
 returns-in_err-write_name-in-Some-clause-refusal c =

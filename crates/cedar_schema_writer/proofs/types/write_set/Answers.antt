@@ -1,8 +1,8 @@
 use Rattle.std.proofs.Common.{Some, ap, sym, ◌∙◌}
 use Rattle.std.specs.Option.{option_map}
-use Rattle.cedar_names.proofs.VariantLemmas.{variant-Set}
-use Rattle.cedar_schema_writer.specs.Words.{RawName, raw_expr, raw_reference, set_expr}
+use Rattle.cedar_schema_ast.proofs.VariantLemmas.{variant-Set}
 use Rattle.cedar_schema_writer.proofs.types.write_set.Goals as goal
+use Rattle.cedar_schema_writer.specs.Words.{RawName, raw_expr, raw_reference, set_expr}
 
 pub returns : goal.returns
 returns c = λ namespace ty is.

@@ -7,11 +7,11 @@ use Rattle.std.specs.Fn.{FnReturnsAt}
 use Rattle.std.specs.List.{zip}
 use Rattle.std.specs.List.Sorted.{IsStrictlySortedBy}
 use Rattle.std.specs.declared.cmp.Ordering.TheVariants.{Equal}
-use Rattle.cedar_below.specs.declared.memory.Memory.{Memory}
-use Rattle.cedar_table.specs.Words.{HoldsPairwise}
+use Rattle.cedar_ast.specs.declared.memory.Memory.{Memory}
 use Rattle.cedar_table.proofs.ColumnLemmas.{zip_behind}
 use Rattle.cedar_table.proofs.CopiedLemmas.{copied_more, copied_none, copies_given, copies_sorted}
 use Rattle.cedar_table.proofs.copying.copied_table.Goals as goal
+use Rattle.cedar_table.specs.Words.{HoldsPairwise}
 
 -- at first nothing is copied
 pub loop-key-init : goal.loop-key-init

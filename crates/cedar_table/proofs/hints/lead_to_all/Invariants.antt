@@ -1,6 +1,6 @@
 use Rattle.std.proofs.Common.{◌<◌, ℕ, IfSome, slice_get}
-use Rattle.cedar_table.specs.Hints.{LeadsTo, hash_by}
 use Rattle.cedar_table.proofs.hints.lead_to_all.Given as goal
+use Rattle.cedar_table.specs.Hints.{LeadsTo, hash_by}
 
 abbrev pub invariant-loop-place : goal.invariant-loop-place
 invariant-loop-place g l = (place : ℕ) → place < l.place

@@ -1,8 +1,8 @@
 use Rattle.std.proofs.Common.{subst}
-use Rattle.cedar_table.proofs.HintLemmas.{leads_once, not_there}
-use Rattle.cedar_table.specs.StandsAt.{KeyStandsAt}
 use Rattle.std.proofs.lemmas.Bool.{both_ways}
+use Rattle.cedar_table.proofs.HintLemmas.{leads_once, not_there}
 use Rattle.cedar_table.proofs.search.hinted_place.Goals as goal
+use Rattle.cedar_table.specs.StandsAt.{KeyStandsAt}
 
 pub returns-in_default-clause-lacking : goal.returns-in_default-clause-lacking
 returns-in_default-clause-lacking g c = λ complete.

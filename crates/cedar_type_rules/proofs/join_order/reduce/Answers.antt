@@ -1,11 +1,11 @@
 use Rattle.std.proofs.Common.{◌+◌, List, drop, Ok}
-use Rattle.std.proofs.lemmas.Result.{err_from_is_err_and}
 use Rattle.std.proofs.Math.ListN.{drop_of_length-le}
-use Rattle.cedar_below.proofs.TreeLemmas.{drop-at}
-use Rattle.cedar_type_rules.specs.Words.{IsFoldOfJoins, ValidationMode}
+use Rattle.std.proofs.lemmas.Result.{err_from_is_err_and}
+use Rattle.cedar_ast.proofs.TreeLemmas.{drop-at}
 use Rattle.cedar_type_rules.proofs.FoldsOfJoins.{JoinedSoFar, JoinLaws, joined-first, joined-next, joined-refused, joined-last, joined_is_least, IsGivenOrMemory-of}
 use Rattle.cedar_type_rules.proofs.join_order.reduce.Given.{Over}
 use Rattle.cedar_type_rules.proofs.join_order.reduce.Goals as goal
+use Rattle.cedar_type_rules.specs.Words.{IsFoldOfJoins, ValidationMode}
 
 -- what the trait tells of joins
 laws_of : (g : Over) (mode : ValidationMode)

@@ -1,5 +1,5 @@
-use Rattle.cedar_type_rules.proofs.JoinLemmas.{join_given_exactly, join_unique, upper_is_join, join_below_clean, join_least_clean, join_commutes}
 use Rattle.cedar_type_rules.proofs.JoinAnswers.{strict_is_permissive}
+use Rattle.cedar_type_rules.proofs.JoinLemmas.{join_given_exactly, join_unique, upper_is_join, join_below_clean, join_least_clean, join_commutes}
 use Rattle.cedar_type_rules.proofs.theorems.joins_are_least_bounds.Goals as goal
 
 pub returns-clause-given : goal.returns-clause-given

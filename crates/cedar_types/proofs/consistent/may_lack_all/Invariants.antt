@@ -1,7 +1,7 @@
 use Rattle.std.proofs.Common.{◌≡◌, ◌⊎◌, ◌↔◌, true, false, drop}
 use Rattle.std.specs.List.{AllByRecursion}
-use Rattle.cedar_types.specs.Attributes.{plain_attributes}
 use Rattle.cedar_types.proofs.consistent.may_lack_all.Given as goal
+use Rattle.cedar_types.specs.Attributes.{plain_attributes}
 
 abbrev pub invariant-loop-attribute : goal.invariant-loop-attribute
 invariant-loop-attribute l =

@@ -1,13 +1,13 @@
 use Rattle.std.proofs.Common.{◌≡◌, ◌∙◌, refl, sym, ap, Some}
-use Rattle.std.proofs.lemmas.Result.{err_from_is_err_and}
 use Rattle.std.proofs.Math.ListN.{drop_of_length-le}
+use Rattle.std.proofs.lemmas.Result.{err_from_is_err_and}
 use Rattle.std.specs.Option.{option_map}
-use Rattle.cedar_below.proofs.TreeLemmas.{drop-at, core_ty_of-record}
-use Rattle.cedar_types.specs.Words.{AreSortedByName, core_of, core_record, fields_of-pairs, is_open, ty_of}
+use Rattle.cedar_ast.proofs.TreeLemmas.{drop-at, core_ty_of-record}
 use Rattle.cedar_type_rules.proofs.CompareLemmas.{is_open-eq}
 use Rattle.cedar_types.proofs.CoredWalk.{cored-fault, cored-next, cored-last}
 use Rattle.cedar_types.proofs.MemberParts.{ty_of-record}
 use Rattle.cedar_types.proofs.core_type.+core.Goals as goal
+use Rattle.cedar_types.specs.Words.{AreSortedByName, core_of, core_record, fields_of-pairs, is_open, ty_of}
 
 -- an attribute whose type has no core type is the fault
 pub core_attributes-returns-in_err-attr_type-clause-fault : goal.core_attributes-returns-in_err-attr_type-clause-fault

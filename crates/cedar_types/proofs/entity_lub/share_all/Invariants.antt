@@ -1,5 +1,5 @@
 use Rattle.std.proofs.Common.{◌≡◌, map, take}
-use Rattle.cedar_below.specs.EntityType.{type_name}
+use Rattle.cedar_ast.specs.EntityType.{type_name}
 use Rattle.cedar_types.proofs.entity_lub.share_all.Given as goal
 
 abbrev pub invariant-loop-ty : goal.invariant-loop-ty

@@ -1,20 +1,20 @@
 use Rattle.std.proofs.Common.{◌≡◌, ◌+◌, Err, ap, sym, subst, ◌∙◌, drop, length, get_or, string_bytes, refl, inl}
-use Rattle.std.proofs.lemmas.Result.{err_from_is_err_and}
 use Rattle.std.proofs.Math.ListN.{drop_of_length-le}
+use Rattle.std.proofs.lemmas.Result.{err_from_is_err_and}
 use Rattle.std.specs.declared.alloc.Global.{Global}
 use Rattle.std.specs.declared.rc.Rc.{Rc}
-use Rattle.cedar_below.proofs.TreeLemmas.{drop-at}
+use Rattle.cedar_ast.proofs.TreeLemmas.{drop-at}
 use Rattle.cedar_type_rules.proofs.RecordAnswers.{PermissiveJoin}
 use Rattle.cedar_type_rules.proofs.StrictRecordAnswers.{StrictJoin}
-use Rattle.cedar_types.specs.Words.{IsStrictAttribute, «Type», attribute_of, either_open, fields_of, pairs_of, record_of, set_of, ty_of}
 use Rattle.cedar_types.proofs.JoinSteps.{JoinStep, unplaced-at, Pairs, fields_at, names_sorted, PermissiveSoFar, permissive-first, permissive-last, permissive-missed, permissive-refused, permissive-kept, permissive-least, StrictSoFar, strict-first, strict-last, strict-missed, strict-kept, strict-least, strict-refusal, strict-errs, strict-unlike, dropped_have_none}
 use Rattle.cedar_types.proofs.KindJoins.{held_below, upper_joins, sets_join, sets_refused_at, flags_refused}
 use Rattle.cedar_types.proofs.MemberParts.{ty_of-set}
 use Rattle.cedar_types.proofs.SubtypeSteps.{Sought-held, IsAt-held}
 use Rattle.cedar_types.proofs.TypeKinds.{place_of, unlike_refused, unlike-Bool, unlike-Entity, unlike-Set, unlike-Record, unlike-other, place-Bool, place-Entity, place-Set, place-Record, place-not-Bool, place-not-Entity, place-not-Set, place-not-Record}
-use Rattle.cedar_types.specs.declared.types.Type.TheVariants as type
 use Rattle.cedar_types.proofs.join.+join.Goals as goal
 use Rattle.cedar_types.proofs.join.+join.Goals.{join_apart-In-Some-Some, permissive_record-After-as_slice-others, permissive_record-After-seek-place, permissive_record-After-loop-name, strict_record-After-as_slice-others, strict_record-Else-own-others, strict_record-After-seek-place, strict_record-After-loop-name, join_apart-in_default-via-in-Bool+in_default, join_apart-in_default-via-in-Entity+in_default, join_apart-in_default-via-in-Set+in_default, join_apart-in_default-via-in-Record+in_default, join_apart-in_default-via-in_default, permissive_record-then-is_there+in_ok-join+in-Some+in_ok-push_named, permissive_record-then-is_there+in_ok-join+in_default, permissive_record-else-is_there}
+use Rattle.cedar_types.specs.Words.{IsStrictAttribute, «Type», attribute_of, either_open, fields_of, pairs_of, record_of, set_of, ty_of}
+use Rattle.cedar_types.specs.declared.types.Type.TheVariants as type
 
 -- what two sets with elements stand for
 both_sets : (t : _) (c : join_apart-In-Some-Some t)

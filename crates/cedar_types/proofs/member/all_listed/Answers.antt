@@ -1,15 +1,15 @@
 use Rattle.std.proofs.Common.{refl, ap, sym, ◌∙◌, string_bytes, map}
 use Rattle.std.proofs.lemmas.Simd.{map-map}
 use Rattle.std.specs.String.{string_cmp}
-use Rattle.cedar_below.proofs.Inclusion.{Included-step, Included-head}
-use Rattle.cedar_below.proofs.Ordered.{IsStrictlySortedBy-map}
-use Rattle.cedar_below.proofs.Texts.{text_cmp-total}
-use Rattle.cedar_below.proofs.TreeLemmas.{entry_names-entries}
-use Rattle.cedar_types.specs.Words.{field_names, fields_of, pairs_of, text_cmp}
+use Rattle.cedar_ast.proofs.Inclusion.{Included-step, Included-head}
+use Rattle.cedar_ast.proofs.Ordered.{IsStrictlySortedBy-map}
+use Rattle.cedar_ast.proofs.Texts.{text_cmp-total}
+use Rattle.cedar_ast.proofs.TreeLemmas.{entry_names-entries}
 use Rattle.cedar_name_map.proofs.RisingLemmas.{Ahead-first}
 use Rattle.cedar_name_map.proofs.SearchLemmas.{text_of}
 use Rattle.cedar_types.proofs.SubtypeSteps.{IsAt-held, Sought-held, sought-name, sought-on}
 use Rattle.cedar_types.proofs.member.all_listed.Goals as goal
+use Rattle.cedar_types.specs.Words.{field_names, fields_of, pairs_of, text_cmp}
 
 -- at first the names are those of the entries
 pub loop-name-init : goal.loop-name-init

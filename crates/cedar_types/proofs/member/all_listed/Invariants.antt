@@ -1,8 +1,8 @@
 use Rattle.std.proofs.Common.{◌↔◌, map, string_bytes}
-use Rattle.cedar_types.specs.Words.{Included, entries_of, entry_names, field_names, fields_of, pairs_of, text_cmp}
 use Rattle.cedar_name_map.proofs.RisingLemmas.{Ahead}
 use Rattle.cedar_name_map.proofs.SearchLemmas.{text_of}
 use Rattle.cedar_types.proofs.member.all_listed.Given as goal
+use Rattle.cedar_types.specs.Words.{Included, entries_of, entry_names, field_names, fields_of, pairs_of, text_cmp}
 
 abbrev pub invariant-loop-name : goal.invariant-loop-name
 invariant-loop-name l =

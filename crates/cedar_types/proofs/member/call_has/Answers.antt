@@ -1,6 +1,6 @@
 use Rattle.std.proofs.Common.{ap, ◌∙◌, Err}
 use Rattle.std.proofs.lemmas.Result.{err_from_is_err_and}
-use Rattle.cedar_below.specs.Name.{plain_name}
+use Rattle.cedar_ast.specs.Name.{plain_name}
 use Rattle.cedar_types.proofs.MembershipLemmas.{IsMembership-known, IsMembership-unknown, none_from_some}
 use Rattle.cedar_types.proofs.member.call_has.Goals as goal
 

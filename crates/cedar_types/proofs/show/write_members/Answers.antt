@@ -1,8 +1,8 @@
 use Rattle.std.proofs.Common.{◌∙◌, refl, sym, ap, map}
 use Rattle.std.proofs.Output.{has_written_append, has_written_of_eq}
-use Rattle.cedar_types.specs.Words.{names_text, type_name}
 use Rattle.cedar_types.proofs.TextLemmas.{names_text-first}
 use Rattle.cedar_types.proofs.show.write_members.Goals as goal
+use Rattle.cedar_types.specs.Words.{names_text, type_name}
 
 pub returns-in_ok-fmt-in-Some : goal.returns-in_ok-fmt-in-Some
 returns-in_ok-fmt-in-Some g c plain ok =

@@ -1,8 +1,8 @@
 use Rattle.std.proofs.Common.{◌++◌, map, codes, take}
-use Rattle.std.specs.List.{flat_map}
 use Rattle.std.specs.Fmt.{HasWritten, IsPlainFormatter}
-use Rattle.cedar_types.specs.Words.{name_text, type_name}
+use Rattle.std.specs.List.{flat_map}
 use Rattle.cedar_types.proofs.show.write_others.Given as goal
+use Rattle.cedar_types.specs.Words.{name_text, type_name}
 
 abbrev pub invariant-loop-ty : goal.invariant-loop-ty
 invariant-loop-ty g l =

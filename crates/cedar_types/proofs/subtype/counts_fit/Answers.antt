@@ -1,7 +1,7 @@
 use Rattle.std.proofs.Common.{ap, ◌∙◌}
-use Rattle.cedar_types.specs.Words.{IsSortedByName-fields, fields_of}
 use Rattle.cedar_types.proofs.SubtypeSteps.{NamesBelow-strict, NamesBelow-closed, counts-Decides}
 use Rattle.cedar_types.proofs.subtype.counts_fit.Goals as goal
+use Rattle.cedar_types.specs.Words.{IsSortedByName-fields, fields_of}
 
 pub returns-in-ClosedAttributes : goal.returns-in-ClosedAttributes
 returns-in-ClosedAttributes c =

@@ -1,11 +1,11 @@
 use Rattle.std.proofs.Common.{refl}
 use Rattle.std.specs.Slice.Iter.{iter_rest}
-use Rattle.cedar_below.proofs.PlainNames.{name_cmp-total}
-use Rattle.cedar_types.specs.Words.{lub_names, lub_types, name_cmp, type_name}
-use Rattle.cedar_below.proofs.Inclusion.{Included-step, Included-head}
+use Rattle.cedar_ast.proofs.Inclusion.{Included-step, Included-head}
+use Rattle.cedar_ast.proofs.PlainNames.{name_cmp-total}
 use Rattle.cedar_name_map.proofs.RisingLemmas.{sought-Decides, sought-next}
 use Rattle.cedar_types.proofs.UnionSteps.{Included-empty}
 use Rattle.cedar_types.proofs.subtype.is_included.Goals as goal
+use Rattle.cedar_types.specs.Words.{lub_names, lub_types, name_cmp, type_name}
 
 -- a type that the upper union lacks is against it
 pub returns-then-not-is_there : goal.returns-then-not-is_there

@@ -1,8 +1,8 @@
 use Rattle.std.proofs.Common.{◌↔◌, map}
 use Rattle.std.specs.Slice.Iter.{iter_rest}
-use Rattle.cedar_types.specs.Words.{Included, lub_names, lub_types, name_cmp, type_name}
 use Rattle.cedar_name_map.proofs.RisingLemmas.{Ahead}
 use Rattle.cedar_types.proofs.subtype.is_included.Given as goal
+use Rattle.cedar_types.specs.Words.{Included, lub_names, lub_types, name_cmp, type_name}
 
 abbrev pub invariant-loop-ty : goal.invariant-loop-ty
 invariant-loop-ty l =

@@ -1,7 +1,7 @@
 use Rattle.cedar_type_rules.proofs.JoinAnswers.{strict_is_permissive}
 use Rattle.cedar_type_rules.proofs.JoinLemmas.{join_unique, join_least_clean, join_commutes}
-use Rattle.cedar_types.specs.Words.{IsWellFormed-type, ty_of}
 use Rattle.cedar_types.proofs.theorems.joins_of_types_are_least_bounds.Goals as goal
+use Rattle.cedar_types.specs.Words.{IsWellFormed-type, ty_of}
 
 pub returns-clause-of_clean : goal.returns-clause-of_clean
 returns-clause-of_clean c mode answer first second right =

@@ -1,6 +1,6 @@
-use Rattle.cedar_types.specs.Words.{IsWellFormed-type, ty_of}
 use Rattle.cedar_type_rules.proofs.ValueInclusion.{inclusion, inclusion_and_names}
 use Rattle.cedar_types.proofs.theorems.permissive_subtyping_of_types_is_inclusion.Goals as goal
+use Rattle.cedar_types.specs.Words.{IsWellFormed-type, ty_of}
 
 pub returns-clause-stated : goal.returns-clause-stated
 returns-clause-stated c =

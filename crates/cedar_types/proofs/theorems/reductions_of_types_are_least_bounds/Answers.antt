@@ -1,8 +1,8 @@
 use Rattle.std.proofs.Common.{map}
 use Rattle.cedar_type_rules.proofs.ReduceLemmas.{reduce_least_clean}
 use Rattle.cedar_types.proofs.ReduceSteps.{reduced_in_any_order}
-use Rattle.cedar_types.specs.Meaning.{ty_of}
 use Rattle.cedar_types.proofs.theorems.reductions_of_types_are_least_bounds.Goals as goal
+use Rattle.cedar_types.specs.Meaning.{ty_of}
 
 pub returns-clause-of_clean : goal.returns-clause-of_clean
 returns-clause-of_clean c mode answer clean right = reduce_least_clean mode (map ty_of c.args.types.now) answer clean right

@@ -1,6 +1,6 @@
-use Rattle.cedar_types.specs.Words.{IsWellFormed-type, ty_of}
 use Rattle.cedar_type_rules.proofs.AntisymmetryLaws.{Below-same}
 use Rattle.cedar_types.proofs.theorems.subtyping_of_types_is_antisymmetric.Goals as goal
+use Rattle.cedar_types.specs.Words.{IsWellFormed-type, ty_of}
 
 pub returns : goal.returns
 returns c mode =

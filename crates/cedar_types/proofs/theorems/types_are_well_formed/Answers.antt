@@ -1,5 +1,5 @@
-use Rattle.cedar_types.specs.Words.{AreTexts-fields, AreWellFormed-fields, IsSortedByName-fields, IsWellFormed-type, kind_formed}
 use Rattle.cedar_types.proofs.theorems.types_are_well_formed.Goals as goal
+use Rattle.cedar_types.specs.Words.{AreTexts-fields, AreWellFormed-fields, IsSortedByName-fields, IsWellFormed-type, kind_formed}
 
 pub returns-clause-kinds : goal.returns-clause-kinds
 returns-clause-kinds c = kind_formed

@@ -1,12 +1,12 @@
 use Rattle.std.proofs.Common.{◌≡◌, refl, ℕ, sym, ap, ◌∙◌}
 use Rattle.std.proofs.lemmas.Option.{same_Some}
-use Rattle.std.specs.Prelude.{slice_get, Some, List, Bool}
 use Rattle.std.specs.Hash.{le_bytes}
+use Rattle.std.specs.Prelude.{slice_get, Some, List, Bool}
+use Rattle.cedar_types.proofs.EqualityLaws.{layer_shape, shape-folded_layer}
+use Rattle.cedar_types.proofs.theorems.types_feed_their_variant.Goals as goal
 use Rattle.cedar_types.specs.Words.{AttributeType, Attributes, FeedsVariantFirst, Fields, Ty, «Type», attribute_step, attributes_step, fold-roll-Type, kind_rank, out-Type, roll-Type, roll-out-Type, ty_of, type_step}
 use Rattle.cedar_types.specs.contracts.types.TypeHash.TheImpl as type_hash
 use Rattle.cedar_types.specs.declared.types.Type.TheOpen as layer
-use Rattle.cedar_types.proofs.EqualityLaws.{layer_shape, shape-folded_layer}
-use Rattle.cedar_types.proofs.theorems.types_feed_their_variant.Goals as goal
 
 -- the number of a layer's variant, as it is fed
 abbrev fed : layer.Type-F «Type» AttributeType Attributes → List ℕ

@@ -1,9 +1,9 @@
 use Rattle.std.proofs.Common.{◌≡◌, ◌↔◌, List, true, ap, inl, inr, refl, subst, sym}
-use Rattle.cedar_validation.specs.Words.{ActionEntity, Chain, ClosesAction, EntityType, EntityUID, Fault, IsListFault, IsRefusal, IsSchemaFault, LeadsTo, ListsDescendantAction, PlainUid, TableFault, ValidatorActionId, ValidatorEntityType, action_cycle, action_graph_fault, action_of, fault_of, plain_action_entry, plain_schema, uid_of, undeclared_action_descendant}
 use Rattle.cedar_graph.specs.declared.table_fault.TableFault.TheVariants as refused
 use Rattle.cedar_schema_elements.specs.ActionKind.{plain_kind}
 use Rattle.cedar_validation.proofs.ListedEntries.{closed_plain, leads_alike, lists_plain, none_plain}
 use Rattle.cedar_validation.proofs.closing.closed_actions.Goals as goal
+use Rattle.cedar_validation.specs.Words.{ActionEntity, Chain, ClosesAction, EntityType, EntityUID, Fault, IsListFault, IsRefusal, IsSchemaFault, LeadsTo, ListsDescendantAction, PlainUid, TableFault, ValidatorActionId, ValidatorEntityType, action_cycle, action_graph_fault, action_of, fault_of, plain_action_entry, plain_schema, uid_of, undeclared_action_descendant}
 
 module _ (types : List (EntityType × ValidatorEntityType)) (actions : List (EntityUID × ValidatorActionId)) (entities : List ActionEntity) where
   -- chains of what actions list lead to the same uids in the schema

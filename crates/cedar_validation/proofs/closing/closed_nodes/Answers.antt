@@ -1,11 +1,11 @@
 use Rattle.std.proofs.Common.{Contains, sym}
 use Rattle.std.proofs.lemmas.Result.{IfErr-weaker, IfOk-weaker, on_ok_weaker}
-use Rattle.cedar_below.proofs.TurnLemmas.{turn_weaker}
-use Rattle.cedar_validation.specs.Words.{HasEntry, HoldsPairwise, IsClosedOf, IsClosedTo, IsListFault, IsTableFault, StepsTo}
+use Rattle.cedar_ast.proofs.TurnLemmas.{turn_weaker}
 use Rattle.cedar_validation.proofs.Graphs.{Graph, closed_by_name, none_on_cycle, refused_by_name}
 use Rattle.cedar_validation.proofs.Pairwise.{pairwise_back}
 use Rattle.cedar_validation.proofs.closing.closed_nodes.Given.{Over}
 use Rattle.cedar_validation.proofs.closing.closed_nodes.Goals as goal
+use Rattle.cedar_validation.specs.Words.{HasEntry, HoldsPairwise, IsClosedOf, IsClosedTo, IsListFault, IsTableFault, StepsTo}
 
 -- the graph of the nodes
 abbrev graph : (g : Over) → Graph g.row.K.Denot g.row.V.Denot g.V.SchemaNode.Name

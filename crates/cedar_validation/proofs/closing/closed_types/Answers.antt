@@ -1,10 +1,10 @@
 use Rattle.std.proofs.Common.{◌≡◌, false, ap, inl, inr, refl, subst, sym}
 use Rattle.std.proofs.lemmas.Bool.{false≢true}
-use Rattle.cedar_validation.specs.Words.{ClosesType, EntityType, Fault, IsListFault, IsRefusal, IsSchemaFault, TableFault, descendant_names, fault_of, plain_entry, plain_kind, plain_schema, type_graph_fault, type_name}
 use Rattle.cedar_graph.specs.declared.table_fault.TableFault.TheVariants as refused
 use Rattle.cedar_validation.proofs.ListedEntries.{closed_plain, lists_plain, none_plain}
 use Rattle.cedar_validation.proofs.RequestTypeLemmas.{one_unknown}
 use Rattle.cedar_validation.proofs.closing.closed_types.Goals as goal
+use Rattle.cedar_validation.specs.Words.{ClosesType, EntityType, Fault, IsListFault, IsRefusal, IsSchemaFault, TableFault, descendant_names, fault_of, plain_entry, plain_kind, plain_schema, type_graph_fault, type_name}
 
 -- why the closure of entity types is refused is why the schema is
 refused_fault : (types : _) (actions : _) (entities : _) (error : TableFault EntityType) (fault : Fault) → fault ≡ type_graph_fault error

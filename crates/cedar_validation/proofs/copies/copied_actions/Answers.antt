@@ -1,12 +1,12 @@
 use Rattle.std.proofs.Common.{ap, ◌∙◌}
 use Rattle.std.proofs.lemmas.Result.{IfOk-weaker}
-use Rattle.cedar_validation.specs.Words.{IsActionCopied, action_loc, action_of, name_type_loc, uid_loc, uid_of, uid_type_loc}
+use Rattle.cedar_ast.proofs.ShownLemmas.{copy_ties}
+use Rattle.cedar_ast.proofs.TurnLemmas.{turn_weaker}
+use Rattle.cedar_ast.proofs.Uids.{entity_uid_ord-Equal}
+use Rattle.cedar_ast.specs.contracts.entity_uid.EntityUIDOrd.TheImpl as entity_uid_ord
 use Rattle.cedar_schema_elements.specs.ValidatorActionId.{name_loc}
-use Rattle.cedar_below.proofs.Uids.{entity_uid_ord-Equal}
-use Rattle.cedar_below.specs.contracts.entity_uid.EntityUIDOrd.TheImpl as entity_uid_ord
-use Rattle.cedar_below.proofs.ShownLemmas.{copy_ties}
-use Rattle.cedar_below.proofs.TurnLemmas.{turn_weaker}
 use Rattle.cedar_validation.proofs.copies.copied_actions.Goals as goal
+use Rattle.cedar_validation.specs.Words.{IsActionCopied, action_loc, action_of, name_type_loc, uid_loc, uid_of, uid_type_loc}
 
 pub copied_table-requires-clause-ties : goal.copied_table-requires-clause-ties
 copied_table-requires-clause-ties c key answer ran =

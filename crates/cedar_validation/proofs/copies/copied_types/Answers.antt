@@ -1,11 +1,11 @@
 use Rattle.std.proofs.Common.{ap, ◌∙◌}
 use Rattle.std.proofs.lemmas.Result.{IfOk-weaker}
-use Rattle.cedar_below.proofs.Names.{entity_type_ord-Equal}
-use Rattle.cedar_validation.specs.Words.{IsTypeCopied, PlainEntityType, attributes_of, entity_type_of, located_at, name_loc, type_loc, type_name}
-use Rattle.cedar_below.specs.contracts.entity_type.EntityTypeOrd.TheImpl as entity_type_ord
-use Rattle.cedar_below.proofs.ShownLemmas.{copy_ties}
-use Rattle.cedar_below.proofs.TurnLemmas.{turn_weaker}
+use Rattle.cedar_ast.proofs.Names.{entity_type_ord-Equal}
+use Rattle.cedar_ast.proofs.ShownLemmas.{copy_ties}
+use Rattle.cedar_ast.proofs.TurnLemmas.{turn_weaker}
+use Rattle.cedar_ast.specs.contracts.entity_type.EntityTypeOrd.TheImpl as entity_type_ord
 use Rattle.cedar_validation.proofs.copies.copied_types.Goals as goal
+use Rattle.cedar_validation.specs.Words.{IsTypeCopied, PlainEntityType, attributes_of, entity_type_of, located_at, name_loc, type_loc, type_name}
 
 pub copied_table-requires-clause-ties : goal.copied_table-requires-clause-ties
 copied_table-requires-clause-ties c key answer ran =

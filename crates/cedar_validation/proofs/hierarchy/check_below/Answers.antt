@@ -1,9 +1,9 @@
 use Rattle.std.proofs.Common.{◌≡◌, ◌⊎◌, sym, ◌∙◌, None, Some, inl, inr}
 use Rattle.std.proofs.lemmas.Result.{err_from_is_err_and}
-use Rattle.cedar_validation.specs.Words.{EntityType, IsBelowFault, IsKindSound, Parts, StandsAt, ValidatorEntityType, entity_type_of, fault_of, get_by, out_of_memory, type_name}
-use Rattle.cedar_below.specs.contracts.entity_type.EntityTypeOrd.TheImpl as entity_type_ord
+use Rattle.cedar_ast.specs.contracts.entity_type.EntityTypeOrd.TheImpl as entity_type_ord
 use Rattle.cedar_validation.proofs.Checking.{checking_all, checking_here, checking_more, checking_none}
 use Rattle.cedar_validation.proofs.hierarchy.check_below.Goals as goal
+use Rattle.cedar_validation.specs.Words.{EntityType, IsBelowFault, IsKindSound, Parts, StandsAt, ValidatorEntityType, entity_type_of, fault_of, get_by, out_of_memory, type_name}
 
 -- what stands at the key is of a kind that may stand below
 abbrev IsChecked : Parts → ValidatorEntityType → EntityType → Type 0

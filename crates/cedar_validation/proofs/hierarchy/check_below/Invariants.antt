@@ -1,6 +1,6 @@
-use Rattle.cedar_validation.specs.Words.{EntityType, IsKindSound, StandsAt, ValidatorEntityType, entity_type_of}
 use Rattle.cedar_validation.proofs.Checking.{Checking}
 use Rattle.cedar_validation.proofs.hierarchy.check_below.Given as goal
+use Rattle.cedar_validation.specs.Words.{EntityType, IsKindSound, StandsAt, ValidatorEntityType, entity_type_of}
 
 abbrev pub invariant-loop-lower : goal.invariant-loop-lower
 invariant-loop-lower l =

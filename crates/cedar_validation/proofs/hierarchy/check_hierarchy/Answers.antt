@@ -1,9 +1,9 @@
 use Rattle.std.proofs.Common.{ap, map}
 use Rattle.std.proofs.lemmas.Result.{err_from_is_err_and}
-use Rattle.cedar_validation.specs.Words.{IsRefusal, fault_of, plain_parts, type_name}
 use Rattle.cedar_validation.proofs.Checking.{checking_all, checking_here, checking_more, checking_none}
 use Rattle.cedar_validation.proofs.HierarchyLemmas.{IsCheckedBelow, Item, below_fault, pair_sound, undeclared_fault}
 use Rattle.cedar_validation.proofs.hierarchy.check_hierarchy.Goals as goal
+use Rattle.cedar_validation.specs.Words.{IsRefusal, fault_of, plain_parts, type_name}
 
 -- at first no entity type is checked, and all are left
 pub loop-upper-init : goal.loop-upper-init
@@ -19,7 +19,8 @@ loop-upper-preserved c =
     checking_more (IsCheckedBelow parts) parts.entity_types.entries _ _ entry c.in-Some.ensures.steps c.loop-upper.invariant
     (rw (ap (map type_name) c.iter.ensures.rest) at c.in_ok-check_declared.ensures.sound, c.in_ok-check_below.ensures.sound)
 
--- a descendant that isn't declared is one of an entity type of the schema, so the schema is at fault
+-- a descendant that isn't declared is one of an entity type of the schema, so the schema is at
+-- fault
 pub returns-in_err-check_declared-clause-fault : goal.returns-in_err-check_declared-clause-fault
 returns-in_err-check_declared-clause-fault c =
     let parts = c.args.parts.now in

@@ -1,10 +1,10 @@
 use Rattle.std.proofs.Common.{◌≡◌, List, ap, arith, map, sym, subst, ◌∙◌, Contains}
 use Rattle.std.specs.Map.{keys_of}
-use Rattle.cedar_validation.specs.Words.{HasAction, PlainName, PlainUid, plain_parts, type_name, uid_of}
 use Rattle.cedar_validation.proofs.Checking.{checking_all, checking_here, checking_none}
 use Rattle.cedar_validation.proofs.Keyed.{key_of_uid, key_with_uid}
 use Rattle.cedar_validation.proofs.TypeSets.{types_more}
 use Rattle.cedar_validation.proofs.known.action_types.Goals as goal
+use Rattle.cedar_validation.specs.Words.{HasAction, PlainName, PlainUid, plain_parts, type_name, uid_of}
 
 -- the set is empty at first, and no uid has been read
 pub loop-uid-init : goal.loop-uid-init
@@ -32,7 +32,8 @@ loop-uid-preserved c =
     c.in_ok-clone.field-0 uid c.in-Some.ensures.steps (c.in_ok-clone.ensures.name ∙ c.entity_type.ensures.name)
     (key_with_uid actions uid among) c.in_ok-insert.ensures.updates.0 c.loop-uid.invariant
 
--- a name in the set is the type of an action, and as no uid is left, the type of each action is in it
+-- a name in the set is the type of an action, and as no uid is left, the type of each action is in
+-- it
 pub returns : goal.returns
 returns c = λ name. (
   c.loop-uid.invariant.sound name,

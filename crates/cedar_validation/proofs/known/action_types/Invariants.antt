@@ -1,8 +1,8 @@
 use Rattle.std.proofs.Common.{map}
 use Rattle.std.specs.Map.{keys_of}
-use Rattle.cedar_validation.specs.Words.{HasAction, plain_parts, type_name}
 use Rattle.cedar_validation.proofs.TypeSets.{TypesSoFar}
 use Rattle.cedar_validation.proofs.known.action_types.Given as goal
+use Rattle.cedar_validation.specs.Words.{HasAction, plain_parts, type_name}
 
 abbrev pub invariant-loop-uid : goal.invariant-loop-uid
 invariant-loop-uid l =

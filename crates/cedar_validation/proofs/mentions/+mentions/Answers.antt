@@ -1,13 +1,14 @@
 use Rattle.std.proofs.Common.{◌≡◌, Bool, ap, inl, inr, string_bytes, sym, ◌∙◌}
 use Rattle.std.proofs.lemmas.Result.{err_from_is_err_and}
-use Rattle.cedar_validation.specs.Words.{ClosedAttributes, IsUnknownIn, Knows, KnowsExtension, Ty, attribute_of, extension_of, fault_of, fields_from, fields_of, plain_attributes, plain_name, record_of, ty_of}
 use Rattle.cedar_types.proofs.MemberParts.{attribute_of-parts, ty_of-entity, ty_of-extension}
-use Rattle.cedar_validation.proofs.Results.{on_err, on_ok}
 use Rattle.cedar_validation.proofs.MentionLemmas.{extension_fault}
+use Rattle.cedar_validation.proofs.Results.{on_err, on_ok}
 use Rattle.cedar_validation.proofs.Walk.{walked_all, walked_entity, walked_extension, walked_more}
 use Rattle.cedar_validation.proofs.mentions.+mentions.Goals as goal
+use Rattle.cedar_validation.specs.Words.{ClosedAttributes, IsUnknownIn, Knows, KnowsExtension, Ty, attribute_of, extension_of, fault_of, fields_from, fields_of, plain_attributes, plain_name, record_of, ty_of}
 
--- the type of one more attribute is known throughout, so what the attributes so far mention is known
+-- the type of one more attribute is known throughout, so what the attributes so far mention is
+-- known
 pub check_attributes-loop-name-preserved : goal.check_attributes-loop-name-preserved
 check_attributes-loop-name-preserved t c =
     let known = c.args.known.now in

@@ -1,6 +1,6 @@
-use Rattle.cedar_validation.specs.Words.{Knows, KnowsExtension, fields_from, fields_of, plain_attributes, ty_of}
 use Rattle.cedar_validation.proofs.Walk.{Walked, fields_size, ty_size}
 use Rattle.cedar_validation.proofs.mentions.+mentions.Given as goal
+use Rattle.cedar_validation.specs.Words.{Knows, KnowsExtension, fields_from, fields_of, plain_attributes, ty_of}
 
 abbrev pub decreases-check_type : goal.decreases-check_type
 decreases-check_type l = ty_size (ty_of l.ty.now)

@@ -1,8 +1,8 @@
 use Rattle.std.proofs.Common.{◌≡◌, ◌⊎◌, Contains, inl, inr}
 use Rattle.std.proofs.lemmas.Result.{err_from_is_err_and}
-use Rattle.cedar_validation.specs.Words.{IsKnownThroughout, IsUnknownIn, Ty, fault_of, out_of_memory}
 use Rattle.cedar_validation.proofs.Checking.{checking_all, checking_here, checking_more, checking_none}
 use Rattle.cedar_validation.proofs.mentions.check_each.Goals as goal
+use Rattle.cedar_validation.specs.Words.{IsKnownThroughout, IsUnknownIn, Ty, fault_of, out_of_memory}
 
 pub loop-name-init : goal.loop-name-init
 loop-name-init g c = checking_none _ c.args.typed.now.entries _ c.into_iter-name-iterator.ensures.into_iter_gives.0

@@ -1,6 +1,6 @@
-use Rattle.cedar_validation.specs.Words.{IsKnownThroughout, Ty}
 use Rattle.cedar_validation.proofs.Checking.{Checking}
 use Rattle.cedar_validation.proofs.mentions.check_each.Given as goal
+use Rattle.cedar_validation.specs.Words.{IsKnownThroughout, Ty}
 
 abbrev pub invariant-loop-name : goal.invariant-loop-name
 invariant-loop-name g l =

@@ -5,9 +5,9 @@ use Rattle.std.specs.Map.{lookup}
 use Rattle.std.specs.Ordering.{is_eq}
 use Rattle.cedar_graph.proofs.Lists.{empty_lacks}
 use Rattle.cedar_validation.proofs.LastLemmas.{named_more}
-use Rattle.cedar_validation.specs.LastNamed.{last_that}
 use Rattle.cedar_validation.proofs.named.by_name.Goals as goal
 use Rattle.cedar_validation.proofs.named.by_name.Invariants.{IsPlaced}
+use Rattle.cedar_validation.specs.LastNamed.{last_that}
 
 -- the map is empty at first, so it has nothing under any name
 pub loop-node-init : goal.loop-node-init
@@ -16,7 +16,8 @@ loop-node-init g c = record {
   each = λ it among. empty_lacks (IsPlaced g) c.new-named.result.entries c.new-named.ensures.empty it among;
 }
 
--- the node, under a copy of its own name, takes the place of an earlier one; other names keep theirs
+-- the node, under a copy of its own name, takes the place of an earlier one; other names keep
+-- theirs
 pub loop-node-preserved-in_ok-insert : goal.loop-node-preserved-in_ok-insert
 loop-node-preserved-in_ok-insert g c =
     let own = c.in_ok-name.ensures.name ∙ c.name.ensures.name in

@@ -1,10 +1,10 @@
 use Rattle.std.proofs.Common.{sym, subst, ◌∙◌, inr}
 use Rattle.std.proofs.lemmas.Bool.{false≢true}
 use Rattle.std.specs.Map.{keys_of}
-use Rattle.cedar_validation.specs.Words.{HasAction, IsActionType, PlainUid, plain_parts, uid_of}
 use Rattle.cedar_validation.proofs.Checking.{checking_all, checking_here, checking_more, checking_none}
 use Rattle.cedar_validation.proofs.Keyed.{key_of_uid, key_with_uid}
 use Rattle.cedar_validation.proofs.names.check_action_types.Goals as goal
+use Rattle.cedar_validation.specs.Words.{HasAction, IsActionType, PlainUid, plain_parts, uid_of}
 
 pub loop-uid-init : goal.loop-uid-init
 loop-uid-init c =

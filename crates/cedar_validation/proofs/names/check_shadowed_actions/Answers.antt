@@ -1,11 +1,11 @@
 use Rattle.std.proofs.Common.{ap, sym, subst, ◌∙◌, inr}
 use Rattle.std.proofs.lemmas.Bool.{false≢true}
 use Rattle.std.specs.Map.{keys_of}
-use Rattle.cedar_validation.specs.Words.{HasAction, IsUnqualified, PlainName, PlainUid, ShadowsAction, plain_parts, uid_of}
 use Rattle.cedar_validation.proofs.Checking.{checking_all, checking_here, checking_more, checking_none}
 use Rattle.cedar_validation.proofs.Keyed.{action_stands, key_of_uid, key_with_uid}
 use Rattle.cedar_validation.proofs.Shadowed.{ShadowsNoAction, no_action_shadows}
 use Rattle.cedar_validation.proofs.names.check_shadowed_actions.Goals as goal
+use Rattle.cedar_validation.specs.Words.{HasAction, IsUnqualified, PlainName, PlainUid, ShadowsAction, plain_parts, uid_of}
 
 -- at first no action is checked, and all are left
 pub loop-uid-init : goal.loop-uid-init

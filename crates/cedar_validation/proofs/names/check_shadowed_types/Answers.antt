@@ -1,11 +1,11 @@
 use Rattle.std.proofs.Common.{ap, sym, subst, ◌∙◌, inr}
 use Rattle.std.proofs.lemmas.Bool.{false≢true}
 use Rattle.std.specs.Map.{keys_of}
-use Rattle.cedar_validation.specs.Words.{HasEntityType, IsReserved, IsUnqualified, PlainName, ShadowsType, name_of, plain_parts, type_name}
 use Rattle.cedar_validation.proofs.Checking.{checking_all, checking_here, checking_more, checking_none}
 use Rattle.cedar_validation.proofs.Keyed.{key_named, named_key, type_stands}
 use Rattle.cedar_validation.proofs.Shadowed.{ShadowsNoType, no_type_shadows}
 use Rattle.cedar_validation.proofs.names.check_shadowed_types.Goals as goal
+use Rattle.cedar_validation.specs.Words.{HasEntityType, IsReserved, IsUnqualified, PlainName, ShadowsType, name_of, plain_parts, type_name}
 
 -- at first no entity type is checked, and all are left
 pub loop-name-init : goal.loop-name-init

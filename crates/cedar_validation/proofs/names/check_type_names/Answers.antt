@@ -1,10 +1,10 @@
 use Rattle.std.proofs.Common.{sym, subst, ◌∙◌, inr}
 use Rattle.std.proofs.lemmas.Bool.{false≢true}
 use Rattle.std.specs.Map.{keys_of}
-use Rattle.cedar_validation.specs.Words.{HasEntityType, IsActionType, PlainName, plain_parts, type_name}
 use Rattle.cedar_validation.proofs.Checking.{checking_all, checking_here, checking_more, checking_none}
 use Rattle.cedar_validation.proofs.Keyed.{key_named, named_key}
 use Rattle.cedar_validation.proofs.names.check_type_names.Goals as goal
+use Rattle.cedar_validation.specs.Words.{HasEntityType, IsActionType, PlainName, plain_parts, type_name}
 
 pub loop-name-init : goal.loop-name-init
 loop-name-init c =

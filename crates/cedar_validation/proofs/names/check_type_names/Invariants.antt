@@ -1,7 +1,7 @@
 use Rattle.std.specs.Map.{keys_of}
-use Rattle.cedar_validation.specs.Words.{IsActionType, type_name}
 use Rattle.cedar_validation.proofs.Checking.{Checking}
 use Rattle.cedar_validation.proofs.names.check_type_names.Given as goal
+use Rattle.cedar_validation.specs.Words.{IsActionType, type_name}
 
 abbrev pub invariant-loop-name : goal.invariant-loop-name
 invariant-loop-name l =

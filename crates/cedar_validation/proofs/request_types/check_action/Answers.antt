@@ -1,11 +1,12 @@
 use Rattle.std.proofs.Common.{sym, inl, inr}
 use Rattle.std.proofs.lemmas.Result.{err_from_is_err_and}
-use Rattle.cedar_validation.specs.Words.{IsMisplaced, action_of, fault_of, plain_parts}
 use Rattle.cedar_validation.proofs.RequestTypeLemmas.{for_cases, principal_of, resource_of}
 use Rattle.cedar_validation.proofs.Results.{on_ok}
 use Rattle.cedar_validation.proofs.request_types.check_action.Goals as goal
+use Rattle.cedar_validation.specs.Words.{IsMisplaced, action_of, fault_of, plain_parts}
 
--- the type that isn't declared is one of the action's principals, so it is one that the action names
+-- the type that isn't declared is one of the action's principals, so it is one that the action
+-- names
 pub returns-in_err-check_requests-clause-fault : goal.returns-in_err-check_requests-clause-fault
 returns-in_err-check_requests-clause-fault c =
     let it = action_of c.args.action.now in

@@ -1,6 +1,6 @@
-use Rattle.cedar_validation.specs.Words.{EntityType, HasEntityType, plain_parts, type_name}
 use Rattle.cedar_validation.proofs.Checking.{Checking}
 use Rattle.cedar_validation.proofs.request_types.check_requests.Given as goal
+use Rattle.cedar_validation.specs.Words.{EntityType, HasEntityType, plain_parts, type_name}
 
 abbrev pub invariant-loop-ty : goal.invariant-loop-ty
 invariant-loop-ty l =

@@ -1,9 +1,9 @@
 use Rattle.std.proofs.Common.{◌≡◌, ◌⊎◌, inl, inr}
 use Rattle.std.proofs.lemmas.Result.{err_from_is_err_and}
-use Rattle.cedar_validation.specs.Words.{IsSchemaFault, fault_of, out_of_memory, plain_parts}
 use Rattle.cedar_validation.proofs.Results.{on_err, on_ok}
 use Rattle.cedar_validation.proofs.Valid.{no_fault}
 use Rattle.cedar_validation.proofs.validating.check_parts.Goals as goal
+use Rattle.cedar_validation.specs.Words.{IsSchemaFault, fault_of, out_of_memory, plain_parts}
 
 pub returns-clause-valid : goal.returns-clause-valid
 returns-clause-valid c =

@@ -1,8 +1,8 @@
 use Rattle.std.proofs.Common.{map}
-use Rattle.cedar_validation.specs.Words.{fault_of, plain_parts, type_name}
 use Rattle.cedar_validation.proofs.KnownLemmas.{mention_fault, mentions_sound}
 use Rattle.cedar_validation.proofs.Results.{on_err, on_ok}
 use Rattle.cedar_validation.proofs.validating.check_types.Goals as goal
+use Rattle.cedar_validation.specs.Words.{fault_of, plain_parts, type_name}
 
 pub returns-clause-sound : goal.returns-clause-sound
 returns-clause-sound c =

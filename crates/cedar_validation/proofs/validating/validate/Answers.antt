@@ -1,12 +1,13 @@
 use Rattle.std.proofs.Common.{◌≡◌, ◌⊎◌, List, map, inl, inr}
 use Rattle.std.proofs.lemmas.Result.{err_from_is_err_and}
-use Rattle.cedar_validation.specs.Words.{ActionEntity, IsSchemaFault, fault_of, out_of_memory, plain_action_entry, plain_entry, plain_schema}
-use Rattle.cedar_schema_elements.specs.Words.{listed_entities}
 use Rattle.cedar_schema_elements.proofs.ListedEntities.{listed_of_keys}
+use Rattle.cedar_schema_elements.specs.Words.{listed_entities}
 use Rattle.cedar_validation.proofs.Validation.{closes_before, fault_before, valid_before}
 use Rattle.cedar_validation.proofs.validating.validate.Goals as goal
+use Rattle.cedar_validation.specs.Words.{ActionEntity, IsSchemaFault, fault_of, out_of_memory, plain_action_entry, plain_entry, plain_schema}
 
--- a fault met closing the entity types is one of the schema, whatever its actions, entities and extensions
+-- a fault met closing the entity types is one of the schema, whatever its actions, entities and
+-- extensions
 pub returns-in_err-closed_types-clause-fault : goal.returns-in_err-closed_types-clause-fault
 returns-in_err-closed_types-clause-fault c =
     let actions = c.args.actions.entries in
@@ -46,7 +47,8 @@ returns-in_err-check_parts-clause-fault c =
     let p = err_from_is_err_and c.from_residual-in_err-check_parts.result c.from_residual-in_err-check_parts.ensures.1 in
     rw (p.1, p.2) at_fault
 
--- the actions have no cycle and the closed schema is valid, so the schema before it was closed is valid too
+-- the actions have no cycle and the closed schema is valid, so the schema before it was closed is
+-- valid too
 pub returns-clause-valid : goal.returns-clause-valid
 returns-clause-valid c = λ entities.
     let types = c.args.entity_types.entries in
@@ -55,7 +57,8 @@ returns-clause-valid c = λ entities.
     (c.in_ok-closed_types.ensures.closed actions entities) (c.in_ok-closed_actions.ensures.closed types entities) c.args.extensions.now
     (c.in_ok-closed_actions.ensures.acyclic types entities) c.in_ok-check_parts.ensures.valid
 
--- entity types and actions are closed each on their own, and the entities are those of the closed actions
+-- entity types and actions are closed each on their own, and the entities are those of the closed
+-- actions
 pub returns-clause-closed : goal.returns-clause-closed
 returns-clause-closed c = λ entities.
     let types = c.args.entity_types.entries in

@@ -1,9 +1,9 @@
 use Rattle.std.proofs.Common.{◌≡◌, ◌⊎◌, List, inl, inr}
 use Rattle.std.proofs.lemmas.Result.{IfErr-weaker, IfOk-weaker, on_ok_weaker}
-use Rattle.cedar_validation.specs.Words.{ActionEntity, ClosesSchema, fault_of, plain_schema, whole_schema}
 use Rattle.cedar_validation.proofs.CopiedParts.{closes_as_copy, fault_of_copy, valid_as_copy}
 use Rattle.cedar_validation.proofs.CopyLemmas.{action_copies_located, type_copies_located}
 use Rattle.cedar_validation.proofs.validating.validate_copies.Goals as goal
+use Rattle.cedar_validation.specs.Words.{ActionEntity, ClosesSchema, fault_of, plain_schema, whole_schema}
 
 -- a fault of the copies is one of what was copied
 pub returns-clause-fault : goal.returns-clause-fault

@@ -1,8 +1,8 @@
 use Rattle.std.proofs.Common.{[], Option, subst, take}
-use Rattle.cedar_written_out.specs.Words.{AddsIndices, PlainName, RawName, Refers, held_names, indexed_names, name_of, raw_reference, type_expr, written_common, written_expr}
-use Rattle.cedar_written_out.proofs.ListedLemmas.{HoldsPairwise-push}
 use Rattle.cedar_written_out.proofs.IndexLemmas.{items_more}
+use Rattle.cedar_written_out.proofs.ListedLemmas.{HoldsPairwise-push}
 use Rattle.cedar_written_out.proofs.common.all_targets.Goals as goal
+use Rattle.cedar_written_out.specs.Words.{AddsIndices, PlainName, RawName, Refers, held_names, indexed_names, name_of, raw_reference, type_expr, written_common, written_expr}
 
 pub loop-item-preserved : goal.loop-item-preserved
 loop-item-preserved c =

@@ -1,7 +1,7 @@
 use Rattle.std.proofs.Common.{take}
 use Rattle.cedar_written_out.proofs.CycleLemmas.{AreTargets}
-use Rattle.cedar_written_out.specs.Words.{RawName, held_names, indexed_names, raw_reference, written_common}
 use Rattle.cedar_written_out.proofs.common.all_targets.Given as goal
+use Rattle.cedar_written_out.specs.Words.{RawName, held_names, indexed_names, raw_reference, written_common}
 
 abbrev pub invariant-loop-item : goal.invariant-loop-item
 invariant-loop-item l =

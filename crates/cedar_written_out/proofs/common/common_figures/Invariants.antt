@@ -1,7 +1,7 @@
 use Rattle.std.proofs.Common.{◌≡◌, length, take}
-use Rattle.cedar_written_out.specs.Words.{Defined, DefinesJust, RawName, held_names, raw_reference, written_common}
 use Rattle.cedar_written_out.proofs.FigureLemmas.{FiguresSoFar}
 use Rattle.cedar_written_out.proofs.common.common_figures.Given as goal
+use Rattle.cedar_written_out.specs.Words.{Defined, DefinesJust, RawName, held_names, raw_reference, written_common}
 
 abbrev pub invariant-loop-item_index : goal.invariant-loop-item_index
 invariant-loop-item_index l = record {

@@ -1,13 +1,13 @@
 use Rattle.std.proofs.Common.{◌≡◌, [], ◌∷◌, ◌++◌, map, ap, refl, subst, ◌∙◌}
 use Rattle.std.proofs.lemmas.List.{take_all}
-use Rattle.cedar_fragments.proofs.FragmentLemmas.{exit_holds, flat_map-same}
 use Rattle.cedar_fragments.proofs.DeclaredNames.{written_names_are_declared}
+use Rattle.cedar_fragments.proofs.FragmentLemmas.{exit_holds, flat_map-same}
 use Rattle.cedar_fragments.specs.Words.{declared_names, listed_names, written_bag, written_fragment}
 use Rattle.cedar_resolution.proofs.NamesDefined.{just_declared}
 use Rattle.cedar_written_out.proofs.CopiedFragments.{copied_fragment}
 use Rattle.cedar_written_out.proofs.GatheredLemmas.{among_all, fault_of_copy, maps_more}
-use Rattle.cedar_written_out.specs.Words.{Bag, IsGathered, RawName, raw_bag, raw_fragment, raw_reference}
 use Rattle.cedar_written_out.proofs.gathering.gathered.Goals as goal
+use Rattle.cedar_written_out.specs.Words.{Bag, IsGathered, RawName, raw_bag, raw_fragment, raw_reference}
 
 -- at first no fragment is taken over
 pub loop-fragment-init : goal.loop-fragment-init

@@ -1,7 +1,7 @@
 use Rattle.std.proofs.Common.{take}
 use Rattle.cedar_written_out.proofs.IndexLemmas.{NumberedSoFar}
-use Rattle.cedar_written_out.specs.Words.{RawName, indexed_names, item_names, raw_reference, written_common}
 use Rattle.cedar_written_out.proofs.indices.name_indices.Given as goal
+use Rattle.cedar_written_out.specs.Words.{RawName, indexed_names, item_names, raw_reference, written_common}
 
 abbrev pub invariant-loop-item_index : goal.invariant-loop-item_index
 invariant-loop-item_index l =

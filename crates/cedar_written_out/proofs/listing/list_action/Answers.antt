@@ -1,7 +1,7 @@
-use Rattle.cedar_written_out.specs.Words.{namespace_name, written_namespace}
 use Rattle.cedar_written_out.proofs.ListedLemmas.{measured_all}
 use Rattle.cedar_written_out.proofs.ListedParts.{lists_context}
 use Rattle.cedar_written_out.proofs.listing.list_action.Goals as goal
+use Rattle.cedar_written_out.specs.Words.{namespace_name, written_namespace}
 
 -- the context is listed
 pub returns : goal.returns

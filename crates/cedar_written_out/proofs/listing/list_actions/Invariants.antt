@@ -1,6 +1,6 @@
 use Rattle.std.proofs.Common.{take}
-use Rattle.cedar_written_out.specs.Words.{Defined, KnowsAll, ListsAlso, RawName, exprs_of_actions, raw_reference, written_actions}
 use Rattle.cedar_written_out.proofs.listing.list_actions.Given as goal
+use Rattle.cedar_written_out.specs.Words.{Defined, KnowsAll, ListsAlso, RawName, exprs_of_actions, raw_reference, written_actions}
 
 abbrev pub invariant-loop-item : goal.invariant-loop-item
 invariant-loop-item l =

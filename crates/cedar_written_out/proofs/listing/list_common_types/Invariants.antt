@@ -1,6 +1,6 @@
 use Rattle.std.proofs.Common.{◌≡◌, ◌++◌, List, map, take}
-use Rattle.cedar_written_out.specs.Words.{Defined, Expr, KnowsAll, ListsAlso, PlainName, RawName, common_expr, raw_reference, written_common}
 use Rattle.cedar_written_out.proofs.listing.list_common_types.Given as goal
+use Rattle.cedar_written_out.specs.Words.{Defined, Expr, KnowsAll, ListsAlso, PlainName, RawName, common_expr, raw_reference, written_common}
 
 abbrev pub invariant-loop-item_index : goal.invariant-loop-item_index
 invariant-loop-item_index l =

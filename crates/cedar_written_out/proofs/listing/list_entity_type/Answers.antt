@@ -1,7 +1,7 @@
-use Rattle.cedar_written_out.specs.Words.{namespace_name, written_namespace}
 use Rattle.cedar_written_out.proofs.ListedLemmas.{measured_all}
 use Rattle.cedar_written_out.proofs.ListedParts.{lists_shape, lists_tags}
 use Rattle.cedar_written_out.proofs.listing.list_entity_type.Goals as goal
+use Rattle.cedar_written_out.specs.Words.{namespace_name, written_namespace}
 
 -- the shape is listed, and then the type of the tags
 pub returns-in_ok-push-2 : goal.returns-in_ok-push-2

@@ -1,6 +1,6 @@
 use Rattle.std.proofs.Common.{take}
-use Rattle.cedar_written_out.specs.Words.{Defined, KnowsAll, ListsAlso, RawName, exprs_of_entities, raw_reference, written_entities}
 use Rattle.cedar_written_out.proofs.listing.list_entity_types.Given as goal
+use Rattle.cedar_written_out.specs.Words.{Defined, KnowsAll, ListsAlso, RawName, exprs_of_entities, raw_reference, written_entities}
 
 abbrev pub invariant-loop-item : goal.invariant-loop-item
 invariant-loop-item l =

@@ -1,11 +1,11 @@
 use Rattle.std.proofs.Common.{[], sym, ◌∙◌, ap, refl}
-use Rattle.cedar_names.proofs.VariantLemmas.{type-CommonTypeRef, type-Plain, variant-Boolean, variant-Entity, variant-EntityOrCommon, variant-Extension, variant-Long, variant-Record, variant-Set, variant-String}
-use Rattle.cedar_below.specs.Words.{unreserved_id_text}
+use Rattle.cedar_ast.specs.Words.{unreserved_id_text}
+use Rattle.cedar_schema_ast.proofs.VariantLemmas.{type-CommonTypeRef, type-Plain, variant-Boolean, variant-Entity, variant-EntityOrCommon, variant-Extension, variant-Long, variant-Record, variant-Set, variant-String}
 use Rattle.cedar_type_rules.specs.Ty.{extension_of, long, text, truth}
 use Rattle.cedar_type_rules.specs.declared.bool_type.BoolType.TheVariants.{AnyBool}
-use Rattle.cedar_written_out.specs.Words.{RawName, as_extension, as_long, as_text, as_truth, namespace_name, raw_reference, record_type_expr, set_expr, type_expr, variant_expr}
 use Rattle.cedar_written_out.proofs.MeasureLemmas.{IsMeasured-single, Knows-element, MeasuredSoFar-more, MeasuredSoFar-none, measured_as, record_measured, record_not_measured, set_measured, set_not_measured}
 use Rattle.cedar_written_out.proofs.measuring.+measure.Goals as goal
+use Rattle.cedar_written_out.specs.Words.{RawName, as_extension, as_long, as_text, as_truth, namespace_name, raw_reference, record_type_expr, set_expr, type_expr, variant_expr}
 
 -- a type has the figure of what it is written as
 pub measure-returns-in-Plain : goal.measure-returns-in-Plain

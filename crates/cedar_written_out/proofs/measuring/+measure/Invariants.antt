@@ -1,6 +1,6 @@
-use Rattle.cedar_written_out.specs.Words.{RawName, namespace_name, raw_reference}
 use Rattle.cedar_written_out.proofs.MeasureLemmas.{MeasuredSoFar}
 use Rattle.cedar_written_out.proofs.measuring.+measure.Given as goal
+use Rattle.cedar_written_out.specs.Words.{RawName, namespace_name, raw_reference}
 
 abbrev pub invariant-measure_record-loop-attribute : goal.invariant-measure_record-loop-attribute
 invariant-measure_record-loop-attribute l =

@@ -1,9 +1,9 @@
 use Rattle.std.proofs.Common.{◌≡◌, ◌⊎◌, ◌<◌, ◌+◌, ℕ, zero, suc, List, [], ◌∷◌, ◌++◌, ap, sym, subst, refl, inl, inr, arith, Contains}
 use Rattle.std.proofs.lemmas.List.Elements.{Contains-append_left, Contains-append_right, Contains-append_cases}
 use Rattle.cedar_written_out.proofs.OrderSteps.{enter_or_leave, single}
+use Rattle.cedar_written_out.proofs.ordering.enter_below.Goals as goal
 use Rattle.cedar_written_out.specs.declared.ordering.Step.{Step}
 use Rattle.cedar_written_out.specs.declared.ordering.Step.TheVariants.{Enter, Leave}
-use Rattle.cedar_written_out.proofs.ordering.enter_below.Goals as goal
 
 -- what is below the next number is below this one or is it
 below_or_this : (k n : ℕ) → k < n + 1 → (k < n) ⊎ (n ≡ k)

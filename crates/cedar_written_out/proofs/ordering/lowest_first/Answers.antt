@@ -1,12 +1,12 @@
 use Rattle.std.proofs.Common.{◌≡◌, ◌++◌, ◌<◌, ℕ, zero, suc, replicate, Contains, ◌+◌, length, List, [], ◌∷◌, None, map, ap, sym, subst, ◌∙◌, refl, inl, inr, arith}
 use Rattle.std.proofs.lemmas.List.{append_assoc, length-append, length-map}
-use Rattle.cedar_written_out.specs.Order.{items_at}
-use Rattle.cedar_written_out.specs.declared.ordering.Step.TheVariants.{Enter, Leave}
-use Rattle.cedar_written_out.specs.declared.ordering.Mark.{Mark}
 use Rattle.cedar_written_out.proofs.OrderProgress.{IsPast, Progress, mark_at, mark_read, at_first, skipped, left, opened, items_at-read, whole, opening_pays, leaving_is_free}
 use Rattle.cedar_written_out.proofs.OrderSteps.{left_within}
-use Rattle.cedar_written_out.specs.declared.ordering.Mark.TheVariants.{Fresh}
 use Rattle.cedar_written_out.proofs.ordering.lowest_first.Goals as goal
+use Rattle.cedar_written_out.specs.Order.{items_at}
+use Rattle.cedar_written_out.specs.declared.ordering.Mark.{Mark}
+use Rattle.cedar_written_out.specs.declared.ordering.Mark.TheVariants.{Fresh}
+use Rattle.cedar_written_out.specs.declared.ordering.Step.TheVariants.{Enter, Leave}
 
 -- the mark of a number of which all are fresh
 fresh_at : (count n : ℕ) → n < count → mark_at (replicate count Fresh) n ≡ Fresh

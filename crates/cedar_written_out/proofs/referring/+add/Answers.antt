@@ -1,8 +1,8 @@
 use Rattle.std.proofs.Common.{sym, ◌∙◌, ap}
-use Rattle.cedar_names.proofs.VariantLemmas.{variant-Set}
-use Rattle.cedar_written_out.specs.Words.{RawName, held_names, indexed_names, namespace_name, raw_reference, set_expr, type_expr, variant_expr}
+use Rattle.cedar_schema_ast.proofs.VariantLemmas.{variant-Set}
 use Rattle.cedar_written_out.proofs.ReferringLemmas.{AddedSoFar-more, record_adds, set_adds}
 use Rattle.cedar_written_out.proofs.referring.+add.Goals as goal
+use Rattle.cedar_written_out.specs.Words.{RawName, held_names, indexed_names, namespace_name, raw_reference, set_expr, type_expr, variant_expr}
 
 pub add_variant_indices-returns-in-Set : goal.add_variant_indices-returns-in-Set
 add_variant_indices-returns-in-Set t c =

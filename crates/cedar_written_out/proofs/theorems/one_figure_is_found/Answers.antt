@@ -1,7 +1,7 @@
 use Rattle.std.proofs.Common.{◌≡◌, sym, ◌∙◌, ap, min}
-use Rattle.cedar_declarations.proofs.ResolutionLemmas.{elaborated_once}
-use Rattle.cedar_written_out.specs.Words.{most, type_depth, type_size}
+use Rattle.cedar_schema_semantics.proofs.ResolutionLemmas.{elaborated_once}
 use Rattle.cedar_written_out.proofs.theorems.one_figure_is_found.Goals as goal
+use Rattle.cedar_written_out.specs.Words.{most, type_depth, type_size}
 
 pub returns-clause-figures : goal.returns-clause-figures
 returns-clause-figures c defined one expr figure other is is_other =

@@ -1,9 +1,9 @@
 use Rattle.std.proofs.Common.{◌≡◌, ◌++◌, List, [], map, take, drop, length, sym, subst, refl, rules, inl, inr}
 use Rattle.cedar_fragments.proofs.FragmentLemmas.{exit_holds}
-use Rattle.cedar_written_out.specs.Words.{AreFigures, AreListed, Expr, Owner, RawName, common_expr, declared_exprs, definitions, exprs_of_actions, exprs_of_entities, raw_bag, raw_reference, written_actions, written_common, written_entities}
-use Rattle.cedar_written_out.specs.declared.listing.Measured.{Measured}
 use Rattle.cedar_written_out.proofs.WholeLemmas.{declared_first, defines_just, fault_of_twice, knows_all, others_after}
 use Rattle.cedar_written_out.proofs.written.written_out.Goals as goal
+use Rattle.cedar_written_out.specs.Words.{AreFigures, AreListed, Expr, Owner, RawName, common_expr, declared_exprs, definitions, exprs_of_actions, exprs_of_entities, raw_bag, raw_reference, written_actions, written_common, written_entities}
+use Rattle.cedar_written_out.specs.declared.listing.Measured.{Measured}
 
 -- a common type that is declared twice is a fault of the bag
 pub returns-in_err-indices-clause-fault : goal.returns-in_err-indices-clause-fault

@@ -1,6 +1,6 @@
 use Rattle.std.proofs.Common.{◌≡◌, [], ◌∷◌, true, Some, ap, codes, refl, inl, inr, arith}
-use Rattle.declaration_examples.specs.Words.{ClosedAttributes, PlainName, PlainUid, action_named, action_within, action_word, alias_name, end, external_action, field, record_of, sample_namespace, type_entry, union_of, with_attribute, within_sample}
 use Rattle.declaration_examples.proofs.converted_back.names_that_name_others.Goals as goal
+use Rattle.declaration_examples.specs.Words.{ClosedAttributes, PlainName, PlainUid, action_named, action_within, action_word, alias_name, end, external_action, field, record_of, sample_namespace, type_entry, union_of, with_attribute, within_sample}
 
 -- the bare name of a type names the one of the namespace, which is another
 pub returns-clause-type_name : goal.returns-clause-type_name

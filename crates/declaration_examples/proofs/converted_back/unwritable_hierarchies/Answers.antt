@@ -1,7 +1,7 @@
 use Rattle.std.proofs.Common.{◌≡◌, [], ◌∷◌, ap, codes, refl, get_or, length, arith}
-use Rattle.declaration_examples.specs.Words.{PlainName, PlainUid, action_named, alias_name, enumerated_kind, external_action, plain_kind}
-use Rattle.cedar_declarations.proofs.OccurrenceLemmas.{Contains-single}
+use Rattle.cedar_schema_semantics.proofs.OccurrenceLemmas.{Contains-single}
 use Rattle.declaration_examples.proofs.converted_back.unwritable_hierarchies.Goals as goal
+use Rattle.declaration_examples.specs.Words.{PlainName, PlainUid, action_named, alias_name, enumerated_kind, external_action, plain_kind}
 
 -- `User` isn't the type of actions: the names differ in length
 pub returns-clause-action_type : goal.returns-clause-action_type

@@ -1,7 +1,7 @@
 use Rattle.std.proofs.Common.{[], true, None, codes, refl, inl, arith}
 use Rattle.std.proofs.lemmas.Bool.{false≢true}
-use Rattle.declaration_examples.specs.Words.{ClosedAttributes, OpenAttributes, alias_name, end, field, record_of, standard_kind, type_entry, with_attribute}
 use Rattle.declaration_examples.proofs.converted_back.unwritable_types.Goals as goal
+use Rattle.declaration_examples.specs.Words.{ClosedAttributes, OpenAttributes, alias_name, end, field, record_of, standard_kind, type_entry, with_attribute}
 
 pub returns-clause-attribute : goal.returns-clause-attribute
 returns-clause-attribute c ty none writable =

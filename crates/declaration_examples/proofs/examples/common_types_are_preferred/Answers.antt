@@ -1,6 +1,6 @@
 use Rattle.std.proofs.Common.{refl, inl, inr, arith, codes}
-use Rattle.declaration_examples.specs.Words.{CommonOrEntity, Entity, as_common, as_entity, as_long, long_expr, refer_within, within_sample}
 use Rattle.declaration_examples.proofs.examples.common_types_are_preferred.Goals as goal
+use Rattle.declaration_examples.specs.Words.{CommonOrEntity, Entity, as_common, as_entity, as_long, long_expr, refer_within, within_sample}
 
 pub returns-clause-either : goal.returns-clause-either
 returns-clause-either c extensions =

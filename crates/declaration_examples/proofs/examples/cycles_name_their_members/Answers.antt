@@ -1,8 +1,8 @@
 use Rattle.std.proofs.Common.{◌≡◌, zero, suc, ap, refl, inl, arith, Contains, codes}
-use Rattle.declaration_examples.specs.Words.{Chain, CommonOrEntity, Expr, Extensions, PlainName, RefersToCommon, alias_name, built_in_name, cycle_bag, cycle_first, cycle_second, declared_common, definitions, more, one, refer_here}
-use Rattle.cedar_declarations.proofs.BuiltInLemmas.{refers_declared, unlike_texts}
-use Rattle.cedar_below.proofs.Chains.{first_step}
+use Rattle.cedar_ast.proofs.Chains.{first_step}
+use Rattle.cedar_schema_semantics.proofs.BuiltInLemmas.{refers_declared, unlike_texts}
 use Rattle.declaration_examples.proofs.examples.cycles_name_their_members.Goals as goal
+use Rattle.declaration_examples.specs.Words.{Chain, CommonOrEntity, Expr, Extensions, PlainName, RefersToCommon, alias_name, built_in_name, cycle_bag, cycle_first, cycle_second, declared_common, definitions, more, one, refer_here}
 
 -- the one refers to the other
 first_to_second : (extensions : Extensions) → RefersToCommon (definitions cycle_bag extensions)

@@ -1,7 +1,7 @@
 use Rattle.std.proofs.Common.{None, false, zero, suc, [], ◌∷◌, ap, refl, inl, inr, arith, codes, Contains}
-use Rattle.declaration_examples.specs.Words.{Entity, Twice, alias_name, external, no_member, one, record_expr, refer_here, standard}
-use Rattle.cedar_declarations.proofs.BuiltInLemmas.{unlike_texts}
+use Rattle.cedar_schema_semantics.proofs.BuiltInLemmas.{unlike_texts}
 use Rattle.declaration_examples.proofs.examples.definitions_fulfil_external_declarations.Goals as goal
+use Rattle.declaration_examples.specs.Words.{Entity, Twice, alias_name, external, no_member, one, record_expr, refer_here, standard}
 
 -- no other definition is of the type
 no_other : ¬ Contains (alias_name (codes "Group") ∷ alias_name (codes "Team") ∷ []) (alias_name (codes "User"))

@@ -1,6 +1,6 @@
 use Rattle.std.proofs.Common.{[], ◌∷◌, refl, inl, inr, arith, codes}
-use Rattle.declaration_examples.specs.Words.{Entity, refer_here}
 use Rattle.declaration_examples.proofs.examples.enumerated_types_have_no_parents.Goals as goal
+use Rattle.declaration_examples.specs.Words.{Entity, refer_here}
 
 pub returns : goal.returns
 returns c extensions = (

@@ -1,7 +1,7 @@
 use Rattle.std.proofs.Common.{None, false, zero, suc, [], ◌∷◌, ap, refl, inl, inr, arith, codes, Contains}
-use Rattle.declaration_examples.specs.Words.{Entity, Extensions, HasParent, IsExternalType, alias_name, external, more, no_member, one, record_expr, refer_here, standard, tint_bag}
-use Rattle.cedar_declarations.proofs.BuiltInLemmas.{unlike_texts}
+use Rattle.cedar_schema_semantics.proofs.BuiltInLemmas.{unlike_texts}
 use Rattle.declaration_examples.proofs.examples.external_types_below_enumerated_ones.Goals as goal
+use Rattle.declaration_examples.specs.Words.{Entity, Extensions, HasParent, IsExternalType, alias_name, external, more, no_member, one, record_expr, refer_here, standard, tint_bag}
 
 -- the external type is external: neither definition is of it
 tint_is_external : IsExternalType tint_bag (alias_name (codes "Tint"))

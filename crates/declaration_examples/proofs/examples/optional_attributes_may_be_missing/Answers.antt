@@ -1,7 +1,7 @@
 use Rattle.std.proofs.Common.{zero, suc, [], ◌∷◌, refl, arith, Contains, codes}
-use Rattle.declaration_examples.specs.Words.{admits_long, admits_missing, admits_no_member, admits_record, admits_there, number_value}
-use Rattle.cedar_declarations.proofs.BuiltInLemmas.{unlike_texts}
+use Rattle.cedar_schema_semantics.proofs.BuiltInLemmas.{unlike_texts}
 use Rattle.declaration_examples.proofs.examples.optional_attributes_may_be_missing.Goals as goal
+use Rattle.declaration_examples.specs.Words.{admits_long, admits_missing, admits_no_member, admits_record, admits_there, number_value}
 
 -- another name isn't listed
 not_listed : ¬ Contains (codes "a" ∷ []) (codes "b")

@@ -1,6 +1,6 @@
 use Rattle.std.proofs.Common.{◌≡◌, zero, suc, List, [], ◌∷◌, ap, refl, arith, codes, Contains}
-use Rattle.declaration_examples.specs.Words.{Body, Declaration, Entity, EntityBody, IsParent, PlainName, Reference, SaysAll, action, alias_name, apart_bag, entity_parents, entity_type, external, external_here, refer_here, together_bag}
 use Rattle.declaration_examples.proofs.examples.parents_may_be_said_apart_or_together.Goals as goal
+use Rattle.declaration_examples.specs.Words.{Body, Declaration, Entity, EntityBody, IsParent, PlainName, Reference, SaysAll, action, alias_name, apart_bag, entity_parents, entity_type, external, external_here, refer_here, together_bag}
 
 -- the two references
 abbrev to_a : Reference

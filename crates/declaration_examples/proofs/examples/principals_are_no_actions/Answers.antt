@@ -1,6 +1,6 @@
 use Rattle.std.proofs.Common.{◌≡◌, zero, suc, [], ◌∷◌, refl, inl, inr, arith, Contains, codes}
-use Rattle.declaration_examples.specs.Words.{Entity, Extensions, IsActionType, IsAtEntityTypePosition, PlainName, Reference, ResolvesTo, action_here, action_word, alias_name, defined_names, principal_bag, refer_here}
 use Rattle.declaration_examples.proofs.examples.principals_are_no_actions.Goals as goal
+use Rattle.declaration_examples.specs.Words.{Entity, Extensions, IsActionType, IsAtEntityTypePosition, PlainName, Reference, ResolvesTo, action_here, action_word, alias_name, defined_names, principal_bag, refer_here}
 
 -- the name is that of an action's type, and stands for a principal
 abbrev IsNamed : Extensions → PlainName → Type 0

@@ -1,6 +1,6 @@
 use Rattle.std.proofs.Common.{None, false, [], ◌∷◌, refl, inl, inr, arith, codes}
-use Rattle.declaration_examples.specs.Words.{Entity, Extensions, HasParent, alias_name, more, no_member, one, record_expr, refer_here, ring_bag, standard}
 use Rattle.declaration_examples.proofs.examples.rings_are_their_own_descendants.Goals as goal
+use Rattle.declaration_examples.specs.Words.{Entity, Extensions, HasParent, alias_name, more, no_member, one, record_expr, refer_here, ring_bag, standard}
 
 -- the one is below the other
 first_below : (extensions : Extensions) → HasParent ring_bag extensions (alias_name (codes "A")) (alias_name (codes "B"))

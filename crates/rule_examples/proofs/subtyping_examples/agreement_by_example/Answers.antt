@@ -1,5 +1,5 @@
 use Rattle.std.proofs.Common.{◌≡◌, inl, true, false, [], refl, codes}
-use Rattle.cedar_below.proofs.Inclusion.{Included-in_none}
+use Rattle.cedar_ast.proofs.Inclusion.{Included-in_none}
 use Rattle.cedar_type_rules.specs.Ty.{long}
 use Rattle.rule_examples.proofs.subtyping_examples.agreement_by_example.Goals as goal
 

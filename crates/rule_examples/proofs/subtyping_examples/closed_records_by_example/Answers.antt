@@ -1,8 +1,8 @@
 use Rattle.std.proofs.Common.{inl, true, [], refl, codes}
-use Rattle.rule_examples.specs.Words.{Permissive, Strict, long, truth}
-use Rattle.cedar_below.proofs.Inclusion.{Included-in_none}
+use Rattle.cedar_ast.proofs.Inclusion.{Included-in_none}
 use Rattle.cedar_type_rules.specs.declared.bool_type.BoolType.TheVariants as bool_type
 use Rattle.rule_examples.proofs.subtyping_examples.closed_records_by_example.Goals as goal
+use Rattle.rule_examples.specs.Words.{Permissive, Strict, long, truth}
 
 pub returns-clause-known : goal.returns-clause-known
 returns-clause-known c Strict =

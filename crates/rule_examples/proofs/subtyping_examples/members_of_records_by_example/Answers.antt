@@ -1,7 +1,7 @@
 use Rattle.std.proofs.Common.{inl, inr, [], ◌∷◌, refl, codes}
 use Rattle.std.proofs.lemmas.Bool.{false≢true}
 use Rattle.std.proofs.lemmas.Slice.Eq.{bytes_eq-Decides}
-use Rattle.cedar_below.proofs.Lists.{Contains-cons}
+use Rattle.cedar_ast.proofs.Lists.{Contains-cons}
 use Rattle.cedar_type_rules.proofs.InclusionLemmas.{Contains-only}
 use Rattle.rule_examples.proofs.subtyping_examples.members_of_records_by_example.Goals as goal
 

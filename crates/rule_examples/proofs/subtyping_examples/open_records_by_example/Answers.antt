@@ -1,5 +1,5 @@
 use Rattle.std.proofs.Common.{[], codes}
-use Rattle.cedar_below.proofs.Inclusion.{Included-in_none}
+use Rattle.cedar_ast.proofs.Inclusion.{Included-in_none}
 use Rattle.rule_examples.proofs.subtyping_examples.open_records_by_example.Goals as goal
 
 pub returns-clause-same_names : goal.returns-clause-same_names

@@ -1,5 +1,5 @@
 use Rattle.std.proofs.Common.{inl, inr}
-use Rattle.cedar_below.specs.Tree.{no_tree}
+use Rattle.cedar_ast.specs.Tree.{no_tree}
 use Rattle.rule_examples.proofs.CallLemmas.{Gives-text}
 use Rattle.rule_examples.proofs.subtyping_examples.unknown_calls_by_example.Goals as goal
 

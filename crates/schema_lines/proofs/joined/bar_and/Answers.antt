@@ -7,8 +7,8 @@ use Rattle.cedar_types.specs.Meaning.{ty_of, type_step, attribute_step, attribut
 use Rattle.cedar_types.specs.declared.types.Type.{«Type», roll-Type, fold-roll-Type}
 use Rattle.cedar_types.specs.declared.types.Type.TheOpen as layer
 use Rattle.cedar_types.specs.declared.types.Type.TheVariants as type
-use Rattle.schema_lines.specs.Samples.{IsStatedAlone}
 use Rattle.schema_lines.proofs.joined.bar_and.Goals as goal
+use Rattle.schema_lines.specs.Samples.{IsStatedAlone}
 
 -- the type of whole numbers stands for the plain one
 ty_of-long : ty_of type.Long ≡ long

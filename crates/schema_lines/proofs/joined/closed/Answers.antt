@@ -8,8 +8,8 @@ use Rattle.cedar_type_rules.specs.declared.open_tag.OpenTag.TheVariants.{ClosedA
 use Rattle.cedar_types.specs.Words.{plain_required, ty_of}
 use Rattle.cedar_types.specs.declared.types.Type.{«Type»}
 use Rattle.schema_lines.proofs.StatedRecords.{stated_record}
-use Rattle.schema_lines.specs.Samples.{IsStatedAlone}
 use Rattle.schema_lines.proofs.joined.closed.Goals as goal
+use Rattle.schema_lines.specs.Samples.{IsStatedAlone}
 
 pub returns : goal.returns
 returns c =

@@ -1,7 +1,7 @@
 use Rattle.std.proofs.Common.{◌≡◌, ◌⊎◌, ◌<◌, ℕ, Result, Ok, Err, IfOk, OnErr, IsSome, arith, inl, inr, refl, subst, sym}
-use Rattle.cedar_below.specs.declared.memory.Memory.{Memory}
-use Rattle.schema_lines.specs.declared.outcome.Outcome.{Outcome}
+use Rattle.cedar_ast.specs.declared.memory.Memory.{Memory}
 use Rattle.schema_lines.proofs.outcome.run.Goals as goal
+use Rattle.schema_lines.specs.declared.outcome.Outcome.{Outcome}
 
 -- a status that isn't that of words which give no command
 not_two : (outcome : Result Outcome Memory) (n : ℕ) → IfOk outcome (λ given. given.status < 2)

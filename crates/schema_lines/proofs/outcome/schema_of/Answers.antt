@@ -1,5 +1,5 @@
 use Rattle.std.proofs.Common.{subst, sym}
-use Rattle.cedar_below.specs.TypeNames.{TypeNamesFit}
+use Rattle.cedar_ast.specs.TypeNames.{TypeNamesFit}
 use Rattle.schema_lines.proofs.SampleLemmas.{sample_type_fits}
 use Rattle.schema_lines.proofs.outcome.schema_of.Goals as goal
 

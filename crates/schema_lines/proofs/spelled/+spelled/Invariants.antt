@@ -1,6 +1,6 @@
 use Rattle.std.proofs.Common.{◌≤◌}
-use Rattle.cedar_counterexample.specs.Words.{fields_from, fields_of, plain_attributes, ty_of}
 use Rattle.cedar_counterexample.proofs.Sizes.{fields_size, ty_size}
+use Rattle.cedar_counterexample.specs.Words.{fields_from, fields_of, plain_attributes, ty_of}
 use Rattle.schema_lines.proofs.spelled.+spelled.Given as goal
 
 abbrev pub decreases-push_type : goal.decreases-push_type

@@ -1,6 +1,6 @@
 use Rattle.std.proofs.Common.{◌≡◌, rules}
-use Rattle.cedar_builder.specs.Words.{namespace_name, written_namespace}
 use Rattle.cedar_builder.proofs.entity_type_nodes.ValidatorEntityTypeDeclaredNodeEntityTypeTypeScopeWrittenEntityTypeFragment.declared.Goals as goal
+use Rattle.cedar_builder.specs.Words.{namespace_name, written_namespace}
 
 pub returns-clause-fault : goal.returns-clause-fault
 returns-clause-fault g c =

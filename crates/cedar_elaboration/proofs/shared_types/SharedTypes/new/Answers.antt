@@ -1,6 +1,6 @@
 use Rattle.std.proofs.Common.{ap, ◌∙◌}
-use Rattle.cedar_elaboration.specs.Words.{field_names, is_long_type, is_text_type, is_truth_type, ty_of}
 use Rattle.cedar_elaboration.proofs.shared_types.SharedTypes.new.Goals as goal
+use Rattle.cedar_elaboration.specs.Words.{field_names, is_long_type, is_text_type, is_truth_type, ty_of}
 
 pub invariant_of-result : goal.invariant_of-result
 invariant_of-result c = record {

@@ -1,7 +1,7 @@
-use Rattle.cedar_names.proofs.VariantLemmas.{variant-Boolean, variant-Long, variant-String}
-use Rattle.cedar_elaboration.specs.Words.{is_long, is_text, is_truth, ty_of}
 use Rattle.cedar_elaboration.proofs.PrimitiveLemmas.{told}
 use Rattle.cedar_elaboration.proofs.shared_types.SharedTypes.primitive.Goals as goal
+use Rattle.cedar_elaboration.specs.Words.{is_long, is_text, is_truth, ty_of}
+use Rattle.cedar_schema_ast.proofs.VariantLemmas.{variant-Boolean, variant-Long, variant-String}
 
 pub returns-in-String : goal.returns-in-String
 returns-in-String g c refer =

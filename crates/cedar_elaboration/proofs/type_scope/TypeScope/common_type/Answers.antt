@@ -1,8 +1,8 @@
-use Rattle.cedar_below.proofs.Names.{internal_name_ord-Equal}
-use Rattle.cedar_elaboration.specs.Words.{name_of, ty_of}
-use Rattle.cedar_below.specs.contracts.internal_name.InternalNameOrd.TheImpl as order
+use Rattle.cedar_ast.proofs.Names.{internal_name_ord-Equal}
+use Rattle.cedar_ast.specs.contracts.internal_name.InternalNameOrd.TheImpl as order
 use Rattle.cedar_elaboration.proofs.Entries.{looked_up, not_found}
 use Rattle.cedar_elaboration.proofs.type_scope.TypeScope.common_type.Goals as goal
+use Rattle.cedar_elaboration.specs.Words.{name_of, ty_of}
 
 pub returns-in_ok-clone-in-Some : goal.returns-in_ok-clone-in-Some
 returns-in_ok-clone-in-Some c =

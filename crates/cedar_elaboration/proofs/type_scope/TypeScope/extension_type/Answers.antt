@@ -1,8 +1,8 @@
 use Rattle.std.proofs.Common.{map, ap, ◌∙◌, inr, sym}
 use Rattle.std.proofs.lemmas.Bool.{false≢true}
-use Rattle.cedar_elaboration.specs.Words.{extension_of, id_text, name_of, unknown_extension_type, unreserved_id_text}
 use Rattle.cedar_elaboration.proofs.ScopeLemmas.{extension_name-same}
 use Rattle.cedar_elaboration.proofs.type_scope.TypeScope.extension_type.Goals as goal
+use Rattle.cedar_elaboration.specs.Words.{extension_of, id_text, name_of, unknown_extension_type, unreserved_id_text}
 
 pub returns-then-has_type-clause-ty : goal.returns-then-has_type-clause-ty
 returns-then-has_type-clause-ty c =

@@ -1,7 +1,7 @@
 use Rattle.std.proofs.Common.{map}
-use Rattle.cedar_fragments.specs.Words.{CommonTypeDef, PlainName, name_of}
 use Rattle.cedar_fragments.proofs.SetLemmas.{HasAlso-next, HasAlso-all, HasAlso-pushed}
 use Rattle.cedar_fragments.proofs.defs.name_lists.add_common_types.Goals as goal
+use Rattle.cedar_fragments.specs.Words.{CommonTypeDef, PlainName, name_of}
 
 pub loop-def-preserved : goal.loop-def-preserved
 loop-def-preserved g c =

@@ -1,7 +1,7 @@
 use Rattle.std.proofs.Common.{map, ◌∙◌}
-use Rattle.cedar_fragments.specs.Words.{EntityTypeDef, PlainName, name_of, type_name}
 use Rattle.cedar_fragments.proofs.SetLemmas.{HasAlso-next, HasAlso-all, HasAlso-pushed}
 use Rattle.cedar_fragments.proofs.defs.name_lists.add_entity_types.Goals as goal
+use Rattle.cedar_fragments.specs.Words.{EntityTypeDef, PlainName, name_of, type_name}
 
 pub loop-def-preserved : goal.loop-def-preserved
 loop-def-preserved g c =

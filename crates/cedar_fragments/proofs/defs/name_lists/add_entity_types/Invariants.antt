@@ -1,6 +1,6 @@
 use Rattle.std.proofs.Common.{map, take}
-use Rattle.cedar_fragments.specs.Words.{HasAlso, name_of, type_name}
 use Rattle.cedar_fragments.proofs.defs.name_lists.add_entity_types.Given as goal
+use Rattle.cedar_fragments.specs.Words.{HasAlso, name_of, type_name}
 
 abbrev pub invariant-loop-def : goal.invariant-loop-def
 invariant-loop-def g l =

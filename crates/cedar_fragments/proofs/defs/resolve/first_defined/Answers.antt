@@ -1,7 +1,7 @@
 use Rattle.std.proofs.Common.{◌≡◌}
-use Rattle.cedar_fragments.specs.Words.{IsDefined, PlainName, held_names, name_of}
 use Rattle.cedar_fragments.proofs.ResolveLemmas.{first_at}
 use Rattle.cedar_fragments.proofs.defs.resolve.first_defined.Goals as goal
+use Rattle.cedar_fragments.specs.Words.{IsDefined, PlainName, held_names, name_of}
 
 pub returns-in-Some-2 : goal.returns-in-Some-2
 returns-in-Some-2 c =

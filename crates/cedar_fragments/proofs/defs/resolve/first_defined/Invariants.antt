@@ -1,7 +1,7 @@
 use Rattle.std.proofs.Common.{map, take}
 use Rattle.std.specs.List.{AllByRecursion}
-use Rattle.cedar_fragments.specs.Words.{IsDefined, held_names, name_of}
 use Rattle.cedar_fragments.proofs.defs.resolve.first_defined.Given as goal
+use Rattle.cedar_fragments.specs.Words.{IsDefined, held_names, name_of}
 
 abbrev pub invariant-loop-name : goal.invariant-loop-name
 invariant-loop-name l =

@@ -1,7 +1,7 @@
 use Rattle.std.specs.Vec.Iter.{into_iter_items}
-use Rattle.cedar_fragments.specs.Words.{ResolvesTo, held_names, name_of}
 use Rattle.cedar_fragments.proofs.Pairwise.{TurnSoFar}
 use Rattle.cedar_fragments.proofs.defs.resolve.resolve_all.Given as goal
+use Rattle.cedar_fragments.specs.Words.{ResolvesTo, held_names, name_of}
 
 abbrev pub invariant-loop-name : goal.invariant-loop-name
 invariant-loop-name g l =

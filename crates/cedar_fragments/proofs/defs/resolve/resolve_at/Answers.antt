@@ -1,6 +1,6 @@
 use Rattle.std.proofs.Common.{◌≡◌, List, ◌∷◌, map, sym, subst, ◌∙◌, Contains}
-use Rattle.cedar_fragments.specs.Words.{IsDefined, PlainName, conditional_reference, held_names, names_of, possibilities_of}
 use Rattle.cedar_fragments.proofs.defs.resolve.resolve_at.Goals as goal
+use Rattle.cedar_fragments.specs.Words.{IsDefined, PlainName, conditional_reference, held_names, names_of, possibilities_of}
 
 pub returns-in-None-clause-refused : goal.returns-in-None-clause-refused
 returns-in-None-clause-refused c =

@@ -1,6 +1,6 @@
 use Rattle.std.proofs.Common.{◌∙◌, subst, sym}
-use Rattle.cedar_fragments.specs.Words.{IsReserved}
 use Rattle.cedar_fragments.proofs.namespace.actions.action_uid.Goals as goal
+use Rattle.cedar_fragments.specs.Words.{IsReserved}
 
 pub returns-in_ok-into_shared-in-Ok-clause-unreserved : goal.returns-in_ok-into_shared-in-Ok-clause-unreserved
 returns-in_ok-into_shared-in-Ok-clause-unreserved c = λ reserved.

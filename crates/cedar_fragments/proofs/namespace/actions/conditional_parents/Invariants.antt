@@ -1,6 +1,6 @@
 use Rattle.std.proofs.Common.{◌≡◌, map}
-use Rattle.cedar_fragments.specs.Words.{ConditionalName, RawName, fragment_parent, namespace_name, positional_reference, raw_reference}
 use Rattle.cedar_fragments.proofs.namespace.actions.conditional_parents.Given as goal
+use Rattle.cedar_fragments.specs.Words.{ConditionalName, RawName, fragment_parent, namespace_name, positional_reference, raw_reference}
 
 abbrev pub invariant-loop-parent : goal.invariant-loop-parent
 invariant-loop-parent l =

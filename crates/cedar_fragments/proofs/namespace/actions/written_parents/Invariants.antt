@@ -1,6 +1,6 @@
 use Rattle.std.proofs.Common.{◌≡◌, Option, map}
-use Rattle.cedar_fragments.specs.Words.{PlainName, RawName, fragment_parent, parent_action, raw_reference}
 use Rattle.cedar_fragments.proofs.namespace.actions.written_parents.Given as goal
+use Rattle.cedar_fragments.specs.Words.{PlainName, RawName, fragment_parent, parent_action, raw_reference}
 
 abbrev pub invariant-loop-parent : goal.invariant-loop-parent
 invariant-loop-parent l =

@@ -1,6 +1,6 @@
 use Rattle.std.proofs.Common.{◌≡◌, ◌∙◌, ap, subst, inr, inl}
-use Rattle.cedar_fragments.specs.Words.{IsReserved, name_of, name_within, namespace_name, reserved_name, unreserved_id_text}
 use Rattle.cedar_fragments.proofs.namespace.entity_types.entity_type_name.Goals as goal
+use Rattle.cedar_fragments.specs.Words.{IsReserved, name_of, name_within, namespace_name, reserved_name, unreserved_id_text}
 
 pub returns-in-Err-clause-fault : goal.returns-in-Err-clause-fault
 returns-in-Err-clause-fault c =

@@ -1,6 +1,6 @@
 use Rattle.std.proofs.Common.{◌≡◌, map}
-use Rattle.cedar_fragments.specs.Words.{common_type, declared_as, given_common_types, name_of, namespace_name, positional_expr}
 use Rattle.cedar_fragments.proofs.namespace.given_common_types.given_defs.Given as goal
+use Rattle.cedar_fragments.specs.Words.{common_type, declared_as, given_common_types, name_of, namespace_name, positional_expr}
 
 abbrev pub invariant-loop-definition : goal.invariant-loop-definition
 invariant-loop-definition l =

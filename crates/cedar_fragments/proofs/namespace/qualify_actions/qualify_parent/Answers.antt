@@ -1,6 +1,6 @@
 use Rattle.std.proofs.Common.{◌∙◌, ap, string_bytes}
-use Rattle.cedar_fragments.specs.Words.{ActionReference, Entity, PlainName, reference_to_one, uid_of}
 use Rattle.cedar_fragments.proofs.namespace.qualify_actions.qualify_parent.Goals as goal
+use Rattle.cedar_fragments.specs.Words.{ActionReference, Entity, PlainName, reference_to_one, uid_of}
 
 -- what the parent names is what it resolves to
 pub returns-clause-resolved : goal.returns-clause-resolved

@@ -1,8 +1,8 @@
 use Rattle.std.proofs.Common.{string_bytes}
 use Rattle.std.proofs.lemmas.Bool.{false≢true}
-use Rattle.cedar_fragments.specs.Words.{name_of}
 use Rattle.cedar_fragments.proofs.UnresolvableLemmas.{action_unreserved}
 use Rattle.cedar_fragments.proofs.namespace.qualify_actions.shared_uid.Goals as goal
+use Rattle.cedar_fragments.specs.Words.{name_of}
 
 -- no action has a type whose name is reserved
 pub returns-in_default-clause-uid : goal.returns-in_default-clause-uid

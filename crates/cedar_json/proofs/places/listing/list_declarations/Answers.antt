@@ -1,8 +1,8 @@
 use Rattle.std.proofs.Common.{[], ◌∷◌}
 use Rattle.std.specs.List.{flat_map}
 use Rattle.cedar_json.proofs.TableLemmas.{IsUnderWay-done, IsUnderWay-next, listed_in_turn, listed_made}
-use Rattle.cedar_json.specs.Words.{marks_under, namespace_of}
 use Rattle.cedar_json.proofs.places.listing.list_declarations.Goals as goal
+use Rattle.cedar_json.specs.Words.{marks_under, namespace_of}
 
 -- one more declaration is listed, and then what is in its types
 pub loop-id-preserved : goal.loop-id-preserved

@@ -1,7 +1,7 @@
 use Rattle.std.specs.List.{flat_map}
 use Rattle.cedar_json.proofs.TableLemmas.{IsUnderWay}
-use Rattle.cedar_json.specs.Words.{marks_under, namespace_of}
 use Rattle.cedar_json.proofs.places.listing.list_declarations.Given as goal
+use Rattle.cedar_json.specs.Words.{marks_under, namespace_of}
 
 abbrev pub invariant-loop-id : goal.invariant-loop-id
 invariant-loop-id g l =

@@ -2,8 +2,8 @@ use Rattle.std.proofs.Common.{◌≡◌, List, [], ◌∷◌, Option, Some, map,
 use Rattle.std.specs.List.{slice_get}
 use Rattle.std.specs.declared.alloc.Global.{Global}
 use Rattle.std.specs.declared.string.String.{String}
-use Rattle.cedar_json.specs.Words.{IsAttributedAction, IsAttributedPlace, IsFirstPlace, Loc, Mark, Marks, Text, marked}
 use Rattle.cedar_json.proofs.places.place.attributed_place.Goals as goal
+use Rattle.cedar_json.specs.Words.{IsAttributedAction, IsAttributedPlace, IsFirstPlace, Loc, Mark, Marks, Text, marked}
 
 -- the place of the first action that has attributes and an id
 abbrev Found : Marks → Option Loc → Text → Type 0

@@ -1,6 +1,6 @@
 use Rattle.std.proofs.Common.{Option, drop, map}
-use Rattle.cedar_json.specs.Words.{IsFirstPlace, IsSought, Loc, marked}
 use Rattle.cedar_json.proofs.places.place.first_place.Given as goal
+use Rattle.cedar_json.specs.Words.{IsFirstPlace, IsSought, Loc, marked}
 
 abbrev pub invariant-loop-it : goal.invariant-loop-it
 invariant-loop-it l =

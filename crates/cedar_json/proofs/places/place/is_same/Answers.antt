@@ -1,7 +1,7 @@
 use Rattle.std.proofs.Common.{Bool, ◌≡◌, subst, sym}
 use Rattle.std.specs.Bool.{Decides}
-use Rattle.cedar_below.proofs.Names.{internal_name_eq-same}
-use Rattle.cedar_below.specs.InternalName.{name_of}
+use Rattle.cedar_ast.proofs.Names.{internal_name_eq-same}
+use Rattle.cedar_ast.specs.InternalName.{name_of}
 use Rattle.cedar_json.proofs.places.place.is_same.Goals as goal
 
 pub returns : goal.returns

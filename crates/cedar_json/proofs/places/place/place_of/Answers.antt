@@ -1,6 +1,6 @@
 use Rattle.std.proofs.Common.{subst, sym, ◌∙◌, map}
-use Rattle.cedar_json.specs.Words.{IsExtensionType, IsFirstPlace, IsPlaceOf, Loc, Mark, SchemaError, Text, marked}
 use Rattle.cedar_json.proofs.places.place.place_of.Goals as goal
+use Rattle.cedar_json.specs.Words.{IsExtensionType, IsFirstPlace, IsPlaceOf, Loc, Mark, SchemaError, Text, marked}
 
 pub returns-in-UnknownExtensionType : goal.returns-in-UnknownExtensionType
 returns-in-UnknownExtensionType c =

@@ -1,8 +1,8 @@
 use Rattle.std.proofs.Common.{map, sym}
 use Rattle.cedar_json.proofs.TableLemmas.{IsUnderWay-done, IsUnderWay-next}
 use Rattle.cedar_json.proofs.TypeMarkLemmas.{entry_marks, record_marks-begun}
-use Rattle.cedar_json.specs.Words.{marked, record_marks}
 use Rattle.cedar_json.proofs.places.type_listing.+types.Goals as goal
+use Rattle.cedar_json.specs.Words.{marked, record_marks}
 
 -- a record type that is open is listed first
 pub list_record-loop-attribute-init : goal.list_record-loop-attribute-init

@@ -1,7 +1,7 @@
 use Rattle.cedar_json.proofs.TableLemmas.{IsUnderWay}
 use Rattle.cedar_json.proofs.TypeMarkLemmas.{entry_marks}
-use Rattle.cedar_json.specs.Words.{record_marks}
 use Rattle.cedar_json.proofs.places.type_listing.+types.Given as goal
+use Rattle.cedar_json.specs.Words.{record_marks}
 
 abbrev pub invariant-list_record-loop-attribute : goal.invariant-list_record-loop-attribute
 invariant-list_record-loop-attribute l =

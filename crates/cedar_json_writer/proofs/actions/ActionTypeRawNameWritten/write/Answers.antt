@@ -1,10 +1,10 @@
 use Rattle.std.proofs.Common.{false, option_map}
 use Rattle.std.proofs.lemmas.Result.{err_from_is_err_and}
 use Rattle.cedar_json.specs.ActionFormat.{written_action}
-use Rattle.cedar_json_writer.specs.Words.{flag_held, pairs_document, parent_array, requests_document}
 use Rattle.cedar_json_writer.proofs.WritingLemmas.{checked, on_ok}
 use Rattle.cedar_json_writer.proofs.WrittenActions.{action_added, action_free, attributes_flaw, groups_sound, requests_flaw}
 use Rattle.cedar_json_writer.proofs.actions.ActionTypeRawNameWritten.write.Goals as goal
+use Rattle.cedar_json_writer.specs.Words.{flag_held, pairs_document, parent_array, requests_document}
 
 pub returns-clause-written : goal.returns-clause-written
 returns-clause-written c =

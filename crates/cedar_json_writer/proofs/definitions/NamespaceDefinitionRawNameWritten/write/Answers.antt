@@ -1,11 +1,11 @@
 use Rattle.std.proofs.Common.{Global, Some, String, refl, string_bytes}
 use Rattle.std.proofs.lemmas.Result.{err_from_is_err_and}
-use Rattle.json.specs.Json.{object}
-use Rattle.cedar_json_writer.specs.Words.{SoundAction, SoundBody, WrittenEntity, action_document, action_flaws, body_flaws, common_types_held, declared_members, entity_type_document, id_key, unreserved_id_text, written_action, written_actions, written_common_types, written_definition, written_entity, written_entity_types}
+use Rattle.cedar_json_writer.proofs.WritingLemmas.{checked, on_ok}
 use Rattle.cedar_json_writer.proofs.WrittenDefinitions.{action_flaw, common_type_flaw, declarations_free, definition_added, definition_free, entity_type_flaw}
 use Rattle.cedar_json_writer.proofs.WrittenTypes.{id_key-read}
-use Rattle.cedar_json_writer.proofs.WritingLemmas.{checked, on_ok}
 use Rattle.cedar_json_writer.proofs.definitions.NamespaceDefinitionRawNameWritten.write.Goals as goal
+use Rattle.cedar_json_writer.specs.Words.{SoundAction, SoundBody, WrittenEntity, action_document, action_flaws, body_flaws, common_types_held, declared_members, entity_type_document, id_key, unreserved_id_text, written_action, written_actions, written_common_types, written_definition, written_entity, written_entity_types}
+use Rattle.json.specs.Json.{object}
 
 -- a flaw of an entity type is one of the definition
 pub returns-in_err-write_field-clause-checked : goal.returns-in_err-write_field-clause-checked
@@ -25,7 +25,8 @@ returns-in_err-write_common_types-clause-checked c =
     let p = err_from_is_err_and c.from_residual-in_err-write_common_types.result c.from_residual-in_err-write_common_types.ensures.1 in
     rw (p.1, p.2) (common_type_flaw (written_definition c.args.self.now) _ c.in_err-write_common_types.ensures.checked)
 
--- a definition is written as the object of its entity types, its actions, and its common types if there are any
+-- a definition is written as the object of its entity types, its actions, and its common types if
+-- there are any
 pub returns-clause-written : goal.returns-clause-written
 returns-clause-written c =
     let it = c.args.self.now in

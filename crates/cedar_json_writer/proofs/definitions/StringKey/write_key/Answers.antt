@@ -1,6 +1,6 @@
 use Rattle.std.proofs.Common.{◌≡◌, ◌++◌, ◌∷◌, [], List, OnOk, ℕ, subst}
-use Rattle.json.specs.Token.{key}
 use Rattle.cedar_json_writer.proofs.definitions.StringKey.write_key.Goals as goal
+use Rattle.json.specs.Token.{key}
 
 pub returns : goal.returns
 returns c =

@@ -1,8 +1,8 @@
 use Rattle.std.proofs.Common.{codes, false}
-use Rattle.json.specs.Json.{no_members}
-use Rattle.cedar_json_writer.specs.Words.{body_members, flag_held, optional_member, written_kind}
 use Rattle.cedar_json_writer.proofs.WritingLemmas.{checked, object_closed, on_ok}
 use Rattle.cedar_json_writer.proofs.entity_types.EntityTypeRawNameWritten.write.Goals as goal
+use Rattle.cedar_json_writer.specs.Words.{body_members, flag_held, optional_member, written_kind}
+use Rattle.json.specs.Json.{no_members}
 
 pub returns-clause-written : goal.returns-clause-written
 returns-clause-written c =

@@ -1,7 +1,7 @@
 use Rattle.std.proofs.Common.{refl}
 use Rattle.std.proofs.lemmas.Result.{err_from_is_err_and}
-use Rattle.cedar_json_writer.proofs.WrittenDefinitions.{declared_shape, keyed_free}
 use Rattle.cedar_json_writer.proofs.WritingLemmas.{begun, checked, member_flaw, members_added, members_free, on_ok, turn_by}
+use Rattle.cedar_json_writer.proofs.WrittenDefinitions.{declared_shape, keyed_free}
 use Rattle.cedar_json_writer.proofs.written.BTreeMapWritten.write.Goals as goal
 
 -- at first none is written

@@ -1,5 +1,5 @@
-use Rattle.cedar_json_writer.proofs.WrittenDefinitions.{declared_shape}
 use Rattle.cedar_json_writer.proofs.WritingLemmas.{SoFar}
+use Rattle.cedar_json_writer.proofs.WrittenDefinitions.{declared_shape}
 use Rattle.cedar_json_writer.proofs.written.BTreeMapWritten.write.Given as goal
 
 abbrev pub invariant-loop-key : goal.invariant-loop-key

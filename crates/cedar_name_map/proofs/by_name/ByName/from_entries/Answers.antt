@@ -1,10 +1,10 @@
 use Rattle.std.proofs.Common.{rules, ap, sym, subst, ◌∙◌, string_bytes}
 use Rattle.std.proofs.lemmas.Fn.{dedup_same}
 use Rattle.std.proofs.lemmas.List.Sorted.{answers_always, ranks_by}
-use Rattle.cedar_below.proofs.Texts.{text_cmp-total}
-use Rattle.cedar_name_map.specs.ByName.{AreSortedByName, value_at}
+use Rattle.cedar_ast.proofs.Texts.{text_cmp-total}
 use Rattle.cedar_name_map.proofs.MadeLemmas.{same_text, text_below, AreSortedByName-distinct, value_at-distinct, value_at-sorted, value_at-reverse}
 use Rattle.cedar_name_map.proofs.by_name.ByName.from_entries.Goals as goal
+use Rattle.cedar_name_map.specs.ByName.{AreSortedByName, value_at}
 
 pub invariant_of-result : goal.invariant_of-result
 invariant_of-result g c =

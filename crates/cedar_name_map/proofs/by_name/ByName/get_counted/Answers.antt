@@ -1,7 +1,7 @@
 use Rattle.std.proofs.Common.{refl, sym, ap, subst, ◌∙◌, arith}
-use Rattle.cedar_name_map.specs.Words.{AreSortedByName, text_cmp, value_at}
 use Rattle.cedar_name_map.proofs.SearchLemmas.{Halves-above, Halves-below, Halves-found, Halves-none}
 use Rattle.cedar_name_map.proofs.by_name.ByName.get_counted.Goals as goal
+use Rattle.cedar_name_map.specs.Words.{AreSortedByName, text_cmp, value_at}
 
 pub overflow_add-compared : goal.overflow_add-compared
 overflow_add-compared g c =

@@ -1,8 +1,8 @@
 use Rattle.std.proofs.Common.{◌≡◌, refl, sym, ap, ◌∙◌}
 use Rattle.std.specs.declared.cmp.Ordering.TheVariants.{Greater}
-use Rattle.cedar_name_map.specs.Words.{text_cmp}
 use Rattle.cedar_name_map.proofs.SearchLemmas.{text_at, stands_where_tied}
 use Rattle.cedar_name_map.proofs.by_name.ByName.seek.Goals as goal
+use Rattle.cedar_name_map.specs.Words.{text_cmp}
 
 -- a name that ties stands there
 pub returns-in-Equal-clause-stands : goal.returns-in-Equal-clause-stands

@@ -1,5 +1,5 @@
 use Rattle.std.proofs.Common.{◌-◌, ◌≤◌, length}
-use Rattle.cedar_below.specs.Text.{text_cmp}
+use Rattle.cedar_ast.specs.Text.{text_cmp}
 use Rattle.cedar_name_map.proofs.RisingLemmas.{Passed}
 use Rattle.cedar_name_map.proofs.SearchLemmas.{text_of}
 use Rattle.cedar_name_map.proofs.by_name.ByName.seek.Given as goal

@@ -3,8 +3,8 @@ use Rattle.std.proofs.lemmas.Bool.{MatchBool-at_true, MatchBool-at_false}
 use Rattle.std.proofs.lemmas.List.Sorted.{IsPermutation-to_front}
 use Rattle.std.specs.List.Sorted.{IsPermutation}
 use Rattle.cedar_queries.proofs.LeafLemmas.{leaves-opened, leaves-taken, parts-opened, parts-taken}
-use Rattle.cedar_queries.specs.Words.{Ty, leaves_of, shown_types, ty_of}
 use Rattle.cedar_queries.proofs.leaves.TypeIteratorIterator.next.Goals as goal
+use Rattle.cedar_queries.specs.Words.{Ty, leaves_of, shown_types, ty_of}
 
 -- a type that is replaced by those inside it leaves one type less
 pub loop-ty-smaller : goal.loop-ty-smaller

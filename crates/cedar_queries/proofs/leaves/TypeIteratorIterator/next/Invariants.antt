@@ -1,6 +1,6 @@
 use Rattle.std.proofs.Common.{◌≡◌, ◌≤◌}
-use Rattle.cedar_queries.specs.Leaves.{leaves_of, part_count, shown_types}
 use Rattle.cedar_queries.proofs.leaves.TypeIteratorIterator.next.Given as goal
+use Rattle.cedar_queries.specs.Leaves.{leaves_of, part_count, shown_types}
 
 abbrev pub invariant-loop-ty : goal.invariant-loop-ty
 invariant-loop-ty l =

@@ -1,8 +1,8 @@
 use Rattle.std.proofs.Common.{◌≡◌, ◌++◌, [], length, map}
 use Rattle.std.specs.List.{flat_map}
 use Rattle.std.specs.Option.{unwrap_or}
-use Rattle.cedar_queries.specs.Words.{action_of, type_name, types_in_role}
 use Rattle.cedar_queries.proofs.requests.ApplicableTypesIterator.next.Given as goal
+use Rattle.cedar_queries.specs.Words.{action_of, type_name, types_in_role}
 
 abbrev pub invariant-loop-self : goal.invariant-loop-self
 invariant-loop-self l =

@@ -1,7 +1,7 @@
 use Rattle.std.proofs.Common.{sym, refl}
-use Rattle.cedar_queries.specs.Words.{action_of, kind_principals, kind_resources, type_name}
 use Rattle.cedar_queries.proofs.NameLemmas.{is_has_name}
 use Rattle.cedar_queries.proofs.tests_of_values.ForRequestTestValidatorActionId.passes.Goals as goal
+use Rattle.cedar_queries.specs.Words.{action_of, kind_principals, kind_resources, type_name}
 
 pub returns-then-is_applicable_principal_type : goal.returns-then-is_applicable_principal_type
 returns-then-is_applicable_principal_type c =

@@ -1,6 +1,6 @@
-use Rattle.cedar_queries.specs.Words.{descendant_names, type_name}
 use Rattle.cedar_queries.proofs.NameLemmas.{is_has_name}
 use Rattle.cedar_queries.proofs.tests_of_values.HasDescendantTestValidatorEntityType.passes.Goals as goal
+use Rattle.cedar_queries.specs.Words.{descendant_names, type_name}
 
 pub returns : goal.returns
 returns c =

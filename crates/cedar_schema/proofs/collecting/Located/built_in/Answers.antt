@@ -1,6 +1,6 @@
 use Rattle.std.proofs.Common.{ap, map}
-use Rattle.cedar_schema.specs.Words.{shown_name}
 use Rattle.cedar_schema.proofs.collecting.Located.built_in.Goals as goal
+use Rattle.cedar_schema.specs.Words.{shown_name}
 
 pub returns-clause-shown : goal.returns-clause-shown
 returns-clause-shown c = record {

@@ -1,9 +1,9 @@
 use Rattle.std.proofs.Common.{ap, ◌∙◌}
-use Rattle.cedar_below.proofs.Names.{internal_name_ord-Equal}
-use Rattle.cedar_schema.specs.Words.{name_of, shown_common_type, shown_entry, shown_namespace}
-use Rattle.cedar_below.specs.contracts.internal_name.InternalNameOrd.TheImpl as internal_name_ord
-use Rattle.cedar_below.proofs.ShownLemmas.{copy_ties, same_shown}
+use Rattle.cedar_ast.proofs.Names.{internal_name_ord-Equal}
+use Rattle.cedar_ast.proofs.ShownLemmas.{copy_ties, same_shown}
+use Rattle.cedar_ast.specs.contracts.internal_name.InternalNameOrd.TheImpl as internal_name_ord
 use Rattle.cedar_schema.proofs.collecting.Located.clone.Goals as goal
+use Rattle.cedar_schema.specs.Words.{name_of, shown_common_type, shown_entry, shown_namespace}
 
 pub copied_entries-requires-clause-ties : goal.copied_entries-requires-clause-ties
 copied_entries-requires-clause-ties c key answer ran =

@@ -1,9 +1,9 @@
 use Rattle.std.proofs.Common.{◌≡◌, [], ◌∷◌, ◌++◌, List, ap, map, subst, ◌∙◌}
 use Rattle.std.proofs.lemmas.List.{flat_map_more}
 use Rattle.std.specs.List.{flat_map}
-use Rattle.cedar_schema.specs.Words.{DefinedNamespace, HoldsNamespaces, built_in_namespace, common_types_to_show, definition_common_types, definition_namespaces, fragment_common_types, named_namespaces, shown_common_type}
 use Rattle.cedar_schema.proofs.ShownLemmas.{names_shown, shown_more}
 use Rattle.cedar_schema.proofs.collecting.Located.with.Goals as goal
+use Rattle.cedar_schema.specs.Words.{DefinedNamespace, HoldsNamespaces, built_in_namespace, common_types_to_show, definition_common_types, definition_namespaces, fragment_common_types, named_namespaces, shown_common_type}
 
 pub returns : goal.returns
 returns g c = λ fragments so_far.

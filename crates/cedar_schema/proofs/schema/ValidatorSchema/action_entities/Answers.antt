@@ -1,7 +1,7 @@
 use Rattle.std.proofs.Common.{map}
 use Rattle.std.proofs.lemmas.Result.{IfOk-weaker}
-use Rattle.cedar_schema.specs.Words.{AreActionEntities, action_entries, entities_of, plain_action_entity, plain_entry, schema_with}
 use Rattle.cedar_schema.proofs.schema.ValidatorSchema.action_entities.Goals as goal
+use Rattle.cedar_schema.specs.Words.{AreActionEntities, action_entries, entities_of, plain_action_entity, plain_entry, schema_with}
 
 pub returns : goal.returns
 returns c =

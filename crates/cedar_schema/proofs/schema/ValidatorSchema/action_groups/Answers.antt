@@ -1,9 +1,9 @@
 use Rattle.std.proofs.Common.{subst, sym}
 use Rattle.std.specs.List.Sorted.{IsStrictlySortedBy}
-use Rattle.cedar_schema.specs.Words.{is_nonempty, schema_of, uid_cmp}
 use Rattle.cedar_queries.proofs.SelectedLemmas.{keys_where-ascend}
 use Rattle.cedar_schema.proofs.SchemaNames.{known_order}
 use Rattle.cedar_schema.proofs.schema.ValidatorSchema.action_groups.Goals as goal
+use Rattle.cedar_schema.specs.Words.{is_nonempty, schema_of, uid_cmp}
 
 pub returns-clause-in_order : goal.returns-clause-in_order
 returns-clause-in_order c =

@@ -1,8 +1,8 @@
 use Rattle.std.proofs.Common.{List, map, subst, sym}
 use Rattle.std.specs.List.Sorted.{IsStrictlySortedBy}
-use Rattle.cedar_schema.specs.Words.{ValidatorActionId, action_of, uid_cmp}
 use Rattle.cedar_schema.proofs.SchemaNames.{action_uids_ascend}
 use Rattle.cedar_schema.proofs.schema.ValidatorSchema.action_ids.Goals as goal
+use Rattle.cedar_schema.specs.Words.{ValidatorActionId, action_of, uid_cmp}
 
 pub returns-clause-in_order : goal.returns-clause-in_order
 returns-clause-in_order c =

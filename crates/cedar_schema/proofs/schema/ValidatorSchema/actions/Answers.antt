@@ -1,10 +1,10 @@
 use Rattle.std.proofs.Common.{List, ap, map, subst, sym, ◌∙◌}
 use Rattle.std.specs.List.Sorted.{IsStrictlySortedBy}
-use Rattle.cedar_schema.specs.Words.{EntityUID, action_entries, name_type_loc, uid_cmp, uid_loc, uid_of, uid_type_loc}
-use Rattle.cedar_schema_elements.specs.ValidatorActionId.{name_loc}
 use Rattle.cedar_schema.proofs.SchemaKeys.{agreed_on}
 use Rattle.cedar_schema.proofs.SchemaNames.{action_keys_ascend}
 use Rattle.cedar_schema.proofs.schema.ValidatorSchema.actions.Goals as goal
+use Rattle.cedar_schema.specs.Words.{EntityUID, action_entries, name_type_loc, uid_cmp, uid_loc, uid_of, uid_type_loc}
+use Rattle.cedar_schema_elements.specs.ValidatorActionId.{name_loc}
 
 pub returns-clause-in_order : goal.returns-clause-in_order
 returns-clause-in_order c =

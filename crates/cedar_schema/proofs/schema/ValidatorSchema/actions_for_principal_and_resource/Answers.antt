@@ -1,9 +1,9 @@
 use Rattle.std.proofs.Common.{◌&&◌, subst, sym}
 use Rattle.std.specs.List.Sorted.{IsStrictlySortedBy}
-use Rattle.cedar_schema.specs.Words.{has_name, kind_principals, kind_resources, schema_of, type_name, uid_cmp}
 use Rattle.cedar_queries.proofs.SelectedLemmas.{keys_where-ascend}
 use Rattle.cedar_schema.proofs.SchemaNames.{known_order}
 use Rattle.cedar_schema.proofs.schema.ValidatorSchema.actions_for_principal_and_resource.Goals as goal
+use Rattle.cedar_schema.specs.Words.{has_name, kind_principals, kind_resources, schema_of, type_name, uid_cmp}
 
 pub returns-clause-in_order : goal.returns-clause-in_order
 returns-clause-in_order c =

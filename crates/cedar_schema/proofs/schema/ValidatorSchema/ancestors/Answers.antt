@@ -1,10 +1,10 @@
 use Rattle.std.proofs.Common.{subst, sym}
 use Rattle.std.proofs.lemmas.Option.{IfSome_then}
 use Rattle.std.specs.List.Sorted.{IsStrictlySortedBy}
-use Rattle.cedar_schema.specs.Words.{has_name, name_cmp, schema_of, type_name}
 use Rattle.cedar_queries.proofs.SelectedLemmas.{keys_where-ascend}
 use Rattle.cedar_schema.proofs.SchemaNames.{known_order}
 use Rattle.cedar_schema.proofs.schema.ValidatorSchema.ancestors.Goals as goal
+use Rattle.cedar_schema.specs.Words.{has_name, name_cmp, schema_of, type_name}
 
 pub returns-clause-in_order : goal.returns-clause-in_order
 returns-clause-in_order c =

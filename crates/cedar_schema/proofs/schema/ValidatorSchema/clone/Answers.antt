@@ -1,6 +1,6 @@
-use Rattle.cedar_schema.specs.Words.{action_entries, schema_entries, schema_of}
 use Rattle.cedar_schema.proofs.Itself.{actions_themselves, schema_itself, types_themselves}
 use Rattle.cedar_schema.proofs.schema.ValidatorSchema.clone.Goals as goal
+use Rattle.cedar_schema.specs.Words.{action_entries, schema_entries, schema_of}
 
 -- another owner holds what the schema holds, which is the same as itself
 pub returns-clause-schema : goal.returns-clause-schema

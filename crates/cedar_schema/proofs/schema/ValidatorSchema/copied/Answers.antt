@@ -1,10 +1,10 @@
 use Rattle.std.proofs.Common.{map, subst, sym}
 use Rattle.std.proofs.lemmas.Result.{IfOk-weaker}
-use Rattle.cedar_schema.specs.Words.{PlainSchema, SameSchema, plain_action_entry, plain_entry, schema_listing, schema_of}
-use Rattle.cedar_declaration_laws.proofs.SameEntities.{same_entities}
-use Rattle.cedar_schema.proofs.SchemaNames.{entities_known, entities_of_copy, known_names, same_under_names}
 use Rattle.cedar_schema.proofs.SchemaKeys.{keys_given}
+use Rattle.cedar_schema.proofs.SchemaNames.{entities_known, entities_of_copy, known_names, same_under_names}
 use Rattle.cedar_schema.proofs.schema.ValidatorSchema.copied.Goals as goal
+use Rattle.cedar_schema.specs.Words.{PlainSchema, SameSchema, plain_action_entry, plain_entry, schema_listing, schema_of}
+use Rattle.cedar_schema_laws.proofs.SameEntities.{same_entities}
 use Rattle.cedar_validation.proofs.CopyLemmas.{action_copies_located, actions_same, type_copies_located, types_same}
 
 -- the copies have the names of the originals, which stand under their own

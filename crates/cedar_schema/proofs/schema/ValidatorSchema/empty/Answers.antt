@@ -1,12 +1,12 @@
 use Rattle.std.proofs.Common.{map}
 use Rattle.std.proofs.lemmas.Grind.{merely}
-use Rattle.cedar_schema.specs.Words.{plain_action_entry}
-use Rattle.cedar_schema_elements.specs.Words.{listed_entities}
-use Rattle.cedar_schema_elements.specs.ValidatorActionId as actions
 use Rattle.cedar_graph.proofs.Lists.{empty_lacks}
-use Rattle.cedar_schema_elements.specs.ValidatorEntityType as types
 use Rattle.cedar_schema.proofs.SchemaNames.{schema_in_order}
 use Rattle.cedar_schema.proofs.schema.ValidatorSchema.empty.Goals as goal
+use Rattle.cedar_schema.specs.Words.{plain_action_entry}
+use Rattle.cedar_schema_elements.specs.ValidatorActionId as actions
+use Rattle.cedar_schema_elements.specs.ValidatorEntityType as types
+use Rattle.cedar_schema_elements.specs.Words.{listed_entities}
 
 pub invariant_of-content-clause-in_order : goal.invariant_of-content-clause-in_order
 invariant_of-content-clause-in_order c =

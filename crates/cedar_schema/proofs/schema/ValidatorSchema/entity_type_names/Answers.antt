@@ -1,10 +1,10 @@
 use Rattle.std.proofs.Common.{List, ap, map, subst, sym, ◌∙◌}
 use Rattle.std.specs.List.Sorted.{IsStrictlySortedBy}
-use Rattle.cedar_schema.specs.Words.{EntityType, name_cmp, schema_entries, type_loc, type_name}
-use Rattle.cedar_schema_elements.specs.ValidatorEntityType.{name_loc}
 use Rattle.cedar_schema.proofs.SchemaKeys.{agreed_on}
 use Rattle.cedar_schema.proofs.SchemaNames.{type_keys_ascend}
 use Rattle.cedar_schema.proofs.schema.ValidatorSchema.entity_type_names.Goals as goal
+use Rattle.cedar_schema.specs.Words.{EntityType, name_cmp, schema_entries, type_loc, type_name}
+use Rattle.cedar_schema_elements.specs.ValidatorEntityType.{name_loc}
 
 pub returns-clause-in_order : goal.returns-clause-in_order
 returns-clause-in_order c =

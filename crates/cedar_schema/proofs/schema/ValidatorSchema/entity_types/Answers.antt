@@ -1,8 +1,8 @@
 use Rattle.std.proofs.Common.{List, map, subst, sym}
 use Rattle.std.specs.List.Sorted.{IsStrictlySortedBy}
-use Rattle.cedar_schema.specs.Words.{ValidatorEntityType, entity_type_of, name_cmp}
 use Rattle.cedar_schema.proofs.SchemaNames.{type_names_ascend}
 use Rattle.cedar_schema.proofs.schema.ValidatorSchema.entity_types.Goals as goal
+use Rattle.cedar_schema.specs.Words.{ValidatorEntityType, entity_type_of, name_cmp}
 
 pub returns-clause-in_order : goal.returns-clause-in_order
 returns-clause-in_order c =

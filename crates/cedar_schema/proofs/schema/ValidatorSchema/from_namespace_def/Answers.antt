@@ -4,9 +4,9 @@ use Rattle.std.proofs.lemmas.Result.{IfErr-weaker}
 use Rattle.std.specs.List.{flat_map}
 use Rattle.std.specs.Option.{option_map}
 use Rattle.std.specs.Result.{result_map_both}
-use Rattle.cedar_schema.specs.Words.{Bag, DefinedNamespace, IsBuiltFrom, LocatedName, NamesAllWithAttributes, Shows, entry_common_names, entry_namespaces, fault_of, located_of, plain_name, raw_declarations, schema_of, written_common_names}
 use Rattle.cedar_fragments.proofs.NamedOfDefinition.{named_of_only}
 use Rattle.cedar_schema.proofs.schema.ValidatorSchema.from_namespace_def.Goals as goal
+use Rattle.cedar_schema.specs.Words.{Bag, DefinedNamespace, IsBuiltFrom, LocatedName, NamesAllWithAttributes, Shows, entry_common_names, entry_namespaces, fault_of, located_of, plain_name, raw_declarations, schema_of, written_common_names}
 
 pub returns-clause-built : goal.returns-clause-built
 returns-clause-built c =

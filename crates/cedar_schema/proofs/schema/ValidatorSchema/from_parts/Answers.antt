@@ -1,9 +1,9 @@
 use Rattle.std.proofs.Common.{map}
 use Rattle.std.proofs.lemmas.Grind.{merely}
-use Rattle.cedar_schema.specs.Words.{plain_action_entry, plain_entry}
-use Rattle.cedar_schema_elements.specs.Words.{listed_entities}
 use Rattle.cedar_schema.proofs.SchemaNames.{schema_in_order}
 use Rattle.cedar_schema.proofs.schema.ValidatorSchema.from_parts.Goals as goal
+use Rattle.cedar_schema.specs.Words.{plain_action_entry, plain_entry}
+use Rattle.cedar_schema_elements.specs.Words.{listed_entities}
 
 pub invariant_of-content : goal.invariant_of-content
 invariant_of-content c =

@@ -1,6 +1,6 @@
-use Rattle.cedar_schema.specs.Words.{parts_schema, raw_bag}
-use Rattle.cedar_declaration_laws.proofs.ComeBack.{declared_under_names}
 use Rattle.cedar_schema.proofs.schema.ValidatorSchema.from_raw_fragments.Goals as goal
+use Rattle.cedar_schema.specs.Words.{parts_schema, raw_bag}
+use Rattle.cedar_schema_laws.proofs.ComeBack.{declared_under_names}
 
 pub from_parts-requires-clause-under_names : goal.from_parts-requires-clause-under_names
 from_parts-requires-clause-under_names c =

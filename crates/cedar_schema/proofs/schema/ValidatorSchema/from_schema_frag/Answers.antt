@@ -1,9 +1,9 @@
 use Rattle.std.proofs.Common.{◌∙◌, ◌++◌, ◌∷◌, [], List, IfErr, IfOk, ap, subst}
 use Rattle.std.proofs.lemmas.List.{append-nil}
 use Rattle.std.specs.Result.{result_map_both}
-use Rattle.cedar_schema.specs.Words.{Bag, Fragment, IsBuiltFrom, NamesAllOfADefinition, RawName, ShowsWritten, fault_of, located_of, raw_bag, raw_fragment, schema_of}
 use Rattle.cedar_schema.proofs.SchemaKeys.{keys_given}
 use Rattle.cedar_schema.proofs.schema.ValidatorSchema.from_schema_frag.Goals as goal
+use Rattle.cedar_schema.specs.Words.{Bag, Fragment, IsBuiltFrom, NamesAllOfADefinition, RawName, ShowsWritten, fault_of, located_of, raw_bag, raw_fragment, schema_of}
 
 pub returns-clause-built : goal.returns-clause-built
 returns-clause-built c =

@@ -1,7 +1,7 @@
 use Rattle.std.proofs.Common.{ap, ◌∙◌}
-use Rattle.cedar_table.specs.Entries.{get_by}
-use Rattle.cedar_below.proofs.Uids.{entity_uid_ord-uid_cmp}
+use Rattle.cedar_ast.proofs.Uids.{entity_uid_ord-uid_cmp}
 use Rattle.cedar_schema.proofs.schema.ValidatorSchema.get_action_id.Goals as goal
+use Rattle.cedar_table.specs.Entries.{get_by}
 
 pub returns : goal.returns
 returns c =

@@ -1,7 +1,7 @@
 use Rattle.std.proofs.Common.{ap, ◌∙◌}
-use Rattle.cedar_table.specs.Entries.{get_by}
-use Rattle.cedar_below.proofs.Names.{entity_type_ord-name_cmp}
+use Rattle.cedar_ast.proofs.Names.{entity_type_ord-name_cmp}
 use Rattle.cedar_schema.proofs.schema.ValidatorSchema.get_entity_type.Goals as goal
+use Rattle.cedar_table.specs.Entries.{get_by}
 
 pub returns : goal.returns
 returns c =

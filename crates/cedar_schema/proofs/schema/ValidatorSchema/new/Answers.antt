@@ -2,11 +2,11 @@ use Rattle.std.proofs.Common.{ap, map, ◌∙◌}
 use Rattle.std.proofs.lemmas.Result.{IfOk-weaker}
 use Rattle.std.specs.BTreeMap.{is_at}
 use Rattle.std.specs.Map.{lookup}
-use Rattle.cedar_schema.specs.Words.{common_entries, last_named, last_of_uid, name_cmp, namespace_entries, plain_action_entry, type_name, uid_cmp, uid_of}
-use Rattle.cedar_schema_elements.specs.Words.{listed_entities}
 use Rattle.cedar_schema.proofs.SchemaKeys.{keys_given}
 use Rattle.cedar_schema.proofs.SchemaNames.{schema_under_names}
 use Rattle.cedar_schema.proofs.schema.ValidatorSchema.new.Goals as goal
+use Rattle.cedar_schema.specs.Words.{common_entries, last_named, last_of_uid, name_cmp, namespace_entries, plain_action_entry, type_name, uid_cmp, uid_of}
+use Rattle.cedar_schema_elements.specs.Words.{listed_entities}
 
 -- each entity type is under its own name, and each action under its own uid
 pub from_parts-requires-clause-under_names : goal.from_parts-requires-clause-under_names

@@ -1,7 +1,7 @@
 use Rattle.std.proofs.Common.{rules, sym, subst}
-use Rattle.cedar_schema.specs.Words.{ClosesSchema, PlainSchema, schema_of}
 use Rattle.cedar_schema.proofs.SchemaNames.{closed_under_names, known_names}
 use Rattle.cedar_schema.proofs.schema.ValidatorSchema.try_validate.Goals as goal
+use Rattle.cedar_schema.specs.Words.{ClosesSchema, PlainSchema, schema_of}
 
 pub returns-in_err-entity_types-clause-fault : goal.returns-in_err-entity_types-clause-fault
 returns-in_err-entity_types-clause-fault c =

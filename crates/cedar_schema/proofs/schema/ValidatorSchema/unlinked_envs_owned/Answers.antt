@@ -1,7 +1,7 @@
 use Rattle.std.proofs.Common.{map}
-use Rattle.cedar_schema.specs.Words.{owned_environment, schema_of}
-use Rattle.cedar_declaration_laws.proofs.MereLemmas.{known_environments}
 use Rattle.cedar_schema.proofs.schema.ValidatorSchema.unlinked_envs_owned.Goals as goal
+use Rattle.cedar_schema.specs.Words.{owned_environment, schema_of}
+use Rattle.cedar_schema_laws.proofs.MereLemmas.{known_environments}
 
 pub returns : goal.returns
 returns c =

@@ -1,10 +1,10 @@
 use Rattle.std.proofs.Common.{ap, subst, sym, ◌∙◌}
-use Rattle.cedar_schema_elements.proofs.SetLemmas.{equal-uid, SameItems-uids}
 use Rattle.cedar_schema_elements.proofs.ActionEquality.{same_kind}
+use Rattle.cedar_schema_elements.proofs.SetLemmas.{equal-uid, SameItems-uids}
+use Rattle.cedar_schema_elements.proofs.action_id.ValidatorActionId.clone.Goals as goal
 use Rattle.cedar_schema_elements.specs.ActionKind.{plain_kind}
 use Rattle.cedar_schema_elements.specs.Words.{SameActionKind}
 use Rattle.cedar_schema_elements.specs.declared.action_id.ActionParts.{ActionParts}
-use Rattle.cedar_schema_elements.proofs.action_id.ValidatorActionId.clone.Goals as goal
 
 pub copied-requires-clause-equal : goal.copied-requires-clause-equal
 copied-requires-clause-equal c item answer ran = equal-uid item ran.shown.now answer ran.shows ran.says.met.0

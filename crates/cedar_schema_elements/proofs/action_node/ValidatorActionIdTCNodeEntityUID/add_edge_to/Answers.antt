@@ -1,9 +1,9 @@
 use Rattle.std.proofs.Common.{◌||◌, ap, ◌∙◌}
 use Rattle.std.specs.HashSet.{contains}
-use Rattle.cedar_below.specs.contracts.entity_uid.EntityUIDPartialEq.TheImpl as uid_eq
+use Rattle.cedar_ast.specs.contracts.entity_uid.EntityUIDPartialEq.TheImpl as uid_eq
 use Rattle.cedar_schema_elements.proofs.SetLemmas.{cond-first}
-use Rattle.cedar_schema_elements.specs.declared.action_id.ActionParts.{ActionParts}
 use Rattle.cedar_schema_elements.proofs.action_node.ValidatorActionIdTCNodeEntityUID.add_edge_to.Goals as goal
+use Rattle.cedar_schema_elements.specs.declared.action_id.ActionParts.{ActionParts}
 
 pub returns-clause-added : goal.returns-clause-added
 returns-clause-added c other =

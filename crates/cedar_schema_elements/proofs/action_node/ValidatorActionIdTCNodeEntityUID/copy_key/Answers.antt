@@ -1,9 +1,9 @@
 use Rattle.std.proofs.Common.{◌≡◌, IsTrue, IfOk, Result, Ok, Err, sym, ◌∙◌}
 use Rattle.std.proofs.lemmas.Result.{IfOk-weaker}
-use Rattle.cedar_below.proofs.Uids.{entity_uid_eq-same}
-use Rattle.cedar_schema_elements.specs.Words.{EntityUID, uid_of}
-use Rattle.cedar_below.specs.contracts.entity_uid.EntityUIDPartialEq.TheImpl as uid_eq
+use Rattle.cedar_ast.proofs.Uids.{entity_uid_eq-same}
+use Rattle.cedar_ast.specs.contracts.entity_uid.EntityUIDPartialEq.TheImpl as uid_eq
 use Rattle.cedar_schema_elements.proofs.action_node.ValidatorActionIdTCNodeEntityUID.copy_key.Goals as goal
+use Rattle.cedar_schema_elements.specs.Words.{EntityUID, uid_of}
 
 -- a copy of the same uid is equal
 equal_copy : {E : Type 0} (key : EntityUID) (result : Result EntityUID E)

@@ -1,5 +1,5 @@
-use Rattle.cedar_types.proofs.MemberLemmas.{list_any-names}
 use Rattle.cedar_schema_elements.proofs.apply_spec.ValidatorApplySpec+EntityType.is_applicable_principal_type.Goals as goal
+use Rattle.cedar_types.proofs.MemberLemmas.{list_any-names}
 
 pub returns : goal.returns
 returns c = rw c.contains.ensures (list_any-names c.args.ty.now c.args.self.now.principals.keys)

@@ -1,6 +1,6 @@
 use Rattle.std.proofs.Common.{◌≡◌, [], refl, ap, ◌∙◌, sym}
-use Rattle.cedar_schema_elements.specs.Words.{Fields, end, field, field_names, kind_fields, plain_kind}
 use Rattle.cedar_schema_elements.proofs.entity_type.ValidatorEntityType.attributes.Goals as goal
+use Rattle.cedar_schema_elements.specs.Words.{Fields, end, field, field_names, kind_fields, plain_kind}
 
 -- attributes without names are none
 end-nameless : (fields : Fields) → field_names fields ≡ [] → fields ≡ end

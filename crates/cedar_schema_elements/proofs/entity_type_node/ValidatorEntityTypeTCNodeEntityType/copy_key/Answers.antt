@@ -1,9 +1,9 @@
 use Rattle.std.proofs.Common.{◌≡◌, IsTrue, IfOk, Result, Ok, Err, sym, ◌∙◌}
 use Rattle.std.proofs.lemmas.Result.{IfOk-weaker}
-use Rattle.cedar_below.proofs.Names.{entity_type_eq-same}
-use Rattle.cedar_schema_elements.specs.Words.{EntityType, type_name}
-use Rattle.cedar_below.specs.contracts.entity_type.EntityTypePartialEq.TheImpl as entity_type_eq
+use Rattle.cedar_ast.proofs.Names.{entity_type_eq-same}
+use Rattle.cedar_ast.specs.contracts.entity_type.EntityTypePartialEq.TheImpl as entity_type_eq
 use Rattle.cedar_schema_elements.proofs.entity_type_node.ValidatorEntityTypeTCNodeEntityType.copy_key.Goals as goal
+use Rattle.cedar_schema_elements.specs.Words.{EntityType, type_name}
 
 -- a copy of the same name is equal
 equal_copy : {E : Type 0} (key : EntityType) (result : Result EntityType E) → IfOk result (λ copy. type_name copy ≡ type_name key)

@@ -1,9 +1,9 @@
 use Rattle.std.proofs.Common.{List, subst, length}
 use Rattle.std.specs.List.Sorted.{IsBinarySearchResult, IsSearchInRange}
-use Rattle.cedar_below.specs.contracts.entity_type.EntityTypeOrd.TheImpl as entity_type_ord
-use Rattle.cedar_types.proofs.UnionSteps.{searched-Decides}
-use Rattle.cedar_schema_elements.specs.Words.{EntityType, set_types}
+use Rattle.cedar_ast.specs.contracts.entity_type.EntityTypeOrd.TheImpl as entity_type_ord
 use Rattle.cedar_schema_elements.proofs.type_set.TypeSet.contains.Goals as goal
+use Rattle.cedar_schema_elements.specs.Words.{EntityType, set_types}
+use Rattle.cedar_types.proofs.UnionSteps.{searched-Decides}
 
 pub returns : goal.returns
 returns c =

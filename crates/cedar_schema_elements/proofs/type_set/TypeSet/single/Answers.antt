@@ -1,7 +1,7 @@
 use Rattle.std.proofs.Common.{◌≡◌, ap, ◌∙◌, [], ◌∷◌, map, ◌++◌}
-use Rattle.cedar_types.proofs.UnionLemmas.{IsStrictlySortedBy-one}
-use Rattle.cedar_schema_elements.specs.Words.{type_name}
 use Rattle.cedar_schema_elements.proofs.type_set.TypeSet.single.Goals as goal
+use Rattle.cedar_schema_elements.specs.Words.{type_name}
+use Rattle.cedar_types.proofs.UnionLemmas.{IsStrictlySortedBy-one}
 
 pub invariant_of-result : goal.invariant_of-result
 invariant_of-result c =

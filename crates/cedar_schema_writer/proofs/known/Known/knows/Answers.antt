@@ -1,9 +1,9 @@
 use Rattle.std.proofs.Common.{map, sym, ◌∙◌, inl, inr}
 use Rattle.std.proofs.lemmas.Bool.{false≢true}
 use Rattle.std.proofs.lemmas.List.Elements.{Contains-append_cases, Contains-append_left, Contains-append_right}
+use Rattle.cedar_schema_writer.proofs.known.Known.knows.Goals as goal
 use Rattle.cedar_schema_writer.specs.Words.{PlainName, SchemaEntityType, known_schema, type_name}
 use Rattle.cedar_types.proofs.MemberLemmas.{list_any-names}
-use Rattle.cedar_schema_writer.proofs.known.Known.knows.Goals as goal
 
 pub returns-then-has_entity_type : goal.returns-then-has_entity_type
 returns-then-has_entity_type c = (

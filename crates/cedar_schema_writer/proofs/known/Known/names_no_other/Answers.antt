@@ -1,7 +1,7 @@
 use Rattle.std.proofs.Common.{◌≡◌, [], Some, ap, ◌∙◌, Contains}
-use Rattle.cedar_schema_writer.specs.Words.{NamesNoOther, PlainName, known_names, name_within, plain_name, plain_namespace, type_name}
 use Rattle.cedar_schema_writer.proofs.NameLemmas.{answered-not, no_other-within}
 use Rattle.cedar_schema_writer.proofs.known.Known.names_no_other.Goals as goal
+use Rattle.cedar_schema_writer.specs.Words.{NamesNoOther, PlainName, known_names, name_within, plain_name, plain_namespace, type_name}
 
 pub returns-in_ok-other-in-Some : goal.returns-in_ok-other-in-Some
 returns-in_ok-other-in-Some c =

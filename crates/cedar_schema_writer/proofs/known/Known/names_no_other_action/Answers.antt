@@ -1,7 +1,7 @@
 use Rattle.std.proofs.Common.{◌≡◌, [], Some, ap, sym, ◌∙◌, Contains}
-use Rattle.cedar_schema_writer.specs.Words.{NamesNoOtherAction, PlainName, PlainUid, Text, known_names, name_within, plain_name, plain_namespace, uid_of}
 use Rattle.cedar_schema_writer.proofs.NameLemmas.{answered-not, no_other_action-within}
 use Rattle.cedar_schema_writer.proofs.known.Known.names_no_other_action.Goals as goal
+use Rattle.cedar_schema_writer.specs.Words.{NamesNoOtherAction, PlainName, PlainUid, Text, known_names, name_within, plain_name, plain_namespace, uid_of}
 
 pub returns-in_ok-clone-in-Some : goal.returns-in_ok-clone-in-Some
 returns-in_ok-clone-in-Some c =

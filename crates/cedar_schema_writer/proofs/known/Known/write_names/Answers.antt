@@ -1,9 +1,9 @@
 use Rattle.std.proofs.Common.{[], ◌∷◌, ap, map}
 use Rattle.std.proofs.lemmas.List.{map-append}
-use Rattle.cedar_schema_writer.specs.Words.{NamesNoOther, PlainName, known_names, plain_namespace, raw_name, type_name}
 use Rattle.cedar_schema_writer.proofs.Refusals.{refusal_passed}
 use Rattle.cedar_schema_writer.proofs.Written.{each_sound, written_all, written_here, written_more, written_none}
 use Rattle.cedar_schema_writer.proofs.known.Known.write_names.Goals as goal
+use Rattle.cedar_schema_writer.specs.Words.{NamesNoOther, PlainName, known_names, plain_namespace, raw_name, type_name}
 
 -- at first no name is written
 pub loop-name-init : goal.loop-name-init

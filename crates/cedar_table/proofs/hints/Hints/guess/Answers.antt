@@ -1,6 +1,6 @@
 use Rattle.std.proofs.Common.{IfNone, ℕ, subst₂}
-use Rattle.cedar_table.specs.Hints.{LeadsTo}
 use Rattle.cedar_table.proofs.hints.Hints.guess.Goals as goal
+use Rattle.cedar_table.specs.Hints.{LeadsTo}
 
 pub returns-clause-lacking : goal.returns-clause-lacking
 returns-clause-lacking g c = subst₂ (λ rows hash. IfNone c.place_hinted.result ((place : ℕ) → ¬ LeadsTo rows hash place))

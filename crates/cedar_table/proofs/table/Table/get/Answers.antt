@@ -1,7 +1,7 @@
 use Rattle.std.proofs.Common.{Some, ap, sym, ◌∙◌}
-use Rattle.cedar_table.specs.Words.{get_by, option_copied}
 use Rattle.cedar_table.proofs.ColumnLemmas.{found, not_found}
 use Rattle.cedar_table.proofs.table.Table.get.Goals as goal
+use Rattle.cedar_table.specs.Words.{get_by, option_copied}
 
 pub returns : goal.returns
 returns g c = record {

@@ -1,6 +1,6 @@
 use Rattle.std.proofs.Common.{◌∙◌, IfNone, List, subst, ℕ}
-use Rattle.cedar_table.specs.StandsAt.{KeyStandsAt}
 use Rattle.cedar_table.proofs.table_keys.TableKeys.place.Goals as goal
+use Rattle.cedar_table.specs.StandsAt.{KeyStandsAt}
 
 pub returns-clause-lacking : goal.returns-clause-lacking
 returns-clause-lacking g c =

@@ -1,6 +1,6 @@
 use Rattle.cedar_types.proofs.FieldLemmas.{HoldsLast-made, KeepsLast-made}
-use Rattle.cedar_types.specs.Words.{IsSortedByName-fields}
 use Rattle.cedar_types.proofs.attributes.Attributes.from_entries.Goals as goal
+use Rattle.cedar_types.specs.Words.{IsSortedByName-fields}
 
 pub returns-clause-attributes : goal.returns-clause-attributes
 returns-clause-attributes c =

@@ -1,8 +1,8 @@
 use Rattle.std.proofs.Common.{ap, ◌∙◌}
 use Rattle.std.specs.Option.{option_map}
-use Rattle.cedar_types.specs.Words.{fields_from, fields_of-pairs, located, plain_attributes, value_at}
 use Rattle.cedar_types.proofs.FieldLemmas.{pairs_of-made}
 use Rattle.cedar_types.proofs.attributes.Attributes.from_sorted_by_name.Goals as goal
+use Rattle.cedar_types.specs.Words.{fields_from, fields_of-pairs, located, plain_attributes, value_at}
 
 pub returns-clause-attributes : goal.returns-clause-attributes
 returns-clause-attributes c =

@@ -1,8 +1,8 @@
 use Rattle.std.proofs.Common.{ap, sym, ◌∙◌}
 use Rattle.std.specs.Option.{option_map}
-use Rattle.cedar_types.specs.Words.{attribute_of, located, value_at}
 use Rattle.cedar_types.proofs.FieldLemmas.{field_at-pairs, length-fields}
 use Rattle.cedar_types.proofs.attributes.Attributes.get_attr_counted.Goals as goal
+use Rattle.cedar_types.specs.Words.{attribute_of, located, value_at}
 
 pub returns-clause-attribute : goal.returns-clause-attribute
 returns-clause-attribute c =

@@ -1,6 +1,6 @@
 use Rattle.std.proofs.Common.{ap, sym, ◌∙◌}
-use Rattle.cedar_types.specs.Words.{IsSortedByName-fields, fields_from, fields_of-pairs, plain_attributes}
 use Rattle.cedar_types.proofs.attributes.Attributes.iter.Goals as goal
+use Rattle.cedar_types.specs.Words.{IsSortedByName-fields, fields_from, fields_of-pairs, plain_attributes}
 
 pub returns-clause-attributes : goal.returns-clause-attributes
 returns-clause-attributes c =

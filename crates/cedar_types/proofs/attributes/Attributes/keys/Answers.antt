@@ -1,8 +1,8 @@
 use Rattle.std.proofs.Common.{ap, sym, ◌∙◌, map, string_bytes}
 use Rattle.std.proofs.lemmas.Simd.{map-map}
 use Rattle.std.specs.Map.{keys_of}
-use Rattle.cedar_types.specs.Layers.{IsSortedByName-fields, field_names-pairs}
 use Rattle.cedar_types.proofs.attributes.Attributes.keys.Goals as goal
+use Rattle.cedar_types.specs.Layers.{IsSortedByName-fields, field_names-pairs}
 
 pub returns-clause-names : goal.returns-clause-names
 returns-clause-names c =

@@ -1,9 +1,9 @@
 use Rattle.std.proofs.Common.{List, subst, length}
 use Rattle.std.specs.List.Sorted.{IsBinarySearchResult, IsSearchInRange}
-use Rattle.cedar_below.specs.contracts.entity_type.EntityTypeOrd.TheImpl as entity_type_ord
-use Rattle.cedar_types.specs.Words.{EntityType, lub_types}
+use Rattle.cedar_ast.specs.contracts.entity_type.EntityTypeOrd.TheImpl as entity_type_ord
 use Rattle.cedar_types.proofs.UnionSteps.{searched-Decides}
 use Rattle.cedar_types.proofs.entity_lub.EntityLUB.contains.Goals as goal
+use Rattle.cedar_types.specs.Words.{EntityType, lub_types}
 
 pub returns : goal.returns
 returns c =

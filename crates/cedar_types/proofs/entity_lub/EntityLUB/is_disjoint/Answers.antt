@@ -1,12 +1,12 @@
 use Rattle.std.proofs.Common.{sym, ◌∙◌, refl}
-use Rattle.std.proofs.lemmas.List.{take_all}
 use Rattle.std.proofs.lemmas.Bool.{false≢true}
-use Rattle.cedar_below.proofs.TreeLemmas.{drop-at}
-use Rattle.cedar_below.proofs.PlainNames.{name_cmp-total}
-use Rattle.cedar_types.specs.Words.{lub_names, lub_types, name_cmp, type_name}
+use Rattle.std.proofs.lemmas.List.{take_all}
+use Rattle.cedar_ast.proofs.PlainNames.{name_cmp-total}
+use Rattle.cedar_ast.proofs.TreeLemmas.{drop-at}
 use Rattle.cedar_name_map.proofs.RisingLemmas.{sought-Decides, sought-next}
 use Rattle.cedar_types.proofs.UnionLemmas.{AreDisjoint-more, Contains-names}
 use Rattle.cedar_types.proofs.entity_lub.EntityLUB.is_disjoint.Goals as goal
+use Rattle.cedar_types.specs.Words.{lub_names, lub_types, name_cmp, type_name}
 
 -- a type of both is against it
 pub returns-then-is_there : goal.returns-then-is_there

@@ -1,7 +1,7 @@
 use Rattle.std.proofs.Common.{map, take, drop}
-use Rattle.cedar_types.specs.Words.{AreDisjoint, lub_names, lub_types, name_cmp, type_name}
 use Rattle.cedar_name_map.proofs.RisingLemmas.{Ahead}
 use Rattle.cedar_types.proofs.entity_lub.EntityLUB.is_disjoint.Given as goal
+use Rattle.cedar_types.specs.Words.{AreDisjoint, lub_names, lub_types, name_cmp, type_name}
 
 abbrev pub invariant-loop-ty : goal.invariant-loop-ty
 invariant-loop-ty l =

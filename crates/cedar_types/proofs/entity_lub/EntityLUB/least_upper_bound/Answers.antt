@@ -1,8 +1,8 @@
 use Rattle.std.proofs.Common.{◌≡◌, ◌++◌, ap, inl, map, subst, sym, ◌∙◌}
 use Rattle.std.proofs.lemmas.Result.{IfOk-weaker}
-use Rattle.cedar_types.specs.Words.{IsUnionOf, lub_formed, lub_names, lub_types, type_name}
 use Rattle.cedar_types.proofs.MergedLemmas.{IsUnionOf-copied, nonempty_above}
 use Rattle.cedar_types.proofs.entity_lub.EntityLUB.least_upper_bound.Goals as goal
+use Rattle.cedar_types.specs.Words.{IsUnionOf, lub_formed, lub_names, lub_types, type_name}
 
 pub of_sorted-requires-clause-nonempty : goal.of_sorted-requires-clause-nonempty
 of_sorted-requires-clause-nonempty c none =

@@ -1,8 +1,8 @@
 use Rattle.std.proofs.Common.{◌≡◌, sym, ap, length, ◌∙◌}
 use Rattle.std.proofs.lemmas.Result.{IfOk-weaker}
-use Rattle.cedar_types.specs.Words.{lub_names, lub_types}
 use Rattle.cedar_types.proofs.UnionsAtOnce.{same_names-copied, same_names-kept, some-copied}
 use Rattle.cedar_types.proofs.entity_lub.EntityLUB.of_all.Goals as goal
+use Rattle.cedar_types.specs.Words.{lub_names, lub_types}
 
 pub of_sorted-requires-clause-nonempty : goal.of_sorted-requires-clause-nonempty
 of_sorted-requires-clause-nonempty c =

@@ -1,9 +1,9 @@
 use Rattle.std.proofs.Common.{refl}
 use Rattle.std.specs.declared.cmp.Ordering.TheVariants.{Less, Equal, Greater}
-use Rattle.cedar_types.specs.Words.{name_cmp, type_name}
 use Rattle.cedar_name_map.proofs.RisingLemmas.{Passed-next}
 use Rattle.cedar_types.proofs.UnionSteps.{order_at, stands_where_tied}
 use Rattle.cedar_types.proofs.entity_lub.EntityLUB.seek.Goals as goal
+use Rattle.cedar_types.specs.Words.{name_cmp, type_name}
 
 pub loop-at-preserved : goal.loop-at-preserved
 loop-at-preserved c =

@@ -1,5 +1,5 @@
 use Rattle.std.proofs.Common.{◌≡◌, ap, ◌∙◌, [], ◌∷◌, map, ◌++◌}
-use Rattle.cedar_below.specs.EntityType.{type_name}
+use Rattle.cedar_ast.specs.EntityType.{type_name}
 use Rattle.cedar_types.proofs.UnionLemmas.{IsStrictlySortedBy-one}
 use Rattle.cedar_types.proofs.entity_lub.EntityLUB.single_entity.Goals as goal
 

@@ -1,8 +1,8 @@
 use Rattle.std.proofs.Common.{◌≡◌, ap, sym, ◌∙◌, string_bytes}
 use Rattle.std.specs.declared.cmp.Ordering.TheVariants.{Less, Equal, Greater}
-use Rattle.cedar_types.specs.Words.{entries_left, text_cmp, value_at}
 use Rattle.cedar_types.proofs.EntriesLeftSteps.{IsPast-next, IsPast-found, IsPast-missed, IsPast-none, IsPast-passed, entries_left-first, entries_left-none, entries_left-next}
 use Rattle.cedar_types.proofs.entries_left.EntriesLeft.value_at.Goals as goal
+use Rattle.cedar_types.specs.Words.{entries_left, text_cmp, value_at}
 
 -- an entry of a name before is passed
 pub loop-self-preserved : goal.loop-self-preserved

@@ -1,7 +1,7 @@
 use Rattle.std.proofs.Common.{sym}
 use Rattle.cedar_type_rules.proofs.DisjointLemmas.{disjoint-unions}
-use Rattle.cedar_types.specs.Words.{lub_names, ty_of}
 use Rattle.cedar_types.proofs.types.Type.are_types_disjoint.Goals as goal
+use Rattle.cedar_types.specs.Words.{lub_names, ty_of}
 
 pub returns-in-Some-Some : goal.returns-in-Some-Some
 returns-in-Some-Some c =

@@ -1,6 +1,6 @@
 use Rattle.cedar_type_rules.proofs.StatedLemmas.{IsStated-with}
-use Rattle.cedar_types.specs.Words.{ty_of, value_trees}
 use Rattle.cedar_types.proofs.types.Type.is_stated.Goals as goal
+use Rattle.cedar_types.specs.Words.{ty_of, value_trees}
 
 pub returns-then-is_sampled-clause-stated : goal.returns-then-is_sampled-clause-stated
 returns-then-is_sampled-clause-stated c = λ yes.

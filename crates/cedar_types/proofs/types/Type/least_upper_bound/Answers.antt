@@ -1,7 +1,7 @@
 use Rattle.std.proofs.Common.{refl}
 use Rattle.cedar_types.proofs.KindJoins.{upper_joins}
-use Rattle.cedar_types.specs.Meaning.{ty_of}
 use Rattle.cedar_types.proofs.types.Type.least_upper_bound.Goals as goal
+use Rattle.cedar_types.specs.Meaning.{ty_of}
 
 pub returns-then-is_subtype-clause-join : goal.returns-then-is_subtype-clause-join
 returns-then-is_subtype-clause-join c =

@@ -1,8 +1,8 @@
 use Rattle.std.proofs.Common.{ap}
-use Rattle.cedar_validation.specs.Words.{kind_ty, lub_names}
 use Rattle.cedar_validation.proofs.MentionLemmas.{union_known}
 use Rattle.cedar_validation.proofs.Results.{on_ok}
 use Rattle.cedar_validation.proofs.known.Known.check_kind.Goals as goal
+use Rattle.cedar_validation.specs.Words.{kind_ty, lub_names}
 
 pub returns-in-Entity-clause-sound : goal.returns-in-Entity-clause-sound
 returns-in-Entity-clause-sound c =

@@ -2,9 +2,9 @@ use Rattle.std.proofs.Common.{ap, map, sym, ◌∙◌, inr}
 use Rattle.std.proofs.lemmas.Bool.{false≢true}
 use Rattle.std.proofs.lemmas.List.{nil_from_length}
 use Rattle.std.specs.Slice.Iter.{iter_rest}
-use Rattle.cedar_validation.specs.Words.{Knows, lub_names, type_name}
 use Rattle.cedar_validation.proofs.Checking.{checking_all, checking_here, checking_more, checking_none}
 use Rattle.cedar_validation.proofs.known.Known.check_union.Goals as goal
+use Rattle.cedar_validation.specs.Words.{Knows, lub_names, type_name}
 
 pub loop-name-init : goal.loop-name-init
 loop-name-init c =

@@ -1,8 +1,8 @@
 use Rattle.std.proofs.Common.{inr}
-use Rattle.cedar_validation.specs.Words.{action_of, ty_of}
 use Rattle.cedar_validation.proofs.MentionLemmas.{context_is, context_of}
 use Rattle.cedar_validation.proofs.Results.{on_err, on_ok}
 use Rattle.cedar_validation.proofs.mentions.ValidatorActionIdTyped.check_types.Goals as goal
+use Rattle.cedar_validation.specs.Words.{action_of, ty_of}
 
 pub returns-in-Some-clause-sound : goal.returns-in-Some-clause-sound
 returns-in-Some-clause-sound c =

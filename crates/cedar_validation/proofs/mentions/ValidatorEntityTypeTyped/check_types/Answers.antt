@@ -1,9 +1,9 @@
 use Rattle.std.proofs.Common.{◌≡◌, ◌⊎◌, Some, sym, ◌∙◌, inr}
 use Rattle.std.proofs.lemmas.Result.{err_from_is_err_and}
-use Rattle.cedar_validation.specs.Words.{IsTypeOfKind, IsUnknownIn, Ty, entity_type_of, fault_of, out_of_memory, ty_of}
 use Rattle.cedar_validation.proofs.MentionLemmas.{attributes_fault, kind_known, tags_of_kind}
 use Rattle.cedar_validation.proofs.Results.{on_err, on_ok}
 use Rattle.cedar_validation.proofs.mentions.ValidatorEntityTypeTyped.check_types.Goals as goal
+use Rattle.cedar_validation.specs.Words.{IsTypeOfKind, IsUnknownIn, Ty, entity_type_of, fault_of, out_of_memory, ty_of}
 
 pub returns-in_err-check_attributes-clause-fault : goal.returns-in_err-check_attributes-clause-fault
 returns-in_err-check_attributes-clause-fault c =

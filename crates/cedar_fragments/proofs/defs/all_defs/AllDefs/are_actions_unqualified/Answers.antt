@@ -1,7 +1,7 @@
 use Rattle.std.proofs.Common.{subst, ◌∙◌}
-use Rattle.cedar_fragments.specs.Words.{IsUnqualified, uid_of}
 use Rattle.cedar_fragments.proofs.ShadowLemmas.{PassedSoFar-more, passed_all}
 use Rattle.cedar_fragments.proofs.defs.all_defs.AllDefs.are_actions_unqualified.Goals as goal
+use Rattle.cedar_fragments.specs.Words.{IsUnqualified, uid_of}
 
 -- one more action has an unqualified type
 pub loop-uid-preserved : goal.loop-uid-preserved

@@ -1,8 +1,8 @@
 use Rattle.std.proofs.Common.{sym, subst, ◌∙◌, inr, Contains}
 use Rattle.std.proofs.lemmas.Bool.{false≢true}
-use Rattle.cedar_fragments.specs.Words.{IsPlainAction, IsUnqualified, PlainUid, ShadowsAction, Text, held_names, uid_of}
 use Rattle.cedar_fragments.proofs.ShadowLemmas.{ids_of, PassedSoFar-more, passed_all, passed_next, looked_up, not_looked_up, unqualified_is_not_shadowed, not_shadowed}
 use Rattle.cedar_fragments.proofs.defs.all_defs.AllDefs.check_actions.Goals as goal
+use Rattle.cedar_fragments.specs.Words.{IsPlainAction, IsUnqualified, PlainUid, ShadowsAction, Text, held_names, uid_of}
 
 -- where all actions have unqualified types none is shadowed
 pub returns-then-are_actions_unqualified-clause-none : goal.returns-then-are_actions_unqualified-clause-none

@@ -1,7 +1,7 @@
 use Rattle.std.specs.Prelude.{Contains}
-use Rattle.cedar_fragments.specs.Words.{PlainUid, ShadowsAction, held_names, uid_of}
 use Rattle.cedar_fragments.proofs.ShadowLemmas.{PassedSoFar}
 use Rattle.cedar_fragments.proofs.defs.all_defs.AllDefs.check_actions.Given as goal
+use Rattle.cedar_fragments.specs.Words.{PlainUid, ShadowsAction, held_names, uid_of}
 
 abbrev pub invariant-loop-uid : goal.invariant-loop-uid
 invariant-loop-uid l =

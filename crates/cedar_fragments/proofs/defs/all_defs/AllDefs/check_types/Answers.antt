@@ -1,7 +1,7 @@
 use Rattle.std.proofs.Common.{sym, subst, inr}
-use Rattle.cedar_fragments.specs.Words.{PlainName, ShadowsType, name_of}
 use Rattle.cedar_fragments.proofs.ShadowLemmas.{PassedSoFar-more, passed_all, passed_next}
 use Rattle.cedar_fragments.proofs.defs.all_defs.AllDefs.check_types.Goals as goal
+use Rattle.cedar_fragments.specs.Words.{PlainName, ShadowsType, name_of}
 
 pub returns-in-Some-found-clause-fault : goal.returns-in-Some-found-clause-fault
 returns-in-Some-found-clause-fault c =

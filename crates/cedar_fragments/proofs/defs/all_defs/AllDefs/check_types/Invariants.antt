@@ -1,7 +1,7 @@
-use Rattle.cedar_fragments.specs.Words.{PlainName, ShadowsType, held_names, name_of, type_names}
 use Rattle.std.specs.Prelude.{Contains}
 use Rattle.cedar_fragments.proofs.ShadowLemmas.{PassedSoFar}
 use Rattle.cedar_fragments.proofs.defs.all_defs.AllDefs.check_types.Given as goal
+use Rattle.cedar_fragments.specs.Words.{PlainName, ShadowsType, held_names, name_of, type_names}
 
 abbrev pub invariant-loop-name : goal.invariant-loop-name
 invariant-loop-name l =

@@ -1,6 +1,6 @@
-use Rattle.cedar_below.proofs.Uids.{entity_uid_ord-Equal}
-use Rattle.cedar_below.specs.EntityUID.{uid_of}
-use Rattle.cedar_below.specs.contracts.entity_uid.EntityUIDOrd.TheImpl as order
+use Rattle.cedar_ast.proofs.Uids.{entity_uid_ord-Equal}
+use Rattle.cedar_ast.specs.EntityUID.{uid_of}
+use Rattle.cedar_ast.specs.contracts.entity_uid.EntityUIDOrd.TheImpl as order
 use Rattle.cedar_fragments.proofs.SetLemmas.{stands_where}
 use Rattle.cedar_fragments.proofs.defs.all_defs.AllDefs.declared_action.Goals as goal
 

@@ -1,6 +1,6 @@
-use Rattle.cedar_below.proofs.Names.{internal_name_ord-Equal}
-use Rattle.cedar_below.specs.InternalName.{name_of}
-use Rattle.cedar_below.specs.contracts.internal_name.InternalNameOrd.TheImpl as order
+use Rattle.cedar_ast.proofs.Names.{internal_name_ord-Equal}
+use Rattle.cedar_ast.specs.InternalName.{name_of}
+use Rattle.cedar_ast.specs.contracts.internal_name.InternalNameOrd.TheImpl as order
 use Rattle.cedar_fragments.proofs.SetLemmas.{found-Decides}
 use Rattle.cedar_fragments.proofs.defs.all_defs.AllDefs.is_defined_as_entity.Goals as goal
 

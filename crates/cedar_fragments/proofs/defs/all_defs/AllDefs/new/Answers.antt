@@ -1,7 +1,7 @@
 use Rattle.std.proofs.lemmas.Result.{IfOk-weaker}
 use Rattle.cedar_fragments.proofs.NamesSoFar.{HoldsJust-through, fragments_next, fragments_all, just_these}
-use Rattle.cedar_fragments.specs.HeldNames.{held_names, listed_names, declared_names}
 use Rattle.cedar_fragments.proofs.defs.all_defs.AllDefs.new.Goals as goal
+use Rattle.cedar_fragments.specs.HeldNames.{held_names, listed_names, declared_names}
 
 pub loop-fragment-preserved : goal.loop-fragment-preserved
 loop-fragment-preserved g c =

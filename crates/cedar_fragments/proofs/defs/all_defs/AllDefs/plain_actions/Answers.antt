@@ -1,8 +1,8 @@
 use Rattle.std.proofs.Common.{sym, subst, ◌∙◌}
 use Rattle.std.proofs.lemmas.Bool.{false≢true}
-use Rattle.cedar_fragments.specs.Words.{IsUnqualified, uid_of}
 use Rattle.cedar_fragments.proofs.ShadowLemmas.{PlainSoFar-listed, PlainSoFar-passed, plain_listed}
 use Rattle.cedar_fragments.proofs.defs.all_defs.AllDefs.plain_actions.Goals as goal
+use Rattle.cedar_fragments.specs.Words.{IsUnqualified, uid_of}
 
 pub loop-uid-preserved-in_ok-put : goal.loop-uid-preserved-in_ok-put
 loop-uid-preserved-in_ok-put c =

@@ -1,7 +1,7 @@
 use Rattle.std.proofs.Common.{inl, inr}
 use Rattle.std.proofs.lemmas.List.Elements.{Contains-append_right, Contains-append_cases}
-use Rattle.cedar_fragments.specs.HeldNames.{held_names}
 use Rattle.cedar_fragments.proofs.defs.all_defs.AllDefs.rfc_70_shadowing_checks.Goals as goal
+use Rattle.cedar_fragments.specs.HeldNames.{held_names}
 
 pub check_types-requires-2 : goal.check_types-requires-2
 check_types-requires-2 c =

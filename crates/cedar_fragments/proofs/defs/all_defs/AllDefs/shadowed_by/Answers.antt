@@ -1,9 +1,9 @@
 use Rattle.std.proofs.Common.{map, ap, sym, ◌∙◌, inl, inr}
 use Rattle.std.proofs.lemmas.Bool.{false≢true}
 use Rattle.std.proofs.lemmas.List.Elements.{Contains-append_left, Contains-append_right, Contains-append_cases}
-use Rattle.cedar_fragments.specs.Words.{held_names, id_text, name_of}
 use Rattle.cedar_fragments.proofs.ShadowLemmas.{shadow_is}
 use Rattle.cedar_fragments.proofs.defs.all_defs.AllDefs.shadowed_by.Goals as goal
+use Rattle.cedar_fragments.specs.Words.{held_names, id_text, name_of}
 
 -- a common type of the unqualified name shadows the name
 pub returns-then-is_defined_as_common : goal.returns-then-is_defined_as_common

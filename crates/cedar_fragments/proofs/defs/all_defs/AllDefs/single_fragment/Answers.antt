@@ -1,7 +1,7 @@
 use Rattle.std.proofs.lemmas.Result.{IfOk-weaker}
 use Rattle.cedar_fragments.proofs.NamesSoFar.{HoldsJust-through, just_these}
-use Rattle.cedar_fragments.specs.HeldNames.{held_names, listed_names, fragment_names}
 use Rattle.cedar_fragments.proofs.defs.all_defs.AllDefs.single_fragment.Goals as goal
+use Rattle.cedar_fragments.specs.HeldNames.{held_names, listed_names, fragment_names}
 
 pub returns : goal.returns
 returns g c =

@@ -1,8 +1,8 @@
 use Rattle.std.proofs.Common.{sym, ◌∙◌, map}
 use Rattle.std.proofs.lemmas.Simd.{map-map}
-use Rattle.cedar_fragments.specs.Words.{name_of, uid_of}
 use Rattle.cedar_fragments.proofs.SetLemmas.{added_none, added_more, added_all}
 use Rattle.cedar_fragments.proofs.defs.all_defs.AllDefs.with_action_types.Goals as goal
+use Rattle.cedar_fragments.specs.Words.{name_of, uid_of}
 
 pub loop-uid-init : goal.loop-uid-init
 loop-uid-init c = added_none _ _ _ _ (sym c.into_iter-uid-iterator.ensures.into_iter_gives.0)

@@ -1,7 +1,7 @@
 use Rattle.std.proofs.Common.{map}
-use Rattle.cedar_fragments.specs.Words.{name_of, uid_of}
 use Rattle.cedar_fragments.proofs.SetLemmas.{AddedSoFar}
 use Rattle.cedar_fragments.proofs.defs.all_defs.AllDefs.with_action_types.Given as goal
+use Rattle.cedar_fragments.specs.Words.{name_of, uid_of}
 
 abbrev pub invariant-loop-uid : goal.invariant-loop-uid
 invariant-loop-uid l =

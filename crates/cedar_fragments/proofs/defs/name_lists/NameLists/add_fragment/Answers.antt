@@ -1,6 +1,6 @@
 use Rattle.cedar_fragments.proofs.NamesSoFar.{definitions_next}
-use Rattle.cedar_fragments.specs.HeldNames.{listed_names}
 use Rattle.cedar_fragments.proofs.defs.name_lists.NameLists.add_fragment.Goals as goal
+use Rattle.cedar_fragments.specs.HeldNames.{listed_names}
 
 pub loop-definition-preserved : goal.loop-definition-preserved
 loop-definition-preserved g c =

@@ -1,6 +1,6 @@
 use Rattle.std.proofs.Common.{take}
-use Rattle.cedar_fragments.specs.HeldNames.{listed_names, names_of_definitions, HoldsAlso}
 use Rattle.cedar_fragments.proofs.defs.name_lists.NameLists.add_fragment.Given as goal
+use Rattle.cedar_fragments.specs.HeldNames.{listed_names, names_of_definitions, HoldsAlso}
 
 abbrev pub invariant-loop-definition : goal.invariant-loop-definition
 invariant-loop-definition g l =

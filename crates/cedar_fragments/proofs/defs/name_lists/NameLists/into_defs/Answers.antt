@@ -1,10 +1,10 @@
-use Rattle.cedar_below.proofs.Names.{internal_name_ord-Equal}
-use Rattle.cedar_below.proofs.Uids.{entity_uid_ord-Equal}
-use Rattle.cedar_below.specs.contracts.entity_uid.EntityUIDOrd.TheImpl as uid_order
-use Rattle.cedar_below.specs.contracts.internal_name.InternalNameOrd.TheImpl as name_order
-use Rattle.cedar_fragments.specs.Words.{name_of, uid_of}
+use Rattle.cedar_ast.proofs.Names.{internal_name_ord-Equal}
+use Rattle.cedar_ast.proofs.Uids.{entity_uid_ord-Equal}
+use Rattle.cedar_ast.specs.contracts.entity_uid.EntityUIDOrd.TheImpl as uid_order
+use Rattle.cedar_ast.specs.contracts.internal_name.InternalNameOrd.TheImpl as name_order
 use Rattle.cedar_fragments.proofs.SetLemmas.{collected}
 use Rattle.cedar_fragments.proofs.defs.name_lists.NameLists.into_defs.Goals as goal
+use Rattle.cedar_fragments.specs.Words.{name_of, uid_of}
 
 pub returns : goal.returns
 returns c = record {

@@ -1,7 +1,7 @@
 use Rattle.std.proofs.Common.{List, IfOk, subst}
-use Rattle.cedar_fragments.specs.Words.{PlainName, held_names, name_of}
 use Rattle.cedar_fragments.proofs.WrittenNames.{IsFound}
 use Rattle.cedar_fragments.proofs.defs.written_name.ConditionalNameWrittenName.resolved_within.Goals as goal
+use Rattle.cedar_fragments.specs.Words.{PlainName, held_names, name_of}
 
 pub returns : goal.returns
 returns c =

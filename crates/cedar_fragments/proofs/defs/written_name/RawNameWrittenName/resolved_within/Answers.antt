@@ -1,10 +1,10 @@
 use Rattle.std.proofs.Common.{◌≡◌, List, [], ◌∷◌, IfOk, Some, refl, sym, subst, ◌∙◌}
 use Rattle.std.proofs.lemmas.Bool.{false≢true}
-use Rattle.cedar_fragments.specs.Words.{PlainName, held_names, id_text, name_of, name_within, namespace_name}
-use Rattle.cedar_names.specs.Reference.{possible_names}
-use Rattle.cedar_names.specs.Words.{raw_name}
 use Rattle.cedar_fragments.proofs.WrittenNames.{IsFound, answer_alone, with_path_alone, without_path_twice}
 use Rattle.cedar_fragments.proofs.defs.written_name.RawNameWrittenName.resolved_within.Goals as goal
+use Rattle.cedar_fragments.specs.Words.{PlainName, held_names, id_text, name_of, name_within, namespace_name}
+use Rattle.cedar_schema_ast.specs.Reference.{possible_names}
+use Rattle.cedar_schema_ast.specs.Words.{raw_name}
 
 pub returns-then-not-is_unqualified : goal.returns-then-not-is_unqualified
 returns-then-not-is_unqualified c =

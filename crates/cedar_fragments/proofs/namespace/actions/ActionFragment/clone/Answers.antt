@@ -1,8 +1,8 @@
 use Rattle.std.proofs.Common.{◌∷◌, ◌++◌, ap, ◌∙◌, false}
-use Rattle.cedar_below.proofs.ShownLemmas.{same_shown}
+use Rattle.cedar_ast.proofs.ShownLemmas.{same_shown}
 use Rattle.cedar_fragments.proofs.CopyLemmas.{same_flat}
-use Rattle.cedar_fragments.specs.Words.{fragment_parent, parent_locs}
 use Rattle.cedar_fragments.proofs.namespace.actions.ActionFragment.clone.Goals as goal
+use Rattle.cedar_fragments.specs.Words.{fragment_parent, parent_locs}
 
 pub returns : goal.returns
 returns g c = record {

@@ -1,7 +1,7 @@
 use Rattle.std.proofs.Common.{◌≡◌, List, [], ◌∷◌, Option, Some, map, ap, sym, subst, ◌∙◌, refl, Contains, string_bytes, arith, inl, inr}
-use Rattle.cedar_below.proofs.Lists.{Contains-cons_cases}
-use Rattle.cedar_fragments.specs.Words.{Entity, IsFirst, NamesNoAction, PlainName, Reference, Text, carried_action, conditional_reference, fragment_parent, held_names, names_of, namespace_name, uid_of}
+use Rattle.cedar_ast.proofs.Lists.{Contains-cons_cases}
 use Rattle.cedar_fragments.proofs.namespace.actions.ActionParent.named_within.Goals as goal
+use Rattle.cedar_fragments.specs.Words.{Entity, IsFirst, NamesNoAction, PlainName, Reference, Text, carried_action, conditional_reference, fragment_parent, held_names, names_of, namespace_name, uid_of}
 
 -- the action is the first of the possible names under which one is defined
 pub returns-in-Some-clause-named : goal.returns-in-Some-clause-named

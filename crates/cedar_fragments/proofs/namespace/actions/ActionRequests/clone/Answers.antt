@@ -1,8 +1,8 @@
 use Rattle.std.proofs.Common.{◌++◌}
-use Rattle.cedar_names.specs.ActionBody.{requests}
 use Rattle.cedar_fragments.proofs.CopyLemmas.{refer_same, locate_same}
-use Rattle.cedar_names.specs.declared.json_schema.reference_type.ReferenceType.TheVariants.{Entity as entity}
 use Rattle.cedar_fragments.proofs.namespace.actions.ActionRequests.clone.Goals as goal
+use Rattle.cedar_schema_ast.specs.ActionBody.{requests}
+use Rattle.cedar_schema_ast.specs.declared.json_schema.reference_type.ReferenceType.TheVariants.{Entity as entity}
 
 pub returns : goal.returns
 returns g c = record {

@@ -1,8 +1,8 @@
 use Rattle.std.proofs.Common.{ap, ◌∙◌}
-use Rattle.cedar_below.proofs.ShownLemmas.{same_shown}
+use Rattle.cedar_ast.proofs.ShownLemmas.{same_shown}
 use Rattle.cedar_fragments.proofs.CopyLemmas.{same_flat}
-use Rattle.cedar_fragments.specs.Words.{action_def_locs, action_fragment_declaration}
 use Rattle.cedar_fragments.proofs.namespace.actions.ActionsDef.clone.Goals as goal
+use Rattle.cedar_fragments.specs.Words.{action_def_locs, action_fragment_declaration}
 
 pub returns : goal.returns
 returns g c = record {

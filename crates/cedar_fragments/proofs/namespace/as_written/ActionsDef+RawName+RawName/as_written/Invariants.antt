@@ -1,7 +1,7 @@
 use Rattle.std.proofs.Common.{length, string_bytes}
-use Rattle.cedar_fragments.specs.Words.{IsSound, RawName, action, action_body, action_fragment_body, declared_action, namespace_name, raw_reference, uid_of}
 use Rattle.cedar_fragments.proofs.ListedFromEnd.{ListedFromEnd}
 use Rattle.cedar_fragments.proofs.namespace.as_written.ActionsDef+RawName+RawName.as_written.Given as goal
+use Rattle.cedar_fragments.specs.Words.{IsSound, RawName, action, action_body, action_fragment_body, declared_action, namespace_name, raw_reference, uid_of}
 
 abbrev pub invariant-loop-id : goal.invariant-loop-id
 invariant-loop-id l =

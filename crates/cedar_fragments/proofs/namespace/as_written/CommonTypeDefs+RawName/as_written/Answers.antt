@@ -1,8 +1,8 @@
 use Rattle.std.proofs.Common.{◌≡◌, ◌∙◌, ap, refl}
 use Rattle.cedar_fragments.proofs.DeclaredAsLemmas.{declared_as-within}
 use Rattle.cedar_fragments.proofs.ListedFromEnd.{ListedFromEnd-more, ListedFromEnd-none, none_left, same_from_end}
-use Rattle.cedar_fragments.specs.Words.{common_type, common_type_text, located_name, name_within, namespace_name, raw_reference, type_expr, RawName}
 use Rattle.cedar_fragments.proofs.namespace.as_written.CommonTypeDefs+RawName.as_written.Goals as goal
+use Rattle.cedar_fragments.specs.Words.{common_type, common_type_text, located_name, name_within, namespace_name, raw_reference, type_expr, RawName}
 
 -- at first no common type is converted
 pub loop-id-init : goal.loop-id-init

@@ -1,8 +1,8 @@
 use Rattle.std.proofs.Common.{length}
 use Rattle.std.specs.Prelude.{⊤}
-use Rattle.cedar_fragments.specs.Words.{RawName, common_type, common_type_text, declared_as, located_name, name_of, name_within, namespace_name, raw_reference, type_expr}
 use Rattle.cedar_fragments.proofs.ListedFromEnd.{ListedFromEnd}
 use Rattle.cedar_fragments.proofs.namespace.as_written.CommonTypeDefs+RawName.as_written.Given as goal
+use Rattle.cedar_fragments.specs.Words.{RawName, common_type, common_type_text, declared_as, located_name, name_of, name_within, namespace_name, raw_reference, type_expr}
 
 abbrev pub invariant-loop-id : goal.invariant-loop-id
 invariant-loop-id l =

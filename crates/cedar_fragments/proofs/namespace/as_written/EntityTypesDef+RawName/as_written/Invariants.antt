@@ -1,7 +1,7 @@
 use Rattle.std.proofs.Common.{length}
-use Rattle.cedar_fragments.specs.Words.{IsSound, RawName, declared_as, entity_type, fragment_body, namespace_name, raw_entity_body, raw_reference, type_name, unreserved_id_text}
 use Rattle.cedar_fragments.proofs.ListedFromEnd.{ListedFromEnd}
 use Rattle.cedar_fragments.proofs.namespace.as_written.EntityTypesDef+RawName.as_written.Given as goal
+use Rattle.cedar_fragments.specs.Words.{IsSound, RawName, declared_as, entity_type, fragment_body, namespace_name, raw_entity_body, raw_reference, type_name, unreserved_id_text}
 
 abbrev pub invariant-loop-id : goal.invariant-loop-id
 invariant-loop-id l =

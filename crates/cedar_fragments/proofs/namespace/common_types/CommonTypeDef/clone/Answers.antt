@@ -1,6 +1,6 @@
 use Rattle.std.proofs.Common.{◌∷◌, rules}
-use Rattle.cedar_fragments.specs.Words.{common_type, declared_as}
 use Rattle.cedar_fragments.proofs.namespace.common_types.CommonTypeDef.clone.Goals as goal
+use Rattle.cedar_fragments.specs.Words.{common_type, declared_as}
 
 pub returns : goal.returns
 returns g c = record {

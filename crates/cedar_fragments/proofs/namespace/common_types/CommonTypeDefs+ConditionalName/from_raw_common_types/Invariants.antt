@@ -1,6 +1,6 @@
 use Rattle.std.proofs.Common.{◌≡◌, map}
-use Rattle.cedar_fragments.specs.Words.{ConditionalName, RawName, common_declarations, common_type, declared_as, located_common_names, name_of, namespace_name, positional_expr, raw_reference, written_common_names}
 use Rattle.cedar_fragments.proofs.namespace.common_types.CommonTypeDefs+ConditionalName.from_raw_common_types.Given as goal
+use Rattle.cedar_fragments.specs.Words.{ConditionalName, RawName, common_declarations, common_type, declared_as, located_common_names, name_of, namespace_name, positional_expr, raw_reference, written_common_names}
 
 abbrev pub invariant-loop-id : goal.invariant-loop-id
 invariant-loop-id l =

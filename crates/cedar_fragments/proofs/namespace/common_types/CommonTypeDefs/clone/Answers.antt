@@ -1,8 +1,8 @@
 use Rattle.std.proofs.Common.{ap, ◌∙◌}
-use Rattle.cedar_below.proofs.ShownLemmas.{same_shown}
+use Rattle.cedar_ast.proofs.ShownLemmas.{same_shown}
 use Rattle.cedar_fragments.proofs.CopyLemmas.{same_flat}
-use Rattle.cedar_fragments.specs.Words.{CommonTypeDef, LocatedName, common_type_declaration, common_type_locs, located_name}
 use Rattle.cedar_fragments.proofs.namespace.common_types.CommonTypeDefs.clone.Goals as goal
+use Rattle.cedar_fragments.specs.Words.{CommonTypeDef, LocatedName, common_type_declaration, common_type_locs, located_name}
 
 pub returns : goal.returns
 returns g c =

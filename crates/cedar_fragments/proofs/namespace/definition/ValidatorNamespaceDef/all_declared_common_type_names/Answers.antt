@@ -1,6 +1,6 @@
 use Rattle.std.proofs.Common.{◌∙◌, ap, map}
 use Rattle.std.proofs.lemmas.Simd.{map-map}
-use Rattle.cedar_below.specs.InternalName.{name_of}
+use Rattle.cedar_ast.specs.InternalName.{name_of}
 use Rattle.cedar_fragments.proofs.namespace.definition.ValidatorNamespaceDef.all_declared_common_type_names.Goals as goal
 
 pub returns : goal.returns

@@ -1,8 +1,8 @@
 use Rattle.std.proofs.Common.{◌++◌, ap, sym, ◌∙◌}
 use Rattle.cedar_fragments.proofs.CopyLemmas.{refer_same, locate_same}
-use Rattle.cedar_fragments.specs.Words.{entity_fragment_locs, external, fragment_body, standard}
-use Rattle.cedar_names.specs.declared.json_schema.reference_type.ReferenceType.TheVariants.{Entity as entity}
 use Rattle.cedar_fragments.proofs.namespace.entity_types.EntityTypeFragment.clone.Goals as goal
+use Rattle.cedar_fragments.specs.Words.{entity_fragment_locs, external, fragment_body, standard}
+use Rattle.cedar_schema_ast.specs.declared.json_schema.reference_type.ReferenceType.TheVariants.{Entity as entity}
 
 pub returns-in_ok-copied_tags-in-Standard : goal.returns-in_ok-copied_tags-in-Standard
 returns-in_ok-copied_tags-in-Standard g c =

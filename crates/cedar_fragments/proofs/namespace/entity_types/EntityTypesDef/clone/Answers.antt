@@ -1,8 +1,8 @@
 use Rattle.std.proofs.Common.{ap, ◌∙◌}
-use Rattle.cedar_below.proofs.ShownLemmas.{same_shown}
+use Rattle.cedar_ast.proofs.ShownLemmas.{same_shown}
 use Rattle.cedar_fragments.proofs.CopyLemmas.{same_flat}
-use Rattle.cedar_fragments.specs.Words.{entity_type_declaration, entity_type_locs}
 use Rattle.cedar_fragments.proofs.namespace.entity_types.EntityTypesDef.clone.Goals as goal
+use Rattle.cedar_fragments.specs.Words.{entity_type_declaration, entity_type_locs}
 
 pub returns : goal.returns
 returns g c = record {

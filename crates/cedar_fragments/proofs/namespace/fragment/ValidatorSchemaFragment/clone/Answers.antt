@@ -1,8 +1,8 @@
 use Rattle.std.proofs.Common.{ap, ◌∙◌}
-use Rattle.cedar_below.proofs.ShownLemmas.{same_shown}
+use Rattle.cedar_ast.proofs.ShownLemmas.{same_shown}
 use Rattle.cedar_fragments.proofs.CopyLemmas.{same_flat, same_namespace}
-use Rattle.cedar_fragments.specs.Words.{definition_common_names, definition_declarations, definition_loc, definition_locs, definition_name, definition_namespace, definition_namespaces, named_namespace}
 use Rattle.cedar_fragments.proofs.namespace.fragment.ValidatorSchemaFragment.clone.Goals as goal
+use Rattle.cedar_fragments.specs.Words.{definition_common_names, definition_declarations, definition_loc, definition_locs, definition_name, definition_namespace, definition_namespaces, named_namespace}
 
 -- each copy declares what its original declares, also definition by definition, and keeps the
 -- locations, the namespaces and the names of the common types

@@ -1,7 +1,7 @@
 use Rattle.std.proofs.Common.{◌∙◌, ap, map}
 use Rattle.std.proofs.lemmas.Simd.{map-map}
 use Rattle.std.specs.Option.{option_map}
-use Rattle.cedar_below.specs.InternalName.{name_of}
+use Rattle.cedar_ast.specs.InternalName.{name_of}
 use Rattle.cedar_fragments.proofs.namespace.fragment.ValidatorSchemaFragment.namespaces.Goals as goal
 
 pub returns : goal.returns

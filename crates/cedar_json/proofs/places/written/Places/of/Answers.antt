@@ -1,6 +1,6 @@
 use Rattle.cedar_json.proofs.TableLemmas.{IsUnderWay-next}
-use Rattle.cedar_json.specs.Words.{definition_marks, fragment_marks, namespace_of}
 use Rattle.cedar_json.proofs.places.written.Places.of.Goals as goal
+use Rattle.cedar_json.specs.Words.{definition_marks, fragment_marks, namespace_of}
 
 -- what one more namespace declares is listed
 pub loop-namespace-preserved : goal.loop-namespace-preserved

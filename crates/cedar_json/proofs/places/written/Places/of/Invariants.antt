@@ -1,6 +1,6 @@
 use Rattle.cedar_json.proofs.TableLemmas.{IsUnderWay}
-use Rattle.cedar_json.specs.Words.{definition_marks, fragment_marks, namespace_of}
 use Rattle.cedar_json.proofs.places.written.Places.of.Given as goal
+use Rattle.cedar_json.specs.Words.{definition_marks, fragment_marks, namespace_of}
 
 abbrev pub invariant-loop-namespace : goal.invariant-loop-namespace
 invariant-loop-namespace l =

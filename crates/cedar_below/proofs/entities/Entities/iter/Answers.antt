@@ -1,5 +1,0 @@
-use Rattle.cedar_below.proofs.Collected.{uids_ordered}
-use Rattle.cedar_below.proofs.entities.Entities.iter.Goals as goal
-
-pub returns-clause-ordered : goal.returns-clause-ordered
-returns-clause-ordered c = uids_ordered c.args.self.now.entities c.args.self.now.keyed c.values.ensures.ordered

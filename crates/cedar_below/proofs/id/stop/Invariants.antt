@@ -1,7 +1,0 @@
-use Rattle.std.proofs.Common.{◌≡◌, true, take}
-use Rattle.std.specs.List.{list_all}
-use Rattle.cedar_below.specs.Identifier.{is_identifier_byte}
-use Rattle.cedar_below.proofs.id.stop.Given as goal
-
-abbrev pub invariant-loop-at : goal.invariant-loop-at
-invariant-loop-at l = list_all is_identifier_byte (take l.at l.text) ≡ true

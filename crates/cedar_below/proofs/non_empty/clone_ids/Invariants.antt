@@ -1,6 +1,0 @@
-use Rattle.std.proofs.Common.{◌≡◌, map, take}
-use Rattle.cedar_below.specs.Eid.{eid_text}
-use Rattle.cedar_below.proofs.non_empty.clone_ids.Given as goal
-
-abbrev pub invariant-loop-id : goal.invariant-loop-id
-invariant-loop-id l = map eid_text l.copy.items ≡ map eid_text (take l.id-index l.id-items)

@@ -1,0 +1,312 @@
+//! What each command gives, by its words.
+
+ghost use Rattle.std.specs.Prelude.{◌≡◌, IfOk};
+
+use crate::answers::{
+    Answer, AnswerKind, Expected, counts, environment_lines, incomplete, type_named, uid_named,
+};
+use crate::attribute_types::{action_answer, entity_answer};
+use crate::building::{BuiltFiles, built};
+use crate::comparing::{ReportOptions, compare_files};
+use crate::files::FileAccess;
+use crate::finding::{Finding, Source};
+use crate::graph::graph;
+use crate::laying_out::format;
+use crate::limits::Walk;
+use crate::linking::{is_read, link};
+use crate::outcome::{Outcome, OutputFormat, refused};
+use crate::reading::well_formed;
+use crate::repeating::Repeated;
+use crate::status::Status;
+use crate::text::Text;
+use cedar_ast::{EntityType, EntityUID, M, Memory};
+use cedar_schema::ValidatorSchema;
+use clap::ArgMatches;
+use schema_lines::escaped_lines_of;
+use std::alloc::Global;
+use std::fmt::Display;
+
+/// How findings are asked to be reported.
+fn output_format(matches: &ArgMatches<'_>) -> OutputFormat {
+    if matches.get_flag("json") {
+        OutputFormat::Json
+    } else {
+        OutputFormat::Lines
+    }
+}
+
+/// A line for each file, that it is well formed.
+fn well_formed_lines(alloc: Global, sources: &[Source]) -> M<Outcome> {
+    let mut text = Text::new(alloc);
+    for source in sources {
+        text.push_escaped(source.name.as_str());
+        text.push_str(": ok\n");
+    }
+    Ok(Outcome::done(alloc, text.whole()?))
+}
+
+/// Reads each file, and says that each is well formed.
+fn check<F: FileAccess>(
+    alloc: Global,
+    files: &mut F,
+    names: &[&str],
+    format: OutputFormat,
+) -> M<Outcome> {
+    match well_formed(alloc, files, names, format) {
+        Ok(read) => well_formed_lines(alloc, &read.sources),
+        Err(report) => report,
+    }
+}
+
+/// What is reported of words that don't go together or aren't what they have to be.
+fn usage<T: Display + Drop>(alloc: Global, why: T) -> M<Outcome>
+    ensures { IfOk result (λ outcome. outcome.status ≡ Status.Usage) }
+{
+    let mut notes = Text::new(alloc);
+    notes.push_str("error: ");
+    notes.write_escaped(why);
+    notes.push('\n');
+    Ok(Outcome::noted(alloc, notes.whole()?, Status::Usage))
+}
+
+/// The outcome of a question.
+fn answered(alloc: Global, format: OutputFormat, sources: &[Source], answer: Answer) -> M<Outcome> {
+    let text = answer.text?;
+    match answer.kind {
+        AnswerKind::Lines => Ok(Outcome::done(alloc, text)),
+        AnswerKind::BadWord => usage(alloc, text),
+        AnswerKind::Nothing => {
+            refused(
+                alloc,
+                format,
+                sources,
+                Finding::general("NotDeclared", text),
+            )
+        }
+    }
+}
+
+/// The counts of a schema, or what is external where that is refused.
+fn build(
+    alloc: Global,
+    format: OutputFormat,
+    matches: &ArgMatches<'_>,
+    it: &BuiltFiles,
+) -> M<Outcome> {
+    if !matches.get_flag("complete") {
+        return counts(alloc, &it.schema);
+    }
+    match incomplete(alloc, "", &it.schema) {
+        Ok(Some(finding)) => refused(alloc, format, &it.sources, finding),
+        Ok(None) => counts(alloc, &it.schema),
+        Err(Memory) => Err(Memory),
+    }
+}
+
+/// The type that is asked for.
+fn type_answer(alloc: Global, matches: &ArgMatches<'_>, schema: &ValidatorSchema) -> Answer {
+    let attributes = matches.get_strs("attribute").unwrap_or(&[]);
+    if let Some(name) = matches.get_str("entity") {
+        return entity_answer(alloc, schema, name, attributes, matches.get_flag("tags"));
+    }
+    let action = matches.get_str("action").unwrap_or("");
+    action_answer(alloc, schema, action, attributes)
+}
+
+/// The entity type that an option names, if it is given.
+fn type_given(
+    alloc: Global,
+    matches: &ArgMatches<'_>,
+    id: &str,
+) -> Result<Option<EntityType>, Answer> {
+    match matches.get_str(id) {
+        Some(word) => Ok(Some(type_named(alloc, word)?)),
+        None => Ok(None),
+    }
+}
+
+/// The action that an option names, if it is given.
+fn action_given(alloc: Global, matches: &ArgMatches<'_>) -> Result<Option<EntityUID>, Answer> {
+    match matches.get_str("action") {
+        Some(word) => Ok(Some(uid_named(alloc, word)?)),
+        None => Ok(None),
+    }
+}
+
+/// What environments are asked for.
+fn wanted(alloc: Global, matches: &ArgMatches<'_>) -> Result<Expected, Answer> {
+    let principal = type_given(alloc, matches, "principal")?;
+    let resource = type_given(alloc, matches, "resource")?;
+    Ok(Expected {
+        principal,
+        action: action_given(alloc, matches)?,
+        resource,
+    })
+}
+
+/// The environments that are asked for.
+fn environments(alloc: Global, matches: &ArgMatches<'_>, schema: &ValidatorSchema) -> Answer {
+    match wanted(alloc, matches) {
+        Ok(wanted) => Answer::lines(environment_lines(alloc, schema, &wanted)),
+        Err(why) => why,
+    }
+}
+
+/// The answer to the question that a command asks of a schema.
+fn answer_of(
+    alloc: Global,
+    command: &str,
+    matches: &ArgMatches<'_>,
+    schema: &ValidatorSchema,
+) -> Answer {
+    match command {
+        "type" => type_answer(alloc, matches, schema),
+        "envs" => environments(alloc, matches, schema),
+        "graph" => Answer::lines(graph(alloc, schema)),
+        _ => Answer::lines(escaped_lines_of(alloc, schema)),
+    }
+}
+
+/// What a command gives over a schema.
+fn over_built(
+    alloc: Global,
+    command: &str,
+    matches: &ArgMatches<'_>,
+    it: &BuiltFiles,
+) -> M<Outcome> {
+    let format = output_format(matches);
+    if command == "build" {
+        return build(alloc, format, matches, it);
+    }
+    let answer = answer_of(alloc, command, matches, &it.schema);
+    answered(alloc, format, &it.sources, answer)
+}
+
+/// How a command goes over the types of a schema.
+fn walk_of(command: &str) -> Walk {
+    match command {
+        "build" | "envs" | "graph" => Walk::Shared,
+        _ => Walk::WrittenOut,
+    }
+}
+
+/// What a command gives over the schema that files declare.
+fn over_schema<F: FileAccess>(
+    alloc: Global,
+    files: &mut F,
+    command: &str,
+    matches: &ArgMatches<'_>,
+    names: &[&str],
+) -> M<Outcome> {
+    match built(
+        alloc,
+        files,
+        names,
+        output_format(matches),
+        walk_of(command),
+    ) {
+        Ok(it) => over_built(alloc, command, matches, &it),
+        Err(report) => report,
+    }
+}
+
+/// What is reported of a file that would be read and written.
+fn overwrites(alloc: Global, output: &str) -> M<Outcome>
+    ensures { IfOk result (λ outcome. outcome.status ≡ Status.Usage) }
+{
+    let name = Repeated(output);
+    usage(
+        alloc,
+        format_args!("{name}: the file to be written is one of those read"),
+    )
+}
+
+/// What the command that links gives.
+fn linked<F: FileAccess>(
+    alloc: Global,
+    files: &mut F,
+    matches: &ArgMatches<'_>,
+    names: &[&str],
+) -> M<Outcome> {
+    let format = output_format(matches);
+    match matches.get_str("output") {
+        Some(output) if output != "-" => {
+            if is_read(files, output, names) {
+                return overwrites(alloc, output);
+            }
+            link(alloc, files, names, format, Some(output))
+        }
+        _ => link(alloc, files, names, format, None),
+    }
+}
+
+/// How often standard input is named.
+fn input_count(names: &[&str]) -> usize {
+    let mut count: usize = 0;
+    for name in names {
+        if *name == "-" {
+            count = count.saturating_add(1);
+        }
+    }
+    count
+}
+
+/// That standard input is named more than once.
+fn reads_input_twice(alloc: Global) -> M<Outcome>
+    ensures { IfOk result (λ outcome. outcome.status ≡ Status.Usage) }
+{
+    usage(alloc, "standard input (`-`) can be read only once")
+}
+
+/// What the command that compares gives.
+fn compared<F: FileAccess>(alloc: Global, files: &mut F, matches: &ArgMatches<'_>) -> M<Outcome> {
+    let old = matches.get_strs("old").unwrap_or(&[]);
+    let new = matches.get_strs("new").unwrap_or(&[]);
+    if input_count(old).saturating_add(input_count(new)) > 1 {
+        return reads_input_twice(alloc);
+    }
+    let options = ReportOptions {
+        format: output_format(matches),
+        is_all: matches.get_flag("all"),
+    };
+    compare_files(alloc, files, old, new, options)
+}
+
+/// What the command that lays out gives.
+fn laid_out<F: FileAccess>(alloc: Global, files: &mut F, matches: &ArgMatches<'_>) -> M<Outcome> {
+    let name = matches.get_str("FILE").unwrap_or("-");
+    let is_test = matches.get_flag("check");
+    format(alloc, files, name, output_format(matches), is_test)
+}
+
+/// What a command gives over files that are given together.
+fn over_files<F: FileAccess>(
+    alloc: Global,
+    files: &mut F,
+    command: &str,
+    matches: &ArgMatches<'_>,
+) -> M<Outcome> {
+    let names = matches.get_strs("FILE").unwrap_or(&[]);
+    if input_count(names) > 1 {
+        return reads_input_twice(alloc);
+    }
+    match command {
+        "check" => check(alloc, files, names, output_format(matches)),
+        "link" => linked(alloc, files, matches, names),
+        _ => over_schema(alloc, files, command, matches, names),
+    }
+}
+
+/// What a command gives.
+pub(crate) fn outcome_of<F: FileAccess>(
+    alloc: Global,
+    files: &mut F,
+    command: &str,
+    matches: &ArgMatches<'_>,
+) -> M<Outcome> {
+    match command {
+        "format" => laid_out(alloc, files, matches),
+        "compare" => compared(alloc, files, matches),
+        _ => over_files(alloc, files, command, matches),
+    }
+}

@@ -1,0 +1,435 @@
+//! The words of the program: which commands there are, and what each of them takes.
+
+use clap::{Arg, ArgAction, Command};
+use std::alloc::{AllocError, Global};
+
+/// An option of a command.
+#[derive(Clone, Copy, Drop)]
+struct Choice {
+    /// Its name.
+    name: &'static str,
+    /// Its short name, if it has one.
+    short: Option<char>,
+    /// What comes of it where it is given.
+    action: ArgAction,
+    /// What is written for the value behind it; nothing for a flag.
+    values: &'static [&'static str],
+    /// What is said of it.
+    help: &'static str,
+    /// The options of which one has to be there where it isn't; none of them where it may be left
+    /// out.
+    unless: &'static [&'static str],
+    /// The options that may not be there beside it.
+    against: &'static [&'static str],
+    /// Whether it has to be there. One or more values stand behind it then.
+    is_required: bool,
+    /// Whether its values stand without its name.
+    is_positional: bool,
+}
+
+/// What a command takes.
+#[derive(Clone, Copy, Drop)]
+enum Taken {
+    /// Files alone, and how refusals are reported.
+    Files,
+    /// What the command that builds does.
+    Build,
+    /// What the command that shows types does.
+    Type,
+    /// What the command that shows environments does.
+    Envs,
+    /// What the command that links does.
+    Link,
+    /// What the command that lays out does.
+    Format,
+    /// What the command that compares does.
+    Compare,
+}
+
+/// A command.
+#[derive(Clone, Copy, Drop)]
+struct Row {
+    /// Its name.
+    name: &'static str,
+    /// What it does.
+    about: &'static str,
+    /// An example of its use.
+    example: &'static str,
+    /// What it takes.
+    takes: Taken,
+}
+
+/// Objects of JSON are asked for.
+const JSON: Choice = Choice {
+    name: "json",
+    short: None,
+    action: ArgAction::SetTrue,
+    values: &[],
+    help: "Tell refusals as objects of JSON, one a line, on standard output",
+    unless: &[],
+    against: &[],
+    is_required: false,
+    is_positional: false,
+};
+
+/// The files of most commands.
+const FILES: Choice = Choice {
+    name: "FILE",
+    short: None,
+    action: ArgAction::Append,
+    values: &[],
+    help: "Files of schemas in Cedar's JSON format; `-` is standard input",
+    unless: &[],
+    against: &[],
+    is_required: true,
+    is_positional: true,
+};
+
+/// The options of a command that has no others.
+const PLAIN: &[Choice] = &[FILES, JSON];
+
+/// The options of the command that builds.
+const BUILD: &[Choice] = &[
+    FILES,
+    JSON,
+    Choice {
+        name: "complete",
+        short: None,
+        action: ArgAction::SetTrue,
+        values: &[],
+        help: "Refuse a schema that leaves something external",
+        unless: &[],
+        against: &[],
+        is_required: false,
+        is_positional: false,
+    },
+];
+
+/// The options of the command that shows types.
+const TYPE: &[Choice] = &[
+    FILES,
+    JSON,
+    Choice {
+        name: "entity",
+        short: None,
+        action: ArgAction::Set,
+        values: &["NAME"],
+        help: "The entity type of which to show attributes",
+        unless: &["action"],
+        against: &[],
+        is_required: false,
+        is_positional: false,
+    },
+    Choice {
+        name: "attribute",
+        short: None,
+        action: ArgAction::Append,
+        values: &["NAME"],
+        help: "An attribute; each further one a step down",
+        unless: &[],
+        against: &[],
+        is_required: false,
+        is_positional: false,
+    },
+    Choice {
+        name: "tags",
+        short: None,
+        action: ArgAction::SetTrue,
+        values: &[],
+        help: "The type of the tags, in place of that of attributes",
+        unless: &[],
+        against: &["attribute", "action"],
+        is_required: false,
+        is_positional: false,
+    },
+    Choice {
+        name: "action",
+        short: None,
+        action: ArgAction::Set,
+        values: &["UID"],
+        help: "The action of which to show the context",
+        unless: &["entity", "tags"],
+        against: &["entity"],
+        is_required: false,
+        is_positional: false,
+    },
+];
+
+/// The options of the command that shows environments.
+const ENVS: &[Choice] = &[
+    FILES,
+    JSON,
+    Choice {
+        name: "principal",
+        short: None,
+        action: ArgAction::Set,
+        values: &["NAME"],
+        help: "Only those of this type of principal",
+        unless: &[],
+        against: &[],
+        is_required: false,
+        is_positional: false,
+    },
+    Choice {
+        name: "action",
+        short: None,
+        action: ArgAction::Set,
+        values: &["UID"],
+        help: "Only those of this action",
+        unless: &[],
+        against: &[],
+        is_required: false,
+        is_positional: false,
+    },
+    Choice {
+        name: "resource",
+        short: None,
+        action: ArgAction::Set,
+        values: &["NAME"],
+        help: "Only those of this type of resource",
+        unless: &[],
+        against: &[],
+        is_required: false,
+        is_positional: false,
+    },
+];
+
+/// The options of the command that links.
+const LINK: &[Choice] = &[
+    FILES,
+    JSON,
+    Choice {
+        name: "output",
+        short: Some('o'),
+        action: ArgAction::Set,
+        values: &["FILE"],
+        help: "Write to this file, which may be none of those read",
+        unless: &[],
+        against: &[],
+        is_required: false,
+        is_positional: false,
+    },
+];
+
+/// The options of the command that lays out.
+const FORMAT: &[Choice] = &[
+    Choice {
+        name: "FILE",
+        short: None,
+        action: ArgAction::Set,
+        values: &[],
+        help: "The file; `-` is standard input",
+        unless: &[],
+        against: &[],
+        is_required: true,
+        is_positional: true,
+    },
+    JSON,
+    Choice {
+        name: "check",
+        short: None,
+        action: ArgAction::SetTrue,
+        values: &[],
+        help: "Write nothing, and end with status 1 where the file differs",
+        unless: &[],
+        against: &[],
+        is_required: false,
+        is_positional: false,
+    },
+];
+
+/// The options of the command that compares.
+const COMPARE: &[Choice] = &[
+    Choice {
+        name: "old",
+        short: None,
+        action: ArgAction::Append,
+        values: &["FILE"],
+        help: "The files of the old version; `-` is standard input",
+        unless: &[],
+        against: &[],
+        is_required: true,
+        is_positional: false,
+    },
+    Choice {
+        name: "new",
+        short: None,
+        action: ArgAction::Append,
+        values: &["FILE"],
+        help: "The files of the new version",
+        unless: &[],
+        against: &[],
+        is_required: true,
+        is_positional: false,
+    },
+    Choice {
+        name: "all",
+        short: None,
+        action: ArgAction::SetTrue,
+        values: &[],
+        help: "Show each request, in place of the first 20 of an action",
+        unless: &[],
+        against: &[],
+        is_required: false,
+        is_positional: false,
+    },
+    Choice {
+        name: "json",
+        short: None,
+        action: ArgAction::SetTrue,
+        values: &[],
+        help: "Tell all differences, or refusals, as objects of JSON, one a line",
+        unless: &[],
+        against: &[],
+        is_required: false,
+        is_positional: false,
+    },
+];
+
+/// The commands, in the order in which they are listed.
+const ROWS: &[Row] = &[
+    Row {
+        name: "check",
+        about: "Reads each file as a fragment, without building",
+        example: "Example: cedar_check check photos.json",
+        takes: Taken::Files,
+    },
+    Row {
+        name: "build",
+        about: "Builds one schema of all files, and counts what it declares",
+        example: "Example: cedar_check build photos.json",
+        takes: Taken::Build,
+    },
+    Row {
+        name: "show",
+        about: "Shows what the schema declares, in sorted lines",
+        example: "Example: cedar_check show photos.json",
+        takes: Taken::Files,
+    },
+    Row {
+        name: "type",
+        about: "Shows the type of an entity type's attributes or tags, or of an action's context",
+        example: "Example: cedar_check type photos.json --entity PhotoApp::Photo --attribute size",
+        takes: Taken::Type,
+    },
+    Row {
+        name: "envs",
+        about: "Shows the environments of requests: principal, action and resource",
+        example: "Example: cedar_check envs photos.json --principal PhotoApp::User",
+        takes: Taken::Envs,
+    },
+    Row {
+        name: "graph",
+        about: "Draws the hierarchies as a graph in Graphviz DOT",
+        example: "Example: cedar_check graph photos.json | dot -Tsvg > photos.svg",
+        takes: Taken::Files,
+    },
+    Row {
+        name: "link",
+        about: "Writes what all files declare together as one fragment",
+        example: "Example: cedar_check link photos.json printing.json -o whole.json",
+        takes: Taken::Link,
+    },
+    Row {
+        name: "format",
+        about: "Lays a file out in the order of the format, with all that it says",
+        example: "Example: cedar_check format photos.json --check",
+        takes: Taken::Format,
+    },
+    Row {
+        name: "compare",
+        about: "Compares two versions of a schema: what the new one takes away, and what it adds",
+        example: "Example: cedar_check compare --old photos.json --new photos_next.json",
+        takes: Taken::Compare,
+    },
+];
+
+impl Taken {
+    /// The files that are read, unless options name them, and the options.
+    fn choices(self) -> &'static [Choice] {
+        match self {
+            Taken::Files => PLAIN,
+            Taken::Build => BUILD,
+            Taken::Type => TYPE,
+            Taken::Envs => ENVS,
+            Taken::Link => LINK,
+            Taken::Format => FORMAT,
+            Taken::Compare => COMPARE,
+        }
+    }
+}
+
+/// A row of a table, which says something of the program's words.
+trait Says<T> {
+    /// What it says.
+    fn said(&self, alloc: Global) -> Result<T, AllocError>;
+}
+
+/// What each row of a table says.
+fn all<T: Drop, R: Says<T>>(alloc: Global, rows: &[R]) -> Result<Vec<T>, AllocError> {
+    let mut all = Vec::new(alloc);
+    for row in rows {
+        all.push(row.said(alloc)?)?;
+    }
+    Ok(all)
+}
+
+/// An argument, as far as each has it.
+fn named<'a>(alloc: Global, choice: &Choice) -> Arg<'a> {
+    Arg::new(alloc, choice.name)
+        .action(choice.action)
+        .value_names(choice.values)
+        .help(choice.help)
+        .required(choice.is_required)
+}
+
+/// An argument of a row.
+fn spelled<'a>(alloc: Global, choice: &Choice) -> Arg<'a> {
+    let mut option = named(alloc, choice);
+    if choice.is_positional {
+        return option;
+    }
+    if let Some(short) = choice.short {
+        option = option.short(short);
+    }
+    if choice.is_required {
+        option = option.num_args(1usize..);
+    }
+    option.long(choice.name)
+}
+
+impl<'a> Says<Arg<'a>> for Choice {
+    fn said(&self, alloc: Global) -> Result<Arg<'a>, AllocError> {
+        spelled(alloc, self)
+            .required_unless_present_any(self.unless)?
+            .conflicts_with_all(self.against)
+    }
+}
+
+/// The command of a row, with what it takes.
+fn command<'a>(alloc: Global, row: &Row, args: Vec<Arg<'a>>) -> Result<Command<'a>, AllocError> {
+    Command::new(alloc, row.name)
+        .about(row.about)
+        .after_help(row.example)
+        .args(args)
+}
+
+impl<'a> Says<Command<'a>> for Row {
+    fn said(&self, alloc: Global) -> Result<Command<'a>, AllocError> {
+        command(alloc, self, all(alloc, self.takes.choices())?)
+    }
+}
+
+/// The program, with its commands.
+fn with_commands<'a>(alloc: Global, commands: Vec<Command<'a>>) -> Result<Command<'a>, AllocError> {
+    Command::new(alloc, "cedar_check")
+        .version("0.1.0")
+        .about("Reads, builds, shows, links and compares schemas of the Cedar policy language")
+        .subcommand_required(true)
+        .subcommands(commands)
+}
+
+/// The program's words.
+pub(crate) fn program<'a>(alloc: Global) -> Result<Command<'a>, AllocError> {
+    with_commands(alloc, all(alloc, ROWS)?)
+}

@@ -1,0 +1,92 @@
+-- What may no longer stand above entities.
+use Rattle.std.specs.BTreeMap.{BTreeMap, get_by}
+use Rattle.std.specs.Option.{option_map}
+use Rattle.std.specs.Prelude.{◌⊎◌, List, Option, Some, None, Contains}
+use Rattle.cedar_ast.specs.Words.{PlainName, PlainUid, Text, name_cmp, type_name, uid_cmp, uid_of}
+use Rattle.cedar_ast.specs.declared.entity_type.EntityType.{EntityType}
+use Rattle.cedar_ast.specs.declared.entity_uid.EntityUID.{EntityUID}
+use Rattle.cedar_compare.specs.Choices.{MayHave, kind_choices}
+use Rattle.cedar_compare.specs.Difference.{IsActionCause, PlainCause}
+use Rattle.cedar_compare.specs.Entities.{MayStandAbove}
+use Rattle.cedar_schema_semantics.specs.Words.{DefinesAction, ListsDescendantAction, PlainSchema, SchemaEntityType}
+
+-- what is kept under the name of an entity type
+abbrev pub upper_at : BTreeMap EntityType EntityUID → EntityType → Option PlainUid
+upper_at ancestors name =
+    option_map uid_of (get_by (λ key. name_cmp (type_name name) (type_name key)) ancestors)
+
+-- what is kept under the uid of an action
+abbrev pub action_upper_at : BTreeMap EntityUID EntityUID → EntityUID → Option PlainUid
+action_upper_at ancestors uid =
+    option_map uid_of (get_by (λ key. uid_cmp (uid_of uid) (uid_of key)) ancestors)
+
+-- what becomes of the uids of an entity type that may stand above others, where these are its
+-- choices, if there are some: the new schema's entity type of the name, which may have all its ids,
+-- or that none there may have the one id
+abbrev pub IsAncestorKept : PlainSchema → PlainName → Option (List Text) → Text
+    → Option SchemaEntityType → Type 0
+IsAncestorKept new name choices id None = (it : SchemaEntityType)
+    → Contains new.entity_types (name, it) → ¬ MayHave (kind_choices it.kind) id
+IsAncestorKept new name choices id (Some it) = Contains new.entity_types (name, it)
+    × ((other : Text) → MayHave choices other → MayHave (kind_choices it.kind) other)
+
+-- an entity type is there and lists the name among its descendants
+abbrev pub IsListedBy : Option SchemaEntityType → PlainName → Type 0
+IsListedBy None lower = ⊥
+IsListedBy (Some it) lower = Contains it.descendants lower
+
+-- what is found above the entities of a type, but for uids that are left: one that may stand there
+-- in the old schema and not in the new, or that there is none
+abbrev pub IsAncestorSoFar : PlainSchema → PlainSchema → (PlainUid → Type 0) → PlainName
+    → Option PlainUid → Type 0
+IsAncestorSoFar old new IsLeft name None = (upper : PlainUid) → MayStandAbove old name upper
+    → IsLeft upper ⊎ MayStandAbove new name upper
+IsAncestorSoFar old new IsLeft name (Some upper) =
+    MayStandAbove old name upper × ¬ MayStandAbove new name upper
+
+-- for each entity type there stands what is found above it, but for what is left
+abbrev pub AreAncestorsSoFar : PlainSchema → PlainSchema → (PlainName → PlainUid → Type 0)
+    → BTreeMap EntityType EntityUID → Type 0
+AreAncestorsSoFar old new IsLeft ancestors = (name : EntityType)
+    → IsAncestorSoFar old new (IsLeft (type_name name)) (type_name name) (upper_at ancestors name)
+
+-- for each entity type there stands what is found above it, of whatever may stand there
+abbrev pub AreAncestorsLost : PlainSchema → PlainSchema → BTreeMap EntityType EntityUID → Type 0
+AreAncestorsLost old new = AreAncestorsSoFar old new (λ name upper. ⊥)
+
+-- one of two schemas alone lists the one action below the other
+abbrev pub ListsApart : PlainSchema → PlainSchema → PlainUid → PlainUid → Type 0
+ListsApart old new lower upper =
+    (ListsDescendantAction old lower upper × ¬ ListsDescendantAction new lower upper)
+    ⊎ (ListsDescendantAction new lower upper × ¬ ListsDescendantAction old lower upper)
+
+-- what is found above an action, but for what is left: an action that one of two schemas alone
+-- lists above it, or that the other lists each that the one does
+abbrev pub IsActionAncestorSoFar : PlainSchema → PlainSchema → (PlainUid → Type 0) → PlainUid
+    → Option PlainUid → Type 0
+IsActionAncestorSoFar one other IsLeft uid None = (upper : PlainUid)
+    → ListsDescendantAction one uid upper → IsLeft upper ⊎ ListsDescendantAction other uid upper
+IsActionAncestorSoFar one other IsLeft uid (Some upper) = ListsApart one other uid upper
+
+-- for each action there stands what is found above it, but for what is left
+abbrev pub AreActionAncestorsSoFar : PlainSchema → PlainSchema → (PlainUid → PlainUid → Type 0)
+    → BTreeMap EntityUID EntityUID → Type 0
+AreActionAncestorsSoFar one other IsLeft ancestors = (uid : EntityUID)
+    → IsActionAncestorSoFar one other (IsLeft (uid_of uid)) (uid_of uid) (action_upper_at ancestors uid)
+
+-- what is found of an action: why its entity is lost, or that the new schema defines it and both
+-- list the same above it
+abbrev pub IsActionAnswer : PlainSchema → PlainSchema → PlainUid → Option PlainCause → Type 0
+IsActionAnswer old new uid None = DefinesAction new uid
+    × ((upper : PlainUid) → ListsDescendantAction old uid upper
+    → ListsDescendantAction new uid upper)
+    × ((upper : PlainUid) → ListsDescendantAction new uid upper
+    → ListsDescendantAction old uid upper)
+IsActionAnswer old new uid (Some cause) = IsActionCause old new uid cause
+
+-- for each action there stands what is found above it: an action that one of two schemas alone
+-- lists above it, or that both list the same
+abbrev pub AreActionAncestors : PlainSchema → PlainSchema → BTreeMap EntityUID EntityUID → Type 0
+AreActionAncestors old new ancestors =
+    AreActionAncestorsSoFar old new (λ uid upper. ⊥) ancestors
+    × AreActionAncestorsSoFar new old (λ uid upper. ⊥) ancestors

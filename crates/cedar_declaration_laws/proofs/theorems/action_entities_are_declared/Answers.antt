@@ -1,5 +1,0 @@
-use Rattle.cedar_declaration_laws.proofs.ActionEntityLaws.{entities_declared}
-use Rattle.cedar_declaration_laws.proofs.theorems.action_entities_are_declared.Goals as goal
-
-pub returns : goal.returns
-returns c = entities_declared

@@ -1,5 +1,0 @@
-use Rattle.cedar_declaration_laws.proofs.SchemaLaws.{one_schema}
-use Rattle.cedar_declaration_laws.proofs.theorems.bags_declare_at_most_one_schema.Goals as goal
-
-pub returns : goal.returns
-returns c = one_schema

@@ -1,5 +1,0 @@
-use Rattle.cedar_declaration_laws.proofs.SchemasConvertedBack.{converted_descendants_are_reached}
-use Rattle.cedar_declaration_laws.proofs.theorems.converted_descendants_are_reached.Goals as goal
-
-pub returns : goal.returns
-returns c = converted_descendants_are_reached

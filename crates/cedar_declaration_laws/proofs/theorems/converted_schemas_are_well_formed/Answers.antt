@@ -1,5 +1,0 @@
-use Rattle.cedar_declaration_laws.proofs.FaultsConvertedBack.{converted_schemas_are_well_formed}
-use Rattle.cedar_declaration_laws.proofs.theorems.converted_schemas_are_well_formed.Goals as goal
-
-pub returns : goal.returns
-returns c = converted_schemas_are_well_formed

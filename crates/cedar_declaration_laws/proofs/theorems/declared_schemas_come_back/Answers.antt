@@ -1,5 +1,0 @@
-use Rattle.cedar_declaration_laws.proofs.ComeBack.{declared_schemas_come_back}
-use Rattle.cedar_declaration_laws.proofs.theorems.declared_schemas_come_back.Goals as goal
-
-pub returns : goal.returns
-returns c = declared_schemas_come_back

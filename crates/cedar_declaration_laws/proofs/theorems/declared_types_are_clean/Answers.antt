@@ -1,5 +1,0 @@
-use Rattle.cedar_declaration_laws.proofs.CleanSchemas.{declared_clean}
-use Rattle.cedar_declaration_laws.proofs.theorems.declared_types_are_clean.Goals as goal
-
-pub returns : goal.returns
-returns c = declared_clean

@@ -1,5 +1,0 @@
-use Rattle.cedar_declaration_laws.proofs.PlacedLemmas.{raw_bag_fits}
-use Rattle.cedar_declaration_laws.proofs.theorems.raw_references_fit_their_positions.Goals as goal
-
-pub returns : goal.returns
-returns c = raw_bag_fits

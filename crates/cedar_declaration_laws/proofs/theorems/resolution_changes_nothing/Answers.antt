@@ -1,5 +1,0 @@
-use Rattle.cedar_declaration_laws.proofs.ResolutionLaws.{resolution}
-use Rattle.cedar_declaration_laws.proofs.theorems.resolution_changes_nothing.Goals as goal
-
-pub returns : goal.returns
-returns c = resolution

@@ -1,9 +1,0 @@
-use Rattle.std.proofs.Common.{map, codes, take, string_bytes}
-use Rattle.std.specs.Fmt.{HasWritten, IsPlainFormatter}
-use Rattle.cedar_declarations.specs.Words.{each_after, quoted_text}
-use Rattle.cedar_declarations.proofs.schema_error.write_other_ids.Given as goal
-
-abbrev pub invariant-loop-id : goal.invariant-loop-id
-invariant-loop-id g l =
-    IsPlainFormatter l.initial.f → HasWritten g.W.Write.write_str_gives l.initial.f
-    (each_after (codes ", ") (map quoted_text (map string_bytes (take l.id-index l.ids)))) l.f

@@ -1,6 +1,0 @@
-use Rattle.cedar_below.specs.Words.{Text, unreserved_id_text}
-use Rattle.cedar_names.specs.declared.json_schema.common_type_id.CommonTypeId.{CommonTypeId}
-
--- the text of a common type's name
-abbrev pub common_type_text : CommonTypeId → Text
-common_type_text it = unreserved_id_text it.id

@@ -1,5 +1,0 @@
-use Rattle.std.proofs.Common.{length}
-use Rattle.check_commands.proofs.attribute_types.+type_below.Given as goal
-
-abbrev pub decreases-type_below : goal.decreases-type_below
-decreases-type_below l = length l.names.now

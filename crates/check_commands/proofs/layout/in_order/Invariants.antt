@@ -1,5 +1,0 @@
-use Rattle.check_commands.proofs.Places.{AreIndexed}
-use Rattle.check_commands.proofs.layout.in_order.Given as goal
-
-abbrev pub invariant-loop-index : goal.invariant-loop-index
-invariant-loop-index l = AreIndexed l.member-items l.places.items l.index
