@@ -10,7 +10,7 @@ use Rattle.cedar_ast.specs.contracts.entity_type.EntityTypeEq.TheImpl as entity_
 use Rattle.cedar_ast.specs.contracts.entity_type.EntityTypeOrd.TheImpl as entity_type_ord
 use Rattle.cedar_ast.specs.contracts.entity_type.EntityTypePartialEq.TheImpl as entity_type_eq
 use Rattle.cedar_builder.proofs.AtKeys.{at_equal_keys, entry_at_key, entry_standing, found_at_key}
-use Rattle.cedar_builder.specs.Words.{EntityType, IsDistinct, IsEnumerated, IsEnumeratedAt, IsExternalAt, LeadsTo, ValidatorEntityType, entity_type_of, has_descendant, keys_of, node_at, type_name}
+use Rattle.cedar_builder.specs.Words.{EntityType, IsDistinct, IsEnumerated, IsEnumeratedAt, IsExternalAt, EntityTypeLeadsTo, ValidatorEntityType, entity_type_of, has_descendant, keys_of, node_at, type_name}
 use Rattle.cedar_graph.proofs.KeyedEdges.{some_with}
 use Rattle.cedar_schema_semantics.proofs.OccurrenceLemmas.{Contains-image, Contains-single}
 use Rattle.cedar_types.proofs.MemberLemmas.{Contains-named, list_any-names}
@@ -41,7 +41,7 @@ module _ (nodes : List (EntityType × ValidatorEntityType)) where
 
   -- a node leads to each of its descendants
   pub entry_leads : (key : EntityType) (it : ValidatorEntityType) → node_at nodes key ≡ Some it → (lower : EntityType)
-      → Contains it.descendants.keys lower → LeadsTo nodes key lower
+      → Contains it.descendants.keys lower → EntityTypeLeadsTo nodes key lower
   entry_leads key it found lower among =
       rw found
       ((list_any-names lower it.descendants.keys).1 (Contains-image type_name it.descendants.keys lower among))
@@ -55,7 +55,7 @@ module _ (nodes : List (EntityType × ValidatorEntityType)) where
   pub certain_of_all : ((upper : EntityType) (it : ValidatorEntityType) → Contains nodes (upper, it)
       → IsEnumerated (entity_type_of it).kind → (lower : EntityType) → Contains it.descendants.keys lower
       → ¬ IsExternalAt (node_at nodes lower))
-      → (upper lower : EntityType) → LeadsTo nodes upper lower → IsEnumeratedAt (node_at nodes upper)
+      → (upper lower : EntityType) → EntityTypeLeadsTo nodes upper lower → IsEnumeratedAt (node_at nodes upper)
       → ¬ IsExternalAt (node_at nodes lower)
   certain_of_all each upper lower leads is external =
       let it = some_with (node_at nodes upper) (λ node. IsTrue (has_descendant node lower)) leads in

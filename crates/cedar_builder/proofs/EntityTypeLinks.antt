@@ -2,7 +2,7 @@
 use Rattle.std.proofs.Common.{◌≡◌, ◌↔◌, List, Option, None, Some, IsSome, sym, subst, inr, Contains}
 use Rattle.cedar_ast.specs.contracts.entity_type.EntityTypeEq.TheImpl as entity_type_equal
 use Rattle.cedar_builder.proofs.AtKeys.{at_equal_keys}
-use Rattle.cedar_builder.specs.Words.{AreLinked, AreTheSame, Chain, EntityType, Fault, IsAbove, IsEdgeSound, IsEnumerated, IsEnumeratedAt, IsExternalAt, IsLinkFault, IsLinkingFault, LeadsTo, PlainEntityType, ValidatorEntityType, external_kind, node_at}
+use Rattle.cedar_builder.specs.Words.{AreLinked, AreTheSame, Chain, EntityType, Fault, IsAbove, IsEdgeSound, IsEnumerated, IsEnumeratedAt, IsExternalAt, IsLinkFault, IsLinkingFault, EntityTypeLeadsTo, PlainEntityType, ValidatorEntityType, external_kind, node_at}
 
 -- an enumerated entity type stands at a key before and after
 enumerated_same : (o p : Option ValidatorEntityType) → AreTheSame o p → IsEnumeratedAt o ↔ IsEnumeratedAt p
@@ -38,9 +38,9 @@ module _ (edges : List (EntityType × EntityType)) (before : List (EntityType ×
 
   module _ (after : List (EntityType × ValidatorEntityType))
       (same : (key : EntityType) → AreTheSame (node_at before key) (node_at after key))
-      (leads : (upper lower : EntityType) → LeadsTo after upper lower ↔ Chain (IsAbove edges) upper lower) where
+      (leads : (upper lower : EntityType) → EntityTypeLeadsTo after upper lower ↔ Chain (IsAbove edges) upper lower) where
     -- the nodes are linked, where no external one stands below an enumerated one
-    pub are_linked : ((upper lower : EntityType) → LeadsTo after upper lower → IsEnumeratedAt (node_at after upper)
+    pub are_linked : ((upper lower : EntityType) → EntityTypeLeadsTo after upper lower → IsEnumeratedAt (node_at after upper)
         → ¬ IsExternalAt (node_at after lower)) → AreLinked edges before after
     are_linked checked = record {
       same = same;
@@ -54,7 +54,7 @@ module _ (edges : List (EntityType × EntityType)) (before : List (EntityType ×
     }
 
     -- an external one below an enumerated one is refused truly
-    pub below_fault : (upper lower : EntityType) → LeadsTo after upper lower → IsEnumeratedAt (node_at after upper)
+    pub below_fault : (upper lower : EntityType) → EntityTypeLeadsTo after upper lower → IsEnumeratedAt (node_at after upper)
         → IsExternalAt (node_at after lower) → (fault : Fault) → IsLinkFault lower upper fault → IsLinkingFault edges before fault
     below_fault upper lower led is_enumerated is_external fault is = inr (inr (
       upper,

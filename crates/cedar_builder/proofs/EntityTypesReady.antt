@@ -10,7 +10,7 @@ use Rattle.cedar_builder.proofs.NodesCollected.{by_test}
 use Rattle.cedar_builder.proofs.NodesLinked.{alike_after, alike_before, collected_apart, descendants}
 use Rattle.cedar_builder.proofs.ReadyLemmas.{action_type, expr_fault, type_fault}
 use Rattle.cedar_builder.specs.EntityTypeSteps.{IsElaboratedKind}
-use Rattle.cedar_builder.specs.Words.{AreDeclaredTags, AreElaboratedTags, AreLinked, AreUnlinked, Bag, CountsInEntity, Covers, Defined, Entity, EntityBody, EntitySays, EntityType, EntityTypeKind, EntityTypesAreSound, Expr, Extensions, Fault, HasNoRecord, HasParent, IsAbove, IsActionType, IsBodyFault, IsCollected, IsCollectedAt, IsCollectingFault, IsCounted, IsDeclaredEntityType, IsDeclaredKind, IsDefined, IsDescendant, IsElaboratedEntity, IsEnumerated, IsEnumeratedAt, IsExternalAt, IsExternalType, IsFault, IsLinkingFault, IsNoRecord, IsParent, IsParentFault, IsReady, IsSoundBody, IsTypeFault, LeadsTo, NamesType, PlainEntityType, PlainName, Reference, ResolvesTo, SameType, SaysTogether, Text, Twice, Ty, TypeScope, ValidatorEntityType, action_uids, declared_entities, defined_entities, defined_in, defined_names, definition_in, definitions, duplicate_entity_type, entity_definition_in, entity_definitions, entity_parents, entity_type_of, entry_names, enumerated, enumerated_below, enumerated_kind, extensions_in_scope, external, external_kind, has_descendant, held_names, is_entity_definition, node_at, out_of_memory, parents_in, plain_entry, shape_not_record, standard, standard_kind, type_name, undeclared_entity_types}
+use Rattle.cedar_builder.specs.Words.{AreDeclaredTags, AreElaboratedTags, AreLinked, AreUnlinked, Bag, CountsInEntity, Covers, Defined, Entity, EntityBody, EntitySays, EntityType, EntityTypeKind, EntityTypesAreSound, Expr, Extensions, Fault, HasNoRecord, HasParent, IsAbove, IsActionType, IsBodyFault, IsCollected, IsCollectedAt, IsCollectingFault, IsCounted, IsDeclaredEntityType, IsDeclaredKind, IsDefined, IsDescendant, IsElaboratedEntity, IsEnumerated, IsEnumeratedAt, IsExternalAt, IsExternalType, IsFault, IsLinkingFault, IsNoRecord, IsParent, IsParentFault, IsReady, IsSoundBody, IsTypeFault, EntityTypeLeadsTo, NamesType, PlainEntityType, PlainName, Reference, ResolvesTo, SameType, SaysTogether, Text, Twice, Ty, TypeScope, ValidatorEntityType, action_uids, declared_entities, defined_entities, defined_in, defined_names, definition_in, definitions, duplicate_entity_type, entity_definition_in, entity_definitions, entity_parents, entity_type_of, entry_names, enumerated, enumerated_below, enumerated_kind, extensions_in_scope, external, external_kind, has_descendant, held_names, is_entity_definition, node_at, out_of_memory, parents_in, plain_entry, shape_not_record, standard, standard_kind, type_name, undeclared_entity_types}
 use Rattle.cedar_schema_semantics.proofs.DeclarationLemmas.{entity_declaration}
 use Rattle.cedar_schema_semantics.proofs.Definitions.{declared_definition, key_defined, said_declared, said_definition}
 use Rattle.cedar_schema_semantics.proofs.OccurrenceLemmas.{Contains-image, Contains-single, value_once}
@@ -106,7 +106,7 @@ AreCollected scope entries nodes =
 
 -- no entity type leads to another as they are collected
 pub no_edges : (scope : TypeScope) (entries : List Entry) (nodes : List (EntityType × ValidatorEntityType))
-    → AreCollected scope entries nodes → (upper lower : EntityType) → ¬ LeadsTo nodes upper lower
+    → AreCollected scope entries nodes → (upper lower : EntityType) → ¬ EntityTypeLeadsTo nodes upper lower
 no_edges scope entries nodes collected = collected_apart (entity_type_eq.ghosts).eq type_name has_descendant (λ it. it.descendants.keys)
     (λ it key. list_any-names key it.descendants.keys) is_entity_definition IsExternal name_of (GivesEntity scope) (λ body it given. given.no_descendants)
     entries nodes collected

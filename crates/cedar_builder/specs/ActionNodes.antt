@@ -29,8 +29,8 @@ abbrev pub node_at : List (EntityUID × ValidatorActionId) → EntityUID → Opt
 node_at nodes key = at_key (uid_eq.ghosts).eq nodes key
 
 -- the node at the first key has the second among its descendants
-abbrev pub LeadsTo : List (EntityUID × ValidatorActionId) → EntityUID → EntityUID → Type 0
-LeadsTo nodes upper lower = Leads (uid_eq.ghosts).eq has_descendant nodes upper lower
+abbrev pub ActionLeadsTo : List (EntityUID × ValidatorActionId) → EntityUID → EntityUID → Type 0
+ActionLeadsTo nodes upper lower = Leads (uid_eq.ghosts).eq has_descendant nodes upper lower
 
 -- the one is a parent of the other by some edge
 abbrev pub IsAbove : List (EntityUID × EntityUID) → EntityUID → EntityUID → Type 0
@@ -51,7 +51,7 @@ pub record AreLinked (edges : List (EntityUID × EntityUID))
     (before after : List (EntityUID × ValidatorActionId)) : Type 0 where
   pub same : (key : EntityUID) → AreTheSame (node_at before key) (node_at after key)
   pub linked : (upper lower : EntityUID)
-      → LeadsTo after upper lower ↔ Chain (IsAbove edges) upper lower
+      → ActionLeadsTo after upper lower ↔ Chain (IsAbove edges) upper lower
   pub acyclic : (key : EntityUID) → ¬ Chain (IsAbove edges) key key
 
 -- why edges are refused: a chain of them is a cycle; or memory ran out

@@ -4,7 +4,7 @@ use Rattle.std.specs.List.{flat_map}
 use Rattle.std.specs.Prelude.{Bool, true, false, ◌≡◌, ◌⊎◌, ◌↔◌, ◌∷◌, [], List, Contains, map}
 use Rattle.cedar_ast.specs.Words.{PlainName, PlainUid, type_name}
 use Rattle.cedar_ast.specs.declared.entity_type.EntityType.{EntityType}
-use Rattle.cedar_elaboration.specs.Words.{CoversExtensions, ElaboratesAs, IsRefusal, ResolvesEach}
+use Rattle.cedar_elaboration.specs.Words.{CoversExtensions, ElaboratesAs, IsElaborationFault, ResolvesEach}
 use Rattle.cedar_elaboration.specs.declared.type_scope.TypeScope.{TypeScope}
 use Rattle.cedar_fragments.specs.Words.{IsUnresolvable, held_names}
 use Rattle.cedar_schema_ast.specs.Words.{ActionBody, ActionReference, Expr, Reference, Requests, elsewhere, requests}
@@ -96,7 +96,7 @@ IsRequestTypeFault names types references fault = (fault ≡ out_of_memory)
 -- or a principal or a resource is refused; or memory ran out
 abbrev pub IsRequestsFault : TypeScope → List PlainName → PlainUid → Requests → Fault → Type 0
 IsRequestsFault scope types uid applies_to fault = (fault ≡ out_of_memory)
-    ⊎ (((expr : Expr) × CountsInRequests applies_to expr × IsRefusal scope expr fault)
+    ⊎ (((expr : Expr) × CountsInRequests applies_to expr × IsElaborationFault scope expr fault)
     ⊎ (((fault ≡ context_not_record uid) × HasNoRecord scope applies_to)
     ⊎ ((reference : Reference) × IsPrincipalOrResource applies_to reference
     × IsPlaceFault (held_names scope.defs.now) types reference fault)))

@@ -41,8 +41,8 @@ abbrev pub node_at : List (EntityType × ValidatorEntityType) → EntityType
 node_at nodes key = at_key (entity_type_eq.ghosts).eq nodes key
 
 -- the node at the first key has the second among its descendants
-abbrev pub LeadsTo : List (EntityType × ValidatorEntityType) → EntityType → EntityType → Type 0
-LeadsTo nodes upper lower = Leads (entity_type_eq.ghosts).eq has_descendant nodes upper lower
+abbrev pub EntityTypeLeadsTo : List (EntityType × ValidatorEntityType) → EntityType → EntityType → Type 0
+EntityTypeLeadsTo nodes upper lower = Leads (entity_type_eq.ghosts).eq has_descendant nodes upper lower
 
 -- the one is a parent of the other by some edge
 abbrev pub IsAbove : List (EntityType × EntityType) → EntityType → EntityType → Type 0
@@ -78,7 +78,7 @@ IsLinkFault lower upper fault =
 -- no entity type has descendants, and one stands at the lower end of each edge
 pub record AreUnlinked (edges : List (EntityType × EntityType))
     (nodes : List (EntityType × ValidatorEntityType)) : Type 0 where
-  pub apart : (upper lower : EntityType) → ¬ LeadsTo nodes upper lower
+  pub apart : (upper lower : EntityType) → ¬ EntityTypeLeadsTo nodes upper lower
   pub lowers : (upper lower : EntityType) → IsAbove edges upper lower → IsSome (node_at nodes lower)
 
 -- after as before, but for descendants, which are now those that chains of edges lead to; each edge
@@ -88,7 +88,7 @@ pub record AreLinked (edges : List (EntityType × EntityType))
     (before after : List (EntityType × ValidatorEntityType)) : Type 0 where
   pub same : (key : EntityType) → AreTheSame (node_at before key) (node_at after key)
   pub linked : (upper lower : EntityType)
-      → LeadsTo after upper lower ↔ Chain (IsAbove edges) upper lower
+      → EntityTypeLeadsTo after upper lower ↔ Chain (IsAbove edges) upper lower
   pub ancestors : (upper lower : EntityType) → IsAbove edges upper lower
       → IsSome (node_at before upper)
   pub lowers : (upper lower : EntityType) → IsAbove edges upper lower

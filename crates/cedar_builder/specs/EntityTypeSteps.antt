@@ -2,7 +2,7 @@
 -- what is elaborated.
 use Rattle.std.specs.Prelude.{Bool, true, false, ◌≡◌, ◌⊎◌, List, Option, map}
 use Rattle.cedar_ast.specs.Words.{HoldsOfBoth, PlainName}
-use Rattle.cedar_elaboration.specs.Words.{CoversExtensions, ElaboratesAs, IsRefusal, ResolvesEach}
+use Rattle.cedar_elaboration.specs.Words.{CoversExtensions, ElaboratesAs, IsElaborationFault, ResolvesEach}
 use Rattle.cedar_elaboration.specs.declared.type_scope.TypeScope.{TypeScope}
 use Rattle.cedar_schema_ast.specs.Words.{EntityBody, Expr, external, standard}
 use Rattle.cedar_schema_semantics.specs.Words.{CountsInEntity, EntityTypeKind, Fault, HasOpenRecord, IsKindOver, IsRecordType, out_of_memory, shape_not_record}
@@ -45,7 +45,7 @@ HasNoRecord scope _ = ⊥
 -- or memory ran out
 abbrev pub IsBodyFault : TypeScope → PlainName → EntityBody → Fault → Type 0
 IsBodyFault scope name body fault = (fault ≡ out_of_memory)
-    ⊎ (((expr : Expr) × CountsInEntity body expr × IsRefusal scope expr fault)
+    ⊎ (((expr : Expr) × CountsInEntity body expr × IsElaborationFault scope expr fault)
     ⊎ ((fault ≡ shape_not_record name) × HasNoRecord scope body))
 
 -- the declaration of an entity type is its definition: it isn't external (RFC 116)

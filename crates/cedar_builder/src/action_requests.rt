@@ -2,7 +2,7 @@
 
 ghost use Rattle.std.specs.Prelude.{◌≡◌, ◌⊎◌, ◌↔◌, IfErr, IfOk, IsTrue, OnOk, Some};
 ghost use Rattle.cedar_builder.specs.Words.{AreSoundRequests, CoversExtensions, ElaboratesAs, HasOpenRecord, IsElaboratedAction, IsRecordType, IsRequestsFault, ResolvesEach, Ty, action_loc, context_not_record, fault_of, fragment_requests, namespace_name, names_in, out_of_memory, ty_of, type_expr, uid_of, written_action_body};
-ghost use Rattle.cedar_elaboration.specs.Refusals.{IsRefusal};
+ghost use Rattle.cedar_elaboration.specs.Refusals.{IsElaborationFault};
 
 use crate::request_types::declared_types;
 use cedar_ast::{EntityType, EntityUID, InternalName, Loc};
@@ -42,7 +42,7 @@ fn context_type<N: WrittenName>(
     ensures resolved { OnOk result (ResolvesEach scope.now
         (type_expr N (N.refer (namespace_name namespace.entry)) context.now)) }
     ensures fault { IfErr result (λ error. (fault_of error ≡ out_of_memory)
-        ⊎ (IsRefusal scope.now
+        ⊎ (IsElaborationFault scope.now
         (type_expr N (N.refer (namespace_name namespace.entry)) context.now) (fault_of error)
         ⊎ ((fault_of error ≡ context_not_record (uid_of uid.now))
         × ((ty : Ty) × ElaboratesAs scope.now

@@ -2,7 +2,7 @@
 
 ghost use Rattle.std.specs.Prelude.{◌≡◌, ◌⊎◌, ◌↔◌, Contains, IfErr, IsTrue, OnOk};
 ghost use Rattle.cedar_ast.specs.declared.entity_type.EntityType.{EntityType as Key};
-ghost use Rattle.cedar_builder.specs.Words.{IsEdgeFault, IsEdgeSound, IsEnumeratedAt, IsExternalAt, IsLinkFault, LeadsTo, fault_of, node_at, out_of_memory};
+ghost use Rattle.cedar_builder.specs.Words.{IsEdgeFault, IsEdgeSound, IsEnumeratedAt, IsExternalAt, IsLinkFault, EntityTypeLeadsTo, fault_of, node_at, out_of_memory};
 
 use crate::entity_type_links::{Edge, Nodes};
 use cedar_ast::{EntityType, NonEmpty};
@@ -91,11 +91,11 @@ fn check_below(
 
 /// Checks the descendants of each enumerated entity type.
 pub(crate) fn check_descendants(nodes: &Nodes) -> Result<(), SchemaError>
-    ensures sound { OnOk result ((upper lower : Key) → LeadsTo nodes.now.entries upper lower
+    ensures sound { OnOk result ((upper lower : Key) → EntityTypeLeadsTo nodes.now.entries upper lower
         → IsEnumeratedAt (node_at nodes.now.entries upper)
         → ¬ IsExternalAt (node_at nodes.now.entries lower)) }
     ensures fault { IfErr result (λ error. (fault_of error ≡ out_of_memory)
-        ⊎ ((upper lower : Key) × LeadsTo nodes.now.entries upper lower
+        ⊎ ((upper lower : Key) × EntityTypeLeadsTo nodes.now.entries upper lower
         × IsEnumeratedAt (node_at nodes.now.entries upper)
         × IsExternalAt (node_at nodes.now.entries lower)
         × IsLinkFault lower upper (fault_of error))) }

@@ -2,7 +2,7 @@
 
 ghost use Rattle.std.specs.Prelude.{◌≡◌, ◌⊎◌, IfErr, IfOk, List, OnOk, Some};
 ghost use Rattle.cedar_builder.specs.Words.{AreElaboratedTags, CoversExtensions, ElaboratesAs, Expr, HasOpenRecord, IsBodyFault, IsElaboratedEntity, IsRecordType, IsSoundBody, Reference, ResolvesEach, Ty, fault_of, fields_of, fragment_body, namespace_name, option_map, out_of_memory, record_of, shape_not_record, standard, ty_of, type_expr, type_name};
-ghost use Rattle.cedar_elaboration.specs.Refusals.{IsRefusal};
+ghost use Rattle.cedar_elaboration.specs.Refusals.{IsElaborationFault};
 
 use cedar_ast::{EntityType, InternalName};
 use cedar_elaboration::{TypeScope, elaborate};
@@ -32,7 +32,7 @@ fn shape_attributes<N: WrittenName>(
     ensures resolved { OnOk result (ResolvesEach scope.now
         (type_expr N (N.refer (namespace_name namespace.entry)) shape.now)) }
     ensures fault { IfErr result (λ error. (fault_of error ≡ out_of_memory)
-        ⊎ (IsRefusal scope.now (type_expr N (N.refer (namespace_name namespace.entry)) shape.now)
+        ⊎ (IsElaborationFault scope.now (type_expr N (N.refer (namespace_name namespace.entry)) shape.now)
         (fault_of error)
         ⊎ ((fault_of error ≡ shape_not_record (type_name name.now))
         × ((ty : Ty) × ElaboratesAs scope.now
@@ -70,7 +70,7 @@ fn tags_type<N: WrittenName>(
         ⊎ ((expr : Expr)
         × (option_map (type_expr N (N.refer (namespace_name namespace.entry))) tags.now
         ≡ Some expr)
-        × IsRefusal scope.now expr (fault_of error))) }
+        × IsElaborationFault scope.now expr (fault_of error))) }
 {
     match tags {
         None => Ok(None),

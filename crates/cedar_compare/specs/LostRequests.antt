@@ -7,7 +7,7 @@ use Rattle.cedar_compare.specs.Difference.{Subject, environment_subject}
 use Rattle.cedar_compare.specs.Lookup.{IsActionAt}
 use Rattle.cedar_compare.specs.LostEntities.{plain_outside}
 use Rattle.cedar_compare.specs.PlainRequests.{IsContextOutside}
-use Rattle.cedar_compare.specs.declared.requests.Requests.{Requests}
+use Rattle.cedar_compare.specs.declared.requests.ComparedRequests.{ComparedRequests}
 use Rattle.cedar_schema_elements.specs.Words.{action_of, kind_context, kind_principals, kind_resources}
 use Rattle.cedar_schema_semantics.specs.Words.{Environment, PlainSchema, SchemaAction}
 use Rattle.cedar_type_rules.specs.Ty.{Ty}
@@ -19,19 +19,19 @@ context_at None = None
 context_at (Some it) = kind_context it.kind
 
 -- the action of some requests in the new version, if there is one
-abbrev pub new_action : Requests → Option SchemaAction
+abbrev pub new_action : ComparedRequests → Option SchemaAction
 new_action it = option_map action_of (option_copied it.new)
 
 -- the requests are those of an action in both versions: the action of the new one is found, and a
 -- value of the context that the new one's can't be
-pub record AreRequestsOf (extensions : Extensions) (new : PlainSchema) (it : Requests)
+pub record AreRequestsOf (extensions : Extensions) (new : PlainSchema) (it : ComparedRequests)
     : Type 0 where
   pub action : IsActionAt new (uid_of it.uid.now) (new_action it)
   pub context : IsContextOutside extensions (ty_of it.context.now) (context_at (new_action it))
       (option_map plain_outside it.outside)
 
 -- the environment of some requests with a principal and a resource
-abbrev pub environment_with : Requests → PlainName → PlainName → Environment
+abbrev pub environment_with : ComparedRequests → PlainName → PlainName → Environment
 environment_with it principal resource = record {
   principal = principal;
   action = uid_of it.uid.now;

@@ -18,7 +18,7 @@ use std::alloc::Global;
 
 /// The requests of an action in two versions.
 #[derive(Drop)]
-pub(crate) struct Requests<'a> {
+pub(crate) struct ComparedRequests<'a> {
     /// The action's uid.
     pub(crate) uid: &'a EntityUID,
     /// The type of the context in the old version.
@@ -82,7 +82,7 @@ fn copied_steps(alloc: Global, steps: &Vec<Step>) -> M<Vec<Step>>
 /// The request of a principal and a resource with a sample of the context.
 fn sample_request(
     versions: &Versions<'_>,
-    requests: &Requests<'_>,
+    requests: &ComparedRequests<'_>,
     principal: EntityUID,
     resource: EntityUID,
 ) -> M<Request>
@@ -109,7 +109,7 @@ fn sample_request(
 /// The difference of an environment that the new version lacks.
 fn removed(
     versions: &Versions<'_>,
-    requests: &Requests<'_>,
+    requests: &ComparedRequests<'_>,
     principal: &EntityType,
     resource: &EntityType,
 ) -> M<Difference>
@@ -134,7 +134,7 @@ fn removed(
 /// The difference of an environment whose context the new version's can't be.
 fn context_lost(
     versions: &Versions<'_>,
-    requests: &Requests<'_>,
+    requests: &ComparedRequests<'_>,
     found: &Outside,
     principal: &EntityType,
     resource: &EntityType,
@@ -166,7 +166,7 @@ fn context_lost(
 /// resource, if something is.
 fn ids_lost(
     versions: &Versions<'_>,
-    requests: &Requests<'_>,
+    requests: &ComparedRequests<'_>,
     principal: &EntityType,
     resource: &EntityType,
 ) -> M<Option<Difference>>
@@ -199,7 +199,7 @@ fn ids_lost(
 }
 
 /// Whether the new version has the environment of an action.
-fn is_kept(requests: &Requests<'_>, principal: &EntityType, resource: &EntityType) -> bool
+fn is_kept(requests: &ComparedRequests<'_>, principal: &EntityType, resource: &EntityType) -> bool
     ensures { IsTrue result ↔ IsAppliedBy (new_action requests.now) (type_name principal.now)
         (type_name resource.now) }
 {
@@ -215,7 +215,7 @@ fn is_kept(requests: &Requests<'_>, principal: &EntityType, resource: &EntityTyp
 /// What is lost of an environment, if something is.
 fn lost_request(
     versions: &Versions<'_>,
-    requests: &Requests<'_>,
+    requests: &ComparedRequests<'_>,
     principal: &EntityType,
     resource: &EntityType,
 ) -> M<Option<Difference>>
@@ -249,7 +249,7 @@ fn listed<'a>(alloc: Global, types: RequestTypes<'a>) -> M<Vec<&'a EntityType>>
 /// What is lost of the requests of an action with one principal.
 fn lost_with_principal(
     versions: &Versions<'_>,
-    requests: &Requests<'_>,
+    requests: &ComparedRequests<'_>,
     principal: &EntityType,
     resources: &[&EntityType],
 ) -> M<Vec<Difference>>
@@ -278,7 +278,7 @@ fn lost_with_principal(
 /// What is lost of the requests of an action with each of some principals.
 fn lost_with_principals(
     versions: &Versions<'_>,
-    requests: &Requests<'_>,
+    requests: &ComparedRequests<'_>,
     principals: &[&EntityType],
     resources: &[&EntityType],
 ) -> M<Vec<Difference>>
@@ -311,7 +311,7 @@ fn requests_of<'a>(
     versions: &Versions<'a>,
     uid: &'a EntityUID,
     context: &'a Type,
-) -> M<Requests<'a>>
+) -> M<ComparedRequests<'a>>
     requires versions { AreVersions versions.now }
     requires context { IsContextIn (old_of versions.now) (ty_of context.now) }
     ensures uid { IfOk result (λ requests. requests.uid.now ≡ uid.now) }
@@ -330,7 +330,7 @@ fn requests_of<'a>(
         )?,
         None => None,
     };
-    Ok(Requests {
+    Ok(ComparedRequests {
         uid,
         context,
         new,

@@ -10,7 +10,7 @@ use Rattle.std.specs.declared.alloc.Global.{Global}
 use Rattle.std.specs.declared.string.String.{String}
 use Rattle.cedar_ast.proofs.Ordered.{IsStrictlySortedBy-map}
 use Rattle.cedar_elaboration.proofs.ScopeLemmas.{Covers-part}
-use Rattle.cedar_elaboration.specs.Words.{AttributeType, ClosedAttributes, Covers, CoversExtensions, Defined, ElaboratesAs, Expr, Fault, Fields, HasOpenRecord, HoldsLast, IsExprFault, IsRefusal, IsSortedByName, Members, MembersElaborateTo, MembersHaveOpenRecord, MembersMentionExtension, MembersRefer, PlainName, RecordType, Reference, ReferenceType, Text, Ty, TypeOfAttribute, TypeScope, as_member, as_no_member, as_record, attribute_of, end, extension_name, extensions_in_scope, field, field_names, fields_from, flag_and_expr, member, members_from, no_member, open_record, out-RecordType, out-TypeOfAttribute, out_of_memory, plain_attributes, record_expr, record_of, record_type_expr, reserved_name, text_cmp, type_expr, type_not_defined, unknown_extension_type}
+use Rattle.cedar_elaboration.specs.Words.{AttributeType, ClosedAttributes, Covers, CoversExtensions, Defined, ElaboratesAs, Expr, Fault, Fields, HasOpenRecord, HoldsLast, IsExprFault, IsElaborationFault, IsSortedByName, Members, MembersElaborateTo, MembersHaveOpenRecord, MembersMentionExtension, MembersRefer, PlainName, RecordType, Reference, ReferenceType, Text, Ty, TypeOfAttribute, TypeScope, as_member, as_no_member, as_record, attribute_of, end, extension_name, extensions_in_scope, field, field_names, fields_from, flag_and_expr, member, members_from, no_member, open_record, out-RecordType, out-TypeOfAttribute, out_of_memory, plain_attributes, record_expr, record_of, record_type_expr, reserved_name, text_cmp, type_expr, type_not_defined, unknown_extension_type}
 use Rattle.cedar_schema_ast.proofs.ExprLemmas.{record_type_expr-entries, flag_and_expr-parts}
 use Rattle.cedar_type_rules.proofs.Extensional.{fields_from-HoldsLast}
 
@@ -210,7 +210,7 @@ module _ (N : Type 0) (refer : ReferenceType → N → Reference) where
         knows
 
     -- the refusal of the type of the next entry is that of the record type
-    pub fault_of_next : (fault : Fault) → IsRefusal scope (attribute_expr attribute) fault → IsRefusal scope (record_type_expr N refer it) fault
+    pub fault_of_next : (fault : Fault) → IsElaborationFault scope (attribute_expr attribute) fault → IsElaborationFault scope (record_type_expr N refer it) fault
     fault_of_next fault at_fault = record {
       each = λ defined knows. rw (resolved_record-split it so_far.done left rest name attribute so_far.split is)
           (fault_of_member defined (extensions_in_scope scope) (resolved_members so_far.done) (string_bytes name)
@@ -292,5 +292,5 @@ module _ (N : Type 0) (refer : ReferenceType → N → Reference) where
 
   -- a record type with additional attributes is refused
   pub record_open : (scope : TypeScope) (it : RecordType N) → (out-RecordType N it).additional_attributes ≡ true
-      → IsRefusal scope (record_type_expr N refer it) open_record
+      → IsElaborationFault scope (record_type_expr N refer it) open_record
   record_open scope it additional = record { each = λ defined knows. rw (record_type_expr-entries N refer it) (inl additional) }

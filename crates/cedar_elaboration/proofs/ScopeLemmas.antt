@@ -1,7 +1,7 @@
 -- References to what is known.
 use Rattle.std.proofs.Common.{◌≡◌, ◌⊎◌, List, [], ◌∷◌, map, subst, refl, inl, inr, Contains, Result, Ok, Err, IfErr, IfOk, OnOk}
 use Rattle.cedar_ast.proofs.Lists.{Contains-preimage}
-use Rattle.cedar_elaboration.specs.Words.{Covers, CoversExtensions, Defined, ElaboratesAs, ElaboratesTo, Expr, Fault, Fields, HoldsJust, IsCommon, IsDefined, IsEntity, IsExprFault, IsRefusal, IsReserved, IsReservedEntity, IsUnresolved, MayNameCommon, Members, MembersElaborateTo, MembersRefer, Names, PlainName, Reference, Refers, ResolvesEach, ResolvesTo, Text, Ty, TypeScope, as_common, as_entity, as_extension, as_member, as_no_member, as_record, as_set, elaborated_types, extension_expr, extension_name, extension_of, extensions_in_scope, fault_of, held_names, named, names_of, out_of_memory, reserved_name, set_expr, set_of, ty_of, type_not_defined, union_of, unknown_extension_type}
+use Rattle.cedar_elaboration.specs.Words.{Covers, CoversExtensions, Defined, ElaboratesAs, ElaboratesTo, Expr, Fault, Fields, HoldsJust, IsCommon, IsDefined, IsEntity, IsExprFault, IsElaborationFault, IsReserved, IsReservedEntity, IsUnresolved, MayNameCommon, Members, MembersElaborateTo, MembersRefer, Names, PlainName, Reference, Refers, ResolvesEach, ResolvesTo, Text, Ty, TypeScope, as_common, as_entity, as_extension, as_member, as_no_member, as_record, as_set, elaborated_types, extension_expr, extension_name, extension_of, extensions_in_scope, fault_of, held_names, named, names_of, out_of_memory, reserved_name, set_expr, set_of, ty_of, type_not_defined, union_of, unknown_extension_type}
 use Rattle.cedar_schema_semantics.proofs.OccurrenceLemmas.{Contains-single}
 use Rattle.cedar_schema_semantics.proofs.ResolutionLemmas.{IsFirst-like, first_defined}
 use Rattle.cedar_schema_semantics.specs.declared.schema_error.SchemaError.{SchemaError}
@@ -110,7 +110,7 @@ module _ (scope : TypeScope) (reference : Reference) (name : PlainName)
   -- one that refuses it as reserved refuses the reference
   pub entity_refuses : {X : Type 0} (answer : Result X SchemaError)
       → IfErr answer (λ error. (fault_of error ≡ out_of_memory) ⊎ ((fault_of error ≡ reserved_name name) × IsReserved name))
-      → IfErr answer (λ error. IsRefusal scope (named reference) (fault_of error))
+      → IfErr answer (λ error. IsElaborationFault scope (named reference) (fault_of error))
   entity_refuses (Ok it) at_fault = tt
   entity_refuses (Err error) at_fault = record {
     each = λ defined knows. fault_of_entity defined scope reference knows name resolved absent (fault_of error) at_fault;
@@ -124,7 +124,7 @@ extension_name-same name word base path i = record { base = base i; path = path 
 pub fault_of_extension : (scope : TypeScope) (word : Text) (fault : Fault)
     → (fault ≡ out_of_memory) ⊎ ((fault ≡ unknown_extension_type (extension_name word))
     × ¬ Contains (extensions_in_scope scope) (extension_name word))
-    → IsRefusal scope (extension_expr word) fault
+    → IsElaborationFault scope (extension_expr word) fault
 fault_of_extension scope word fault at_fault = record {
   each = λ defined knows. elim at_fault [ inl wanting ↦ rw wanting tt | inr it ↦ rw it.0 (refl, refl, it.1) ];
 }
@@ -178,7 +178,7 @@ fault_in_set defined extensions element fault at_fault = at_fault
 
 -- the refusal of the elements of a set is that of an expression that is the set
 pub fault_of_set : (scope : TypeScope) (expr element : Expr) (fault : Fault) → expr ≡ set_expr element
-    → IsRefusal scope element fault → IsRefusal scope expr fault
+    → IsElaborationFault scope element fault → IsElaborationFault scope expr fault
 fault_of_set scope expr element fault same at_fault = record {
   each = λ defined knows. let whole : Covers defined scope (set_expr element) = rw same at knows in
       rw same (fault_in_set defined (extensions_in_scope scope) element fault
@@ -201,5 +201,5 @@ pub extensions_as : (scope : TypeScope) {expr other : Expr} → expr ≡ other �
 extensions_as scope same known = rw same known
 
 -- where memory runs out, whatever is elaborated is refused
-pub memory_refused : (scope : TypeScope) (expr : Expr) → IsRefusal scope expr out_of_memory
+pub memory_refused : (scope : TypeScope) (expr : Expr) → IsElaborationFault scope expr out_of_memory
 memory_refused scope expr = record { each = λ defined knows. tt }

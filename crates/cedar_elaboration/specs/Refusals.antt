@@ -32,6 +32,6 @@ IsExprFault defined extensions expr out_of_memory = Unit {0}
 IsExprFault defined extensions expr _ = ⊥
 
 -- whatever is defined, if enough of it is known for the expression, the fault is a refusal of this
-pub record IsRefusal (scope : TypeScope) (expr : Expr) (fault : Fault) : Type 0 where
+pub record IsElaborationFault (scope : TypeScope) (expr : Expr) (fault : Fault) : Type 0 where
   pub each : (defined : Defined) → Covers defined scope expr
       → IsExprFault defined (extensions_in_scope scope) expr fault

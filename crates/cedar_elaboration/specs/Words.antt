@@ -43,7 +43,7 @@ pub use Rattle.cedar_elaboration.specs.DeclaredTypes.{AreElaborated, AreTypesOf}
 pub use Rattle.cedar_elaboration.specs.Indices.{AddsIndices, AreIndices, NamesItems, defined_over, indexed_names, item_names}
 pub use Rattle.cedar_elaboration.specs.Order.{HasNoCycle, IsElaborationOrder, IsOrderFault}
 pub use Rattle.cedar_elaboration.specs.Primitive.{IsPrimitive, any_truth, is_long, is_long_type, is_text, is_text_type, is_truth, is_truth_type}
-pub use Rattle.cedar_elaboration.specs.Refusals.{IsExprFault, IsRefusal, IsReservedEntity}
+pub use Rattle.cedar_elaboration.specs.Refusals.{IsExprFault, IsElaborationFault, IsReservedEntity}
 pub use Rattle.cedar_elaboration.specs.Scope.{Covers, CoversExtensions, ElaboratesAs, HoldsElaborated, ResolvesEach, elaborated_types, extension_name, extensions_in_scope}
 pub use Rattle.cedar_elaboration.specs.SoundTypes.{CommonTypesAreSound}
 pub use Rattle.cedar_elaboration.specs.declared.type_scope.TypeScope.{TypeScope}

@@ -1,7 +1,7 @@
 //! Types elaborated as they are written.
 
 ghost use Rattle.std.specs.Prelude.{◌≡◌, [], ◌∷◌, IfErr, IfOk, OnOk};
-ghost use Rattle.cedar_elaboration.specs.Words.{CoversExtensions, ElaboratesAs, HasOpenRecord, IsRefusal, ResolvesEach, fault_of, fields_of, named, namespace_name, record_of, record_type_expr, ty_of, type_expr, type_not_defined, variant_expr};
+ghost use Rattle.cedar_elaboration.specs.Words.{CoversExtensions, ElaboratesAs, HasOpenRecord, IsElaborationFault, ResolvesEach, fault_of, fields_of, named, namespace_name, record_of, record_type_expr, ty_of, type_expr, type_not_defined, variant_expr};
 
 use crate::type_scope::{TypeScope, entity_reference};
 use cedar_ast::{InternalName, M, NonEmpty};
@@ -43,7 +43,7 @@ fn elaborate_reference<N: WrittenName>(
 ) -> Result<Type, SchemaError>
     ensures elaborates { IfOk result (λ elaborated. ElaboratesAs scope.now
         (named (N.refer (namespace_name namespace.entry) kind name.now)) (ty_of elaborated)) }
-    ensures fault { IfErr result (λ error. IsRefusal scope.now
+    ensures fault { IfErr result (λ error. IsElaborationFault scope.now
         (named (N.refer (namespace_name namespace.entry) kind name.now)) (fault_of error)) }
 {
     let Some(full) = name.resolved_within(kind, namespace, scope.defs)? else {
@@ -73,7 +73,7 @@ fn elaborate_shared<N: WrittenName>(
     ensures extensions { OnOk result (CoversExtensions scope.now
         (type_expr N (N.refer (namespace_name namespace.entry)) ty.now)) }
     ensures fault { IfErr result (λ error.
-        IsRefusal scope.now
+        IsElaborationFault scope.now
         (type_expr N (N.refer (namespace_name namespace.entry)) ty.now)
         (fault_of error)) }
 {
@@ -108,7 +108,7 @@ fn elaborate_variant<N: WrittenName>(
     ensures extensions { OnOk result (CoversExtensions scope.now
         (variant_expr N (N.refer (namespace_name namespace.entry)) ty.now)) }
     ensures fault { IfErr result (λ error.
-        IsRefusal scope.now
+        IsElaborationFault scope.now
         (variant_expr N (N.refer (namespace_name namespace.entry)) ty.now)
         (fault_of error)) }
 {
@@ -156,7 +156,7 @@ fn elaborate_attributes<N: WrittenName>(
     ensures extensions { OnOk result (CoversExtensions scope.now
         (record_type_expr N (N.refer (namespace_name namespace.entry)) record_type.now)) }
     ensures fault { IfErr result (λ error.
-        IsRefusal scope.now
+        IsElaborationFault scope.now
         (record_type_expr N (N.refer (namespace_name namespace.entry)) record_type.now)
         (fault_of error)) }
 {
@@ -188,7 +188,7 @@ fn elaborate_type<N: WrittenName>(
     ensures extensions { OnOk result (CoversExtensions scope.now
         (type_expr N (N.refer (namespace_name namespace.entry)) ty.now)) }
     ensures fault { IfErr result (λ error.
-        IsRefusal scope.now
+        IsElaborationFault scope.now
         (type_expr N (N.refer (namespace_name namespace.entry)) ty.now)
         (fault_of error)) }
 {
@@ -226,7 +226,7 @@ pub fn elaborate<N: WrittenName>(
     ensures resolved { OnOk result (ResolvesEach scope.now
         (type_expr N (N.refer (namespace_name namespace.entry)) ty.now)) }
     ensures fault { IfErr result (λ error.
-        IsRefusal scope.now
+        IsElaborationFault scope.now
         (type_expr N (N.refer (namespace_name namespace.entry)) ty.now)
         (fault_of error)) }
 {

@@ -4,7 +4,7 @@ use Rattle.cedar_ast.specs.Words.{type_name, uid_of}
 use Rattle.cedar_ast.specs.declared.entity_type.EntityType.{EntityType}
 use Rattle.cedar_ast.specs.declared.entity_uid.EntityUID.{EntityUID}
 use Rattle.cedar_schema_elements.specs.TypeSet.{set_name_at, set_types}
-use Rattle.cedar_schema_elements.specs.declared.action_kind.Requests.{Requests}
+use Rattle.cedar_schema_elements.specs.declared.action_kind.DefinedRequests.{DefinedRequests}
 use Rattle.cedar_schema_elements.specs.declared.request_env.RequestEnv.{RequestEnv}
 use Rattle.cedar_schema_elements.specs.declared.request_env.UnlinkedRequestEnv.{UnlinkedRequestEnv}
 use Rattle.cedar_schema_semantics.specs.Environments.{Environment}
@@ -21,7 +21,7 @@ environment_of it = record {
 }
 
 -- the types of the request whose principal and resource stand at these places
-abbrev pub environment_at : Requests → ℕ → ℕ → Environment
+abbrev pub environment_at : DefinedRequests → ℕ → ℕ → Environment
 environment_at it principal resource = record {
   principal = set_name_at it.principals principal;
   action = uid_of it.action;
@@ -51,7 +51,7 @@ lent_environment it = record {
 }
 
 -- those of the request whose principal and resource stand at these places
-abbrev pub located_environment_at : Requests → ℕ → ℕ → LocatedEnvironment
+abbrev pub located_environment_at : DefinedRequests → ℕ → ℕ → LocatedEnvironment
 located_environment_at it principal resource = record {
   principal = slice_get (set_types it.principals) principal;
   action = it.action;

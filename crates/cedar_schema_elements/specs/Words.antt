@@ -60,7 +60,7 @@ pub use Rattle.cedar_schema_elements.specs.ValidatorActionId.{action_loc, action
 pub use Rattle.cedar_schema_elements.specs.ValidatorApplySpec.{principal_names, principal_references, principal_types, resource_names, resource_references, resource_types}
 pub use Rattle.cedar_schema_elements.specs.ValidatorEntityType.{AreLocatedAsKeys, IsLocatedAsKey, PlainEntityType, attributes_of, descendant_names, entity_type_of, kind_attributes, name_loc, plain_entry, tags_of}
 pub use Rattle.cedar_schema_elements.specs.declared.action_id.ValidatorActionId.{ValidatorActionId}
-pub use Rattle.cedar_schema_elements.specs.declared.action_kind.Requests.{Requests}
+pub use Rattle.cedar_schema_elements.specs.declared.action_kind.DefinedRequests.{DefinedRequests}
 pub use Rattle.cedar_schema_elements.specs.declared.action_kind.ValidatorActionKind.{ValidatorActionKind}
 pub use Rattle.cedar_schema_elements.specs.declared.apply_spec.ValidatorApplySpec.{ValidatorApplySpec}
 pub use Rattle.cedar_schema_elements.specs.declared.entity_type.ValidatorEntityType.{ValidatorEntityType}

@@ -1,6 +1,6 @@
 //! Actions of a schema.
 
-use crate::action_kind::{Requests, ValidatorActionKind};
+use crate::action_kind::{DefinedRequests, ValidatorActionKind};
 use crate::sets::{copied, type_set, uid_set};
 use crate::type_set::{RequestTypes, TypeSet};
 use cedar_ast::{EntityType, EntityUID, Loc, M};
@@ -164,7 +164,7 @@ impl ValidatorActionId {
             (λ xs. SameItems (action_of action).descendants (map uid_of xs))) }
         ensures loc { IfOk result (λ action. action_loc action ≡ loc) }
     {
-        let requests = Requests {
+        let requests = DefinedRequests {
             action: name.clone()?,
             principals,
             resources,

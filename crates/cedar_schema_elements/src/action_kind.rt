@@ -13,7 +13,7 @@ use std::rc::Rc;
 ///
 /// Equality ignores the action, whose uid an action has besides.
 #[derive_where(Debug, PartialEq, Eq)]
-pub(crate) struct Requests {
+pub(crate) struct DefinedRequests {
     #[derive_where(skip(EqHashOrd))]
     pub(crate) action: EntityUID,
     pub(crate) principals: TypeSet,
@@ -22,9 +22,9 @@ pub(crate) struct Requests {
 }
 
 // Written out: proofs of what holds requests then see one call, and nothing of their parts.
-impl Drop for Requests {
+impl Drop for DefinedRequests {
     fn drop(self) {
-        let Requests {
+        let DefinedRequests {
             action: _action,
             principals: _principals,
             resources: _resources,
@@ -33,7 +33,7 @@ impl Drop for Requests {
     }
 }
 
-impl Requests {
+impl DefinedRequests {
     ghost use Rattle.std.specs.Prelude.{◌≡◌, IfOk};
     ghost use Rattle.cedar_schema_elements.specs.Words.{kind_of_requests, uid_of};
 
@@ -42,7 +42,7 @@ impl Requests {
         ensures action { IfOk result (λ it. uid_of it.action ≡ uid_of uid.now) }
         ensures kind { IfOk result (λ it. kind_of_requests it ≡ kind_of_requests self.now) }
     {
-        Ok(Requests {
+        Ok(DefinedRequests {
             action: uid.clone()?,
             principals: self.principals.clone()?,
             resources: self.resources.clone()?,
@@ -55,7 +55,7 @@ impl Requests {
 #[derive(Debug, Drop, PartialEq, Eq)]
 pub(crate) enum ValidatorActionKind {
     /// By the requests that it is for.
-    Defined { requests: Rc<Requests> },
+    Defined { requests: Rc<DefinedRequests> },
     /// Elsewhere.
     External,
 }

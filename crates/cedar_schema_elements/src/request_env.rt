@@ -3,7 +3,7 @@
 ghost use Rattle.std.specs.Prelude.{◌<◌, length};
 ghost use Rattle.cedar_schema_elements.specs.Requests.{requested_principals, requested_resources};
 
-use crate::action_kind::Requests;
+use crate::action_kind::DefinedRequests;
 use crate::type_set::TypeSet;
 use cedar_ast::{EntityType, EntityUID, M};
 use cedar_types::Type;
@@ -29,7 +29,7 @@ pub struct RequestEnv<'a> {
 /// as many environments as pairs of a principal and a resource, so they share what the action is
 /// for, and each knows the places of its principal and of its resource there.
 pub struct UnlinkedRequestEnv {
-    requests: Rc<Requests>,
+    requests: Rc<DefinedRequests>,
     principal: usize,
     resource: usize,
     ghost principal_is_there: { principal < length (requested_principals requests.value) },
@@ -73,7 +73,7 @@ impl UnlinkedRequestEnv {
               context = context;
             })) }
     {
-        let requests = Requests {
+        let requests = DefinedRequests {
             action,
             principals: TypeSet::single(alloc, principal)?,
             resources: TypeSet::single(alloc, resource)?,
@@ -87,7 +87,7 @@ impl UnlinkedRequestEnv {
     }
 
     /// The types of the request whose principal and resource stand at these places.
-    pub(crate) fn at(requests: &Rc<Requests>, principal: usize, resource: usize) -> M<Self>
+    pub(crate) fn at(requests: &Rc<DefinedRequests>, principal: usize, resource: usize) -> M<Self>
         requires principal { principal < length (requested_principals requests.now.value) }
         requires resource { resource < length (requested_resources requests.now.value) }
         ensures types { IfOk result (λ made. owned_environment made

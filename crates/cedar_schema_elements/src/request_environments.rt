@@ -4,7 +4,7 @@ ghost use Rattle.std.specs.Prelude.{◌≡◌, ◌++◌, ◌<◌, IfOk, IfSome, 
 ghost use Rattle.cedar_schema_elements.specs.Words.{ActionEntity, AreEnvironmentsOf, PlainName, SchemaEntityType, action_of, external_action, kind_environments, kind_of_requests, owned_environment, requested_principals, requested_resources, schema_with, set_name_at, ty_of, uid_of, with_resources};
 
 use crate::action_id::ValidatorActionId;
-use crate::action_kind::{Requests, ValidatorActionKind};
+use crate::action_kind::{DefinedRequests, ValidatorActionKind};
 use crate::request_env::UnlinkedRequestEnv;
 use cedar_ast::{EntityUID, M};
 use cedar_table::Table;
@@ -16,7 +16,7 @@ fn requests_of(
     alloc: Global,
     uid: &EntityUID,
     action: &ValidatorActionId,
-) -> M<Option<Rc<Requests>>>
+) -> M<Option<Rc<DefinedRequests>>>
     ensures action { IfOk result (λ found. IfSome found (λ requests.
         uid_of requests.value.action ≡ uid_of uid.now)) }
     ensures kind { IfOk result (λ found. IfSome found (λ requests.
@@ -38,7 +38,7 @@ fn requests_of(
 /// Adds the environments of the principal at a place with each of the resources.
 fn add_resources(
     environments: &mut Vec<UnlinkedRequestEnv>,
-    requests: &Rc<Requests>,
+    requests: &Rc<DefinedRequests>,
     principal: usize,
 ) -> M<()>
     requires { principal < length (requested_principals requests.now.value) }
@@ -55,7 +55,10 @@ fn add_resources(
 }
 
 /// Adds the environments of each of the principals with each of the resources.
-fn add_principals(environments: &mut Vec<UnlinkedRequestEnv>, requests: &Rc<Requests>) -> M<()>
+fn add_principals(
+    environments: &mut Vec<UnlinkedRequestEnv>,
+    requests: &Rc<DefinedRequests>,
+) -> M<()>
     ensures { OnOk result (map owned_environment environments.new.items
         ≡ map owned_environment environments.old.items
         ++ kind_environments (uid_of requests.now.value.action)

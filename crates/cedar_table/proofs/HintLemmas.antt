@@ -7,7 +7,7 @@ use Rattle.std.specs.Cmp.{Equal-is}
 use Rattle.std.specs.Hash.{HashWrites}
 use Rattle.std.specs.Ordering.{is_eq}
 use Rattle.std.specs.declared.cmp.Ordering.{Ordering}
-use Rattle.cedar_table.specs.Words.{AreHinted, Hint, Hints, IsPassed, KeyStandsAt, LeadsTo, RowIs, hash_by, row_of, tag_of}
+use Rattle.cedar_table.specs.Words.{AreHinted, Hint, Hints, IsPassed, KeyStandsAt, HintLeadsTo, RowIs, hash_by, row_of, tag_of}
 
 -- a row that passes in two ways
 both : (row : Option Hint) (First Second : Hint → Type 0) → IsSomeAnd row First → IsSomeAnd row Second
@@ -41,7 +41,7 @@ module _ (rows : List Hint) (hash : ℕ) where
       it.1.0 it.2.0
 
   -- two places to which hints lead are the same
-  pub leads_once : (first second : ℕ) → LeadsTo rows hash first → LeadsTo rows hash second → first ≡ second
+  pub leads_once : (first second : ℕ) → HintLeadsTo rows hash first → HintLeadsTo rows hash second → first ≡ second
   leads_once first second one two = elim (cases_eq one.step two.step) [
     | inl same ↦
         let it = both (row two.step) (IsTo first) (IsTo second)
@@ -56,7 +56,7 @@ module _ (rows : List Hint) (hash : ℕ) where
   -- no hint leads on where a row neither has the tag nor is passed, after rows that are passed
   pub ends_here : (step : ℕ) → (¬ RowIs rows hash step HasTag) → (¬ RowIs rows hash step (IsPassed hash))
       → ((earlier : ℕ) → earlier < step → RowIs rows hash earlier (IsPassed hash))
-      → (place : ℕ) → ¬ LeadsTo rows hash place
+      → (place : ℕ) → ¬ HintLeadsTo rows hash place
   ends_here step untagged unpassed before place leads = elim (cases_eq leads.step step) [
     | inl same ↦
         untagged (subst (λ each. RowIs rows hash each HasTag) same
@@ -69,7 +69,7 @@ module _ (rows : List Hint) (hash : ℕ) where
 
   -- nor where all rows that are looked at are passed
   pub ends_full : ((earlier : ℕ) → earlier < 64 → RowIs rows hash earlier (IsPassed hash))
-      → (place : ℕ) → ¬ LeadsTo rows hash place
+      → (place : ℕ) → ¬ HintLeadsTo rows hash place
   ends_full before place leads = apart place leads.step (before leads.step leads.near) leads.here
 
 module _ {K : Type 0} (eq : K → K → Bool) (cmp : K → K → Ordering) (writes : K → HashWrites)
@@ -77,13 +77,13 @@ module _ {K : Type 0} (eq : K → K → Bool) (cmp : K → K → Ordering) (writ
     (hinted : AreHinted writes hints keys) (complete : IsTrue hints.complete) (key : K)
     (alike : (other : K) → IsTrue (eq key other) → writes key ≡ writes other) where
   -- where hints are complete, a key isn't there if it stands at no place to which a hint leads
-  pub not_there : ((place : ℕ) → LeadsTo hints.rows.items (hash_by hints.begun (writes key)) place
+  pub not_there : ((place : ℕ) → HintLeadsTo hints.rows.items (hash_by hints.begun (writes key)) place
       → ¬ KeyStandsAt cmp keys key place)
       → (place : ℕ) → ¬ KeyStandsAt cmp keys key place
   not_there nowhere place stands =
       let other = get_or keys place key in
       let same : writes key ≡ writes other = alike other (ties key other ∙ (Equal-is (cmp key other)).1 (stands.1 key)) in
-      let Leads : HashWrites → Type 0 = λ input. LeadsTo hints.rows.items (hash_by hints.begun input) place in
+      let Leads : HashWrites → Type 0 = λ input. HintLeadsTo hints.rows.items (hash_by hints.begun input) place in
       nowhere place (subst Leads (sym same)
       (subst (λ each. IfSome each (λ it. Leads (writes it))) (slice_get-get_or keys place key stands.0) (hinted complete place)))
       stands

@@ -28,7 +28,7 @@ abbrev pub IsPassed : ℕ → Hint → Type 0
 IsPassed hash hint = (hint.tag ≢ tag_of hash) × (hint.place ≢ 2 ^ 32 - 1)
 
 -- the first of the rows of a hash that isn't passed has its tag, and the place
-pub record LeadsTo (rows : List Hint) (hash place : ℕ) : Type 0 where
+pub record HintLeadsTo (rows : List Hint) (hash place : ℕ) : Type 0 where
   pub step : ℕ
   pub near : step < 64
   pub here : RowIs rows hash step (λ hint. (hint.tag ≡ tag_of hash) × (hint.place ≡ place))
@@ -38,7 +38,7 @@ pub record LeadsTo (rows : List Hint) (hash place : ℕ) : Type 0 where
 abbrev pub LeadToAll : {K : Type 0} → (K → HashWrites) → FoldHasher → List Hint → List K
     → Type 0
 LeadToAll writes begun rows keys = (place : ℕ)
-    → IfSome (slice_get keys place) (λ key. LeadsTo rows (hash_by begun (writes key)) place)
+    → IfSome (slice_get keys place) (λ key. HintLeadsTo rows (hash_by begun (writes key)) place)
 
 -- where the hints are said to be complete, one leads to each key
 abbrev pub AreHinted : {K : Type 0} → (K → HashWrites) → Hints → List K → Type 0

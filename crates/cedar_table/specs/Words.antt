@@ -13,7 +13,7 @@ pub use Rattle.std.specs.declared.cmp.Ordering.TheVariants.{Equal}
 pub use Rattle.cedar_ast.specs.Lists.{HoldsPairwise}
 pub use Rattle.cedar_ast.specs.declared.memory.Memory.{Memory}
 pub use Rattle.cedar_table.specs.Entries.{Entries, HasKey, get_by}
-pub use Rattle.cedar_table.specs.Hints.{AreHinted, IsPassed, LeadToAll, LeadsTo, RowIs, hash_by, row_of, tag_of}
+pub use Rattle.cedar_table.specs.Hints.{AreHinted, IsPassed, LeadToAll, HintLeadsTo, RowIs, hash_by, row_of, tag_of}
 pub use Rattle.cedar_table.specs.StandsAt.{KeyStandsAt, StandsAt}
 pub use Rattle.cedar_table.specs.declared.hints.Hint.{Hint}
 pub use Rattle.cedar_table.specs.declared.hints.Hints.{Hints}

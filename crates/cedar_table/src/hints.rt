@@ -1,7 +1,7 @@
 //! Hints: where in a list of keys a key may stand, by its hash.
 
 ghost use Rattle.std.specs.Prelude.{◌≡◌, ℕ, false, IfNone, IfOk, IfSome, IsTrue, length};
-ghost use Rattle.cedar_table.specs.Words.{AreHinted, LeadToAll, LeadsTo, hash_by, row_of, tag_of};
+ghost use Rattle.cedar_table.specs.Words.{AreHinted, LeadToAll, HintLeadsTo, hash_by, row_of, tag_of};
 
 use cedar_ast::{M, QuickHash};
 use std::alloc::Global;
@@ -80,8 +80,8 @@ fn row_at(rows: &[Hint], hash: u64, step: usize) -> usize
 
 /// The place to which a hint leads, if one does.
 fn place_hinted(rows: &[Hint], hash: u64) -> Option<usize>
-    ensures found { IfSome result (LeadsTo rows.now hash) }
-    ensures lacking { IfNone result ((place : ℕ) → ¬ LeadsTo rows.now hash place) }
+    ensures found { IfSome result (HintLeadsTo rows.now hash) }
+    ensures lacking { IfNone result ((place : ℕ) → ¬ HintLeadsTo rows.now hash place) }
 {
     let tag = hash_tag(hash);
     for step in 0..PROBES {
@@ -182,9 +182,9 @@ impl Hints {
 
     /// Where a key may stand, if there is a hint.
     pub(crate) fn guess<K: QuickHash>(&self, key: &K) -> Option<usize>
-        ensures found { IfSome result (LeadsTo self.now.rows.items
+        ensures found { IfSome result (HintLeadsTo self.now.rows.items
             (hash_by self.now.begun (K.quick_input key.now))) }
-        ensures lacking { IfNone result ((place : ℕ) → ¬ LeadsTo self.now.rows.items
+        ensures lacking { IfNone result ((place : ℕ) → ¬ HintLeadsTo self.now.rows.items
             (hash_by self.now.begun (K.quick_input key.now)) place) }
         ensures alike { (other : K) → IsTrue (K.eq key.now other)
             → K.quick_input key.now ≡ K.quick_input other }

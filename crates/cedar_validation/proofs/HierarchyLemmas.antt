@@ -15,7 +15,7 @@ use Rattle.cedar_schema_semantics.proofs.OccurrenceLemmas.{Contains-image}
 use Rattle.cedar_types.proofs.MemberLemmas.{Contains-named}
 use Rattle.cedar_validation.proofs.Keyed.{type_found}
 use Rattle.cedar_validation.proofs.RequestTypeLemmas.{one_unknown}
-use Rattle.cedar_validation.specs.Words.{EntityType, EntityTypeKind, Fault, HasEntityType, IsBelowFault, IsBelowSound, IsEnumerated, IsExternal, IsOfKind, IsPairSound, IsRefusal, IsSchemaFault, ListsDescendant, Parts, PlainName, SchemaEntityType, StandsAt, ValidatorEntityType, descendant_names, entity_type_of, enumerated_below, external_below_enumerated, one, out_of_memory, plain_entry, plain_parts, type_name, undeclared_entity_types}
+use Rattle.cedar_validation.specs.Words.{EntityType, EntityTypeKind, Fault, HasEntityType, IsBelowFault, IsBelowSound, IsEnumerated, IsExternal, IsOfKind, IsPairSound, IsValidationFault, IsSchemaFault, ListsDescendant, Parts, PlainName, SchemaEntityType, StandsAt, ValidatorEntityType, descendant_names, entity_type_of, enumerated_below, external_below_enumerated, one, out_of_memory, plain_entry, plain_parts, type_name, undeclared_entity_types}
 
 abbrev pub Item : Type 0
 Item = EntityType × ValidatorEntityType
@@ -89,7 +89,7 @@ module _ (parts : Parts) where
 
   module _ (entry : Item) (among : Contains parts.entity_types.entries entry) (fault : Fault) where
     -- why the descendants of an entry are refused is why the schema is
-    pub below_fault : (fault ≡ out_of_memory) ⊎ IsBelowFault parts (type_name entry.0) entry.1 fault → IsRefusal (plain_parts parts) fault
+    pub below_fault : (fault ≡ out_of_memory) ⊎ IsBelowFault parts (type_name entry.0) entry.1 fault → IsValidationFault (plain_parts parts) fault
     below_fault why =
         elim why [
           | inl wanting ↦ inl wanting
@@ -115,7 +115,7 @@ module _ (parts : Parts) where
     -- a descendant that isn't declared is a fault
     pub undeclared_fault : (names : List PlainName) → names ≡ descendant_names entry.1
         → (fault ≡ out_of_memory) ⊎ ((name : PlainName) × (fault ≡ undeclared_entity_types (name ∷ [])) × Contains names name
-        × ¬ HasEntityType (plain_parts parts) name) → IsRefusal (plain_parts parts) fault
+        × ¬ HasEntityType (plain_parts parts) name) → IsValidationFault (plain_parts parts) fault
     undeclared_fault names same why =
         elim why [
           | inl wanting ↦ inl wanting

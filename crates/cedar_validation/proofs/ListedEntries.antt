@@ -5,7 +5,7 @@ use Rattle.cedar_ast.proofs.Lists.{Contains-preimage}
 use Rattle.cedar_ast.proofs.TurnLemmas.{turn_weaker}
 use Rattle.cedar_schema_semantics.proofs.OccurrenceLemmas.{Contains-image}
 use Rattle.cedar_validation.proofs.Pairwise.{pairwise_map}
-use Rattle.cedar_validation.specs.Words.{Chain, HoldsPairwise, IsClosedOf, LeadsTo, ListsIn, one}
+use Rattle.cedar_validation.specs.Words.{Chain, HoldsPairwise, IsClosedOf, DescendsTo, ListsIn, one}
 
 module _ {K V P Q : Type 0} (under : K → P) (below : V → List P) (plain : K × V → P × Q) (listed : Q → List P)
     (keyed : (e : K × V) → (plain e).0 ≡ under e.0) (lists : (e : K × V) → listed (plain e).1 ≡ below e.1) (entries : List (K × V)) where
@@ -30,7 +30,7 @@ module _ {K V P Q : Type 0} (under : K → P) (below : V → List P) (plain : K 
       )
 
   -- so chains of both lead to the same names
-  pub leads_alike : (lower upper : P) → LeadsTo under below entries lower upper ↔ Chain Lists lower upper
+  pub leads_alike : (lower upper : P) → DescendsTo under below entries lower upper ↔ Chain Lists lower upper
   leads_alike lower upper = (
     λ chain. refined (λ k l step. one (lists_plain k l step)) chain,
     λ chain. refined (λ k l step. one (here k l step)) chain,

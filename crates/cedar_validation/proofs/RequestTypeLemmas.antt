@@ -1,7 +1,7 @@
 -- Principals, resources and descendants of actions that aren't of the schema.
 use Rattle.std.proofs.Common.{◌⊎◌, [], ◌∷◌, subst, sym, inl, inr, arith, Contains}
 use Rattle.cedar_schema_semantics.proofs.OccurrenceLemmas.{Contains-single}
-use Rattle.cedar_validation.specs.Words.{ActionKind, Extensions, Fault, IsMisplaced, IsPrincipalOrResourceOf, IsRefusal, IsSchemaFault, IsUnknownType, PlainName, PlainSchema, PlainUid, SchemaAction, defined_action, external_action, kind_principals, kind_resources, undeclared_action_descendant, undeclared_entity_types}
+use Rattle.cedar_validation.specs.Words.{ActionKind, Extensions, Fault, IsMisplaced, IsPrincipalOrResourceOf, IsValidationFault, IsSchemaFault, IsUnknownType, PlainName, PlainSchema, PlainUid, SchemaAction, defined_action, external_action, kind_principals, kind_resources, undeclared_action_descendant, undeclared_entity_types}
 
 -- one entity type that isn't known is a fault
 pub one_unknown : (extensions : Extensions) (schema : PlainSchema) (name : PlainName) → IsUnknownType schema name
@@ -13,7 +13,7 @@ one_unknown extensions schema name unknown = (
 
 -- why an action is refused is why its schema is
 pub misplaced_fault : (schema : PlainSchema) (entry : PlainUid × SchemaAction) → Contains schema.actions entry → (fault : Fault)
-    → IsMisplaced schema entry.1 fault → IsRefusal schema fault
+    → IsMisplaced schema entry.1 fault → IsValidationFault schema fault
 misplaced_fault schema entry among fault misplaced =
     elim misplaced [
       | inl wanting ↦ inl wanting

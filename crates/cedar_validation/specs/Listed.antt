@@ -12,15 +12,15 @@ module _ {K V P : Type 0} (under : K → P) (below : V → List P) (entries : Li
       × Contains (below entry.1) lower
 
   -- one or more steps of what is listed lead from the second name to the first
-  abbrev pub LeadsTo : P → P → Type 0
-  LeadsTo = Chain ListsIn
+  abbrev pub DescendsTo : P → P → Type 0
+  DescendsTo = Chain ListsIn
 
 module _ {K V P : Type 0} (under : K → P) (below : V → List P) (entries : List (K × V)) where
   -- why what is listed can't be closed: a name leads back to itself where none may, or one is
   -- listed that no entry has; an answer of memory says nothing
   abbrev pub IsListFault : Bool → TableFault K → Type 0
   IsListFault enforce_dag (HasCycle key) =
-      IsTrue enforce_dag × LeadsTo under below entries (under key) (under key)
+      IsTrue enforce_dag × DescendsTo under below entries (under key) (under key)
   IsListFault enforce_dag (Lacks key) =
       ((upper : P) × ListsIn under below entries (under key) upper)
       × ¬ ((entry : K × V) × Contains entries entry × (under entry.0 ≡ under key))
@@ -34,4 +34,4 @@ pub record IsClosedOf {K V P : Type 0} (under : K → P) (below : V → List P)
   pub key : under it.0 ≡ under closed.0
   pub alike : is_alike it.1 closed.1
   pub below_it : (lower : P) → Contains (below closed.1) lower
-      ↔ LeadsTo under below entries lower (under it.0)
+      ↔ DescendsTo under below entries lower (under it.0)

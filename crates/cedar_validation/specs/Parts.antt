@@ -28,8 +28,8 @@ plain_parts parts = plain_schema parts.entity_types.entries parts.actions.entrie
 
 -- why a schema is refused: memory ran out, or the fault is one of it, whatever extensions are
 -- handed in
-abbrev pub IsRefusal : PlainSchema → Fault → Type 0
-IsRefusal schema fault = (fault ≡ out_of_memory)
+abbrev pub IsValidationFault : PlainSchema → Fault → Type 0
+IsValidationFault schema fault = (fault ≡ out_of_memory)
     ⊎ ((extensions : Extensions) → IsSchemaFault extensions schema fault)
 
 -- descendants are closed: what chains of them lead to is listed; and no action is on a cycle

@@ -44,9 +44,9 @@ pub use Rattle.cedar_types.specs.Meaning.{attribute_of, fields_of, ty_of}
 pub use Rattle.cedar_validation.specs.Copies.{IsActionCopied, IsTypeCopied}
 pub use Rattle.cedar_validation.specs.Hierarchy.{IsBelowFault, IsBelowSound, IsKindFault, IsKindSound, IsPairSound, StandsAt}
 pub use Rattle.cedar_validation.specs.LastNamed.{last_named, last_of_uid, last_that}
-pub use Rattle.cedar_validation.specs.Listed.{IsClosedOf, IsListFault, LeadsTo, ListsIn}
+pub use Rattle.cedar_validation.specs.Listed.{IsClosedOf, IsListFault, DescendsTo, ListsIn}
 pub use Rattle.cedar_validation.specs.Mentions.{IsKnownThroughout, IsUnknownIn, Knows, KnowsExtension}
-pub use Rattle.cedar_validation.specs.Parts.{IsClosed, IsRefusal, action_graph_fault, plain_parts, plain_schema, type_graph_fault, whole_schema}
+pub use Rattle.cedar_validation.specs.Parts.{IsClosed, IsValidationFault, action_graph_fault, plain_parts, plain_schema, type_graph_fault, whole_schema}
 pub use Rattle.cedar_validation.specs.RequestTypes.{ArePlaced, IsMisplaced}
 pub use Rattle.cedar_validation.specs.Sound.{AreMentionsSound, AreNamesSound}
 pub use Rattle.cedar_validation.specs.declared.known.Known.{Known}

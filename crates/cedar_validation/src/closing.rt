@@ -2,7 +2,7 @@
 
 ghost use Rattle.std.specs.Prelude.{◌≡◌, Contains, IfErr, IfOk, IsTrue, List, OnOk, map};
 ghost use Rattle.cedar_schema_elements.specs.ValidatorActionId as action_specs;
-ghost use Rattle.cedar_validation.specs.Words.{ActionEntity, Chain, ClosesAction, ClosesType, HoldsPairwise, IsClosedOf, IsListFault, IsRefusal, LeadsTo, ListsDescendantAction, PlainUid, action_graph_fault, fault_of, plain_action_entry, plain_entry, plain_schema, type_graph_fault};
+ghost use Rattle.cedar_validation.specs.Words.{ActionEntity, Chain, ClosesAction, ClosesType, HoldsPairwise, IsClosedOf, IsListFault, IsValidationFault, DescendsTo, ListsDescendantAction, PlainUid, action_graph_fault, fault_of, plain_action_entry, plain_entry, plain_schema, type_graph_fault};
 ghost use Rattle.cedar_schema_elements.specs.declared.action_id.ValidatorActionId.{ValidatorActionId as Action};
 ghost use Rattle.cedar_ast.specs.declared.entity_type.EntityType.{EntityType as Name};
 ghost use Rattle.cedar_ast.specs.declared.entity_uid.EntityUID.{EntityUID as Uid};
@@ -36,7 +36,7 @@ fn closed_nodes<K: Ord + Hash + QuickHash + Drop, V: SchemaNode<K> + Drop>(
         HoldsPairwise (IsClosedOf V.key_name V.below V.is_alike nodes.entries)
         nodes.entries closed.entries) }
     ensures acyclic { OnOk result (IsTrue enforce_dag → (name : V.Name)
-        → ¬ LeadsTo V.key_name V.below nodes.entries name name) }
+        → ¬ DescendsTo V.key_name V.below nodes.entries name name) }
     ensures fault { IfErr result
         (IsListFault V.key_name V.below nodes.entries enforce_dag) }
 {
@@ -81,7 +81,7 @@ pub(crate) fn closed_types(
         (map plain_entry types.entries) (map plain_entry closed.entries)) }
     ensures fault { IfErr result (λ error.
         (actions : List (Uid × Action)) (entities : List ActionEntity)
-        → IsRefusal (plain_schema types.entries actions entities) (fault_of error)) }
+        → IsValidationFault (plain_schema types.entries actions entities) (fault_of error)) }
 {
     match closed_nodes::<EntityType, ValidatorEntityType>(alloc, types, false) {
         Ok(closed) => Ok(closed),
@@ -106,7 +106,7 @@ pub(crate) fn closed_actions(
         → ¬ Chain (ListsDescendantAction (plain_schema types actions.entries entities)) uid uid) }
     ensures fault { IfErr result (λ error.
         (types : List (Name × Node)) (entities : List ActionEntity)
-        → IsRefusal (plain_schema types actions.entries entities) (fault_of error)) }
+        → IsValidationFault (plain_schema types actions.entries entities) (fault_of error)) }
 {
     match closed_nodes::<EntityUID, ValidatorActionId>(alloc, actions, true) {
         Ok(closed) => Ok(closed),

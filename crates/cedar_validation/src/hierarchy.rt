@@ -1,7 +1,7 @@
 //! What is refused of the hierarchy of entity types, whose descendants are closed.
 
 ghost use Rattle.std.specs.Prelude.{◌≡◌, ◌⊎◌, IfErr, OnOk};
-ghost use Rattle.cedar_validation.specs.Words.{IsBelowFault, IsBelowSound, IsKindFault, IsKindSound, IsPairSound, IsRefusal, ListsDescendant, PlainName, entity_type_of, fault_of, out_of_memory, plain_parts, type_name};
+ghost use Rattle.cedar_validation.specs.Words.{IsBelowFault, IsBelowSound, IsKindFault, IsKindSound, IsPairSound, IsValidationFault, ListsDescendant, PlainName, entity_type_of, fault_of, out_of_memory, plain_parts, type_name};
 
 use crate::parts::Parts;
 use crate::request_types::check_declared;
@@ -57,7 +57,7 @@ pub(crate) fn check_hierarchy(alloc: Global, parts: &Parts) -> Result<(), Schema
     ensures sound { OnOk result ((lower upper : PlainName)
         → ListsDescendant (plain_parts parts.now) lower upper
         → IsPairSound (plain_parts parts.now) lower upper) }
-    ensures fault { IfErr result (λ error. IsRefusal (plain_parts parts.now) (fault_of error)) }
+    ensures fault { IfErr result (λ error. IsValidationFault (plain_parts parts.now) (fault_of error)) }
 {
     for (upper, above) in &parts.entity_types {
         check_declared(alloc, parts, above.descendants.iter())?;

@@ -1,7 +1,7 @@
 //! What is refused of principals, resources and descendants that are named.
 
 ghost use Rattle.std.specs.Prelude.{◌≡◌, ◌⊎◌, [], ◌∷◌, Contains, IfErr, OnOk, map};
-ghost use Rattle.cedar_validation.specs.Words.{ArePlaced, HasAction, HasEntityType, HasKey, IsMisplaced, IsRefusal, MatchOption, PlainName, PlainUid, SchemaAction, action_of, fault_of, out_of_memory, plain_parts, type_name, undeclared_action_descendant, undeclared_entity_types};
+ghost use Rattle.cedar_validation.specs.Words.{ArePlaced, HasAction, HasEntityType, HasKey, IsMisplaced, IsValidationFault, MatchOption, PlainName, PlainUid, SchemaAction, action_of, fault_of, out_of_memory, plain_parts, type_name, undeclared_action_descendant, undeclared_entity_types};
 
 use crate::known::undeclared;
 use crate::parts::Parts;
@@ -97,7 +97,7 @@ pub(crate) fn check_actions(alloc: Global, parts: &Parts) -> Result<(), SchemaEr
     ensures sound { OnOk result ((entry : PlainUid × SchemaAction)
         → Contains (plain_parts parts.now).actions entry
         → ArePlaced (plain_parts parts.now) entry.1) }
-    ensures fault { IfErr result (λ error. IsRefusal (plain_parts parts.now) (fault_of error)) }
+    ensures fault { IfErr result (λ error. IsValidationFault (plain_parts parts.now) (fault_of error)) }
 {
     for (_uid, action) in &parts.actions {
         check_action(alloc, parts, action)?;

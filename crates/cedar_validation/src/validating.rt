@@ -2,7 +2,7 @@
 
 ghost use Rattle.std.specs.Prelude.{◌≡◌, ◌⊎◌, IfErr, IfOk, List, OnOk};
 ghost use Rattle.cedar_schema_elements.specs.ValidatorActionId as action_specs;
-ghost use Rattle.cedar_validation.specs.Words.{ActionEntity, AreMentionsSound, AreNamesSound, ClosesSchema, IsClosed, IsRefusal, IsSchemaFault, IsValidSchema, fault_of, out_of_memory, plain_parts, plain_schema, whole_schema};
+ghost use Rattle.cedar_validation.specs.Words.{ActionEntity, AreMentionsSound, AreNamesSound, ClosesSchema, IsClosed, IsValidationFault, IsSchemaFault, IsValidSchema, fault_of, out_of_memory, plain_parts, plain_schema, whole_schema};
 ghost use Rattle.cedar_schema_elements.specs.ValidatorEntityType as type_specs;
 
 use crate::closing::{closed_actions, closed_types};
@@ -33,7 +33,7 @@ pub struct Validated {
 /// Refuses names that may not stand, or not beside one another.
 fn check_names(alloc: Global, parts: &Parts) -> Result<(), SchemaError>
     ensures sound { OnOk result (AreNamesSound (plain_parts parts.now)) }
-    ensures fault { IfErr result (λ error. IsRefusal (plain_parts parts.now) (fault_of error)) }
+    ensures fault { IfErr result (λ error. IsValidationFault (plain_parts parts.now) (fault_of error)) }
 {
     check_type_names(parts)?;
     check_action_types(parts)?;

@@ -2,10 +2,10 @@ use Rattle.std.proofs.Common.{rules, ◌<◌, ◌≤◌, List, length, map, sym}
 use Rattle.std.proofs.lemmas.List.{append-nil}
 use Rattle.cedar_schema_elements.proofs.GivenLemmas.{taken_all, taken_more}
 use Rattle.cedar_schema_elements.proofs.request_environments.add_principals.Goals as goal
-use Rattle.cedar_schema_elements.specs.Words.{Environment, PlainName, Requests, empty_name, owned_environment, requested_principals, requested_resources, ty_of, uid_of, with_resources}
+use Rattle.cedar_schema_elements.specs.Words.{Environment, PlainName, DefinedRequests, empty_name, owned_environment, requested_principals, requested_resources, ty_of, uid_of, with_resources}
 
 -- what a principal gives
-abbrev given : Requests → PlainName → List Environment
+abbrev given : DefinedRequests → PlainName → List Environment
 given requests principal =
     with_resources (uid_of requests.action) (ty_of requests.context) principal (requested_resources requests)
 

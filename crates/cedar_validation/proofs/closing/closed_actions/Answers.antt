@@ -3,17 +3,17 @@ use Rattle.cedar_graph.specs.declared.table_fault.TableFault.TheVariants as refu
 use Rattle.cedar_schema_elements.specs.ActionKind.{plain_kind}
 use Rattle.cedar_validation.proofs.ListedEntries.{closed_plain, leads_alike, lists_plain, none_plain}
 use Rattle.cedar_validation.proofs.closing.closed_actions.Goals as goal
-use Rattle.cedar_validation.specs.Words.{ActionEntity, Chain, ClosesAction, EntityType, EntityUID, Fault, IsListFault, IsRefusal, IsSchemaFault, LeadsTo, ListsDescendantAction, PlainUid, TableFault, ValidatorActionId, ValidatorEntityType, action_cycle, action_graph_fault, action_of, fault_of, plain_action_entry, plain_schema, uid_of, undeclared_action_descendant}
+use Rattle.cedar_validation.specs.Words.{ActionEntity, Chain, ClosesAction, EntityType, EntityUID, Fault, IsListFault, IsValidationFault, IsSchemaFault, DescendsTo, ListsDescendantAction, PlainUid, TableFault, ValidatorActionId, ValidatorEntityType, action_cycle, action_graph_fault, action_of, fault_of, plain_action_entry, plain_schema, uid_of, undeclared_action_descendant}
 
 module _ (types : List (EntityType × ValidatorEntityType)) (actions : List (EntityUID × ValidatorActionId)) (entities : List ActionEntity) where
   -- chains of what actions list lead to the same uids in the schema
-  leads : (lower upper : PlainUid) → LeadsTo uid_of (λ node. (action_of node).descendants) actions lower upper
+  leads : (lower upper : PlainUid) → DescendsTo uid_of (λ node. (action_of node).descendants) actions lower upper
       ↔ Chain (ListsDescendantAction (plain_schema types actions entities)) lower upper
   leads = leads_alike uid_of (λ node. (action_of node).descendants) plain_action_entry (λ it. it.descendants) (λ e. refl) (λ e. refl) actions
 
   -- why the closure of actions is refused is why the schema is
   refused_fault : (error : TableFault EntityUID) (fault : Fault) → fault ≡ action_graph_fault error
-      → IsListFault uid_of (λ node. (action_of node).descendants) actions true error → IsRefusal (plain_schema types actions entities) fault
+      → IsListFault uid_of (λ node. (action_of node).descendants) actions true error → IsValidationFault (plain_schema types actions entities) fault
   refused_fault (refused.HasCycle key) fault is why = inr (λ extensions.
       let cycle : IsSchemaFault extensions (plain_schema types actions entities) (action_cycle (uid_of key)) =
       (leads (uid_of key) (uid_of key)).0 why.1 in

@@ -4,11 +4,11 @@ use Rattle.cedar_graph.specs.declared.table_fault.TableFault.TheVariants as refu
 use Rattle.cedar_validation.proofs.ListedEntries.{closed_plain, lists_plain, none_plain}
 use Rattle.cedar_validation.proofs.RequestTypeLemmas.{one_unknown}
 use Rattle.cedar_validation.proofs.closing.closed_types.Goals as goal
-use Rattle.cedar_validation.specs.Words.{ClosesType, EntityType, Fault, IsListFault, IsRefusal, IsSchemaFault, TableFault, descendant_names, fault_of, plain_entry, plain_kind, plain_schema, type_graph_fault, type_name}
+use Rattle.cedar_validation.specs.Words.{ClosesType, EntityType, Fault, IsListFault, IsValidationFault, IsSchemaFault, TableFault, descendant_names, fault_of, plain_entry, plain_kind, plain_schema, type_graph_fault, type_name}
 
 -- why the closure of entity types is refused is why the schema is
 refused_fault : (types : _) (actions : _) (entities : _) (error : TableFault EntityType) (fault : Fault) → fault ≡ type_graph_fault error
-    → IsListFault type_name descendant_names types false error → IsRefusal (plain_schema types actions entities) fault
+    → IsListFault type_name descendant_names types false error → IsValidationFault (plain_schema types actions entities) fault
 refused_fault types actions entities (refused.HasCycle key) fault is why = absurd (false≢true why.0)
 refused_fault types actions entities (refused.Lacks key) fault is why = inr (λ extensions.
     let schema = plain_schema types actions entities in

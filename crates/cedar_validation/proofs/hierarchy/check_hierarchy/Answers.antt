@@ -3,7 +3,7 @@ use Rattle.std.proofs.lemmas.Result.{err_from_is_err_and}
 use Rattle.cedar_validation.proofs.Checking.{checking_all, checking_here, checking_more, checking_none}
 use Rattle.cedar_validation.proofs.HierarchyLemmas.{IsCheckedBelow, Item, below_fault, pair_sound, undeclared_fault}
 use Rattle.cedar_validation.proofs.hierarchy.check_hierarchy.Goals as goal
-use Rattle.cedar_validation.specs.Words.{IsRefusal, fault_of, plain_parts, type_name}
+use Rattle.cedar_validation.specs.Words.{IsValidationFault, fault_of, plain_parts, type_name}
 
 -- at first no entity type is checked, and all are left
 pub loop-upper-init : goal.loop-upper-init
@@ -28,7 +28,7 @@ returns-in_err-check_declared-clause-fault c =
     let fault = fault_of c.in_err-check_declared.field-0.0 in
     let among =
     checking_here (IsCheckedBelow parts) parts.entity_types.entries _ _ entry c.in-Some.ensures.steps c.loop-upper.invariant in
-    let at_fault : IsRefusal (plain_parts parts) fault =
+    let at_fault : IsValidationFault (plain_parts parts) fault =
     undeclared_fault parts entry among fault _ (ap (map type_name) c.iter.ensures.rest) c.in_err-check_declared.ensures.fault in
     let p = err_from_is_err_and c.from_residual.result c.from_residual.ensures.1 in
     rw (p.1, p.2) at_fault
@@ -41,7 +41,7 @@ returns-in_err-check_below-clause-fault c =
     let fault = fault_of c.in_err-check_below.field-0.0 in
     let among =
     checking_here (IsCheckedBelow parts) parts.entity_types.entries _ _ entry c.in-Some.ensures.steps c.loop-upper.invariant in
-    let at_fault : IsRefusal (plain_parts parts) fault = below_fault parts entry among fault c.in_err-check_below.ensures.fault in
+    let at_fault : IsValidationFault (plain_parts parts) fault = below_fault parts entry among fault c.in_err-check_below.ensures.fault in
     let p = err_from_is_err_and c.from_residual-in_err-check_below.result c.from_residual-in_err-check_below.ensures.1 in
     rw (p.1, p.2) at_fault
 

@@ -5,7 +5,7 @@ use Rattle.cedar_schema_semantics.proofs.OccurrenceLemmas.{Contains-image}
 use Rattle.cedar_validation.proofs.Checking.{checking_all, checking_here, checking_more, checking_none}
 use Rattle.cedar_validation.proofs.RequestTypeLemmas.{misplaced_fault}
 use Rattle.cedar_validation.proofs.request_types.check_actions.Goals as goal
-use Rattle.cedar_validation.specs.Words.{ArePlaced, EntityUID, IsRefusal, PlainUid, SchemaAction, ValidatorActionId, action_of, fault_of, plain_action_entry, plain_parts}
+use Rattle.cedar_validation.specs.Words.{ArePlaced, EntityUID, IsValidationFault, PlainUid, SchemaAction, ValidatorActionId, action_of, fault_of, plain_action_entry, plain_parts}
 
 -- an action under its uid
 abbrev Item : Type 0
@@ -42,7 +42,7 @@ returns-in_err-check_action-clause-fault c =
     let entry : Item = (c.in-Some._uid.now, c.in-Some.action.now) in
     let among =
     checking_here (λ (each : Item). ArePlaced schema (action_of each.1)) actions _ _ entry c.in-Some.ensures.steps c.loop-uid.invariant in
-    let at_fault : IsRefusal schema fault =
+    let at_fault : IsValidationFault schema fault =
     misplaced_fault schema (plain_action_entry entry) (Contains-image plain_action_entry actions entry among) fault
     c.in_err-check_action.ensures.fault in
     let p = err_from_is_err_and c.from_residual.result c.from_residual.ensures.1 in
