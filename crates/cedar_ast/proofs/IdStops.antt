@@ -14,7 +14,7 @@ identifier_begins : (text : Text) → IsIdentifier text → begins_identifier te
 identifier_begins text is = (both_true (begins_identifier text) (list_all is_identifier_byte text) is).0
 
 -- the bytes of an identifier may stand in one
-identifier_bytes : (text : Text) → IsIdentifier text → list_all is_identifier_byte text ≡ true
+pub identifier_bytes : (text : Text) → IsIdentifier text → list_all is_identifier_byte text ≡ true
 identifier_bytes text is = (both_true (begins_identifier text) (list_all is_identifier_byte text) is).1
 
 -- what begins a text decides whether an identifier may begin so

@@ -1,3 +1,4 @@
+pub mod Basics
 pub mod Chains
 pub mod Collected
 mod EntryLemmas

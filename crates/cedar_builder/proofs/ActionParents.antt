@@ -1,15 +1,16 @@
 -- Parents and descent of actions, as edges and in the bag.
-use Rattle.std.proofs.Common.{◌≡◌, List, [], ◌∷◌, Option, map, ap, sym, subst, ◌∙◌, inl, inr, Contains}
+use Rattle.std.proofs.Common.{◌≡◌, List, [], ◌∷◌, Option, map, ap, sym, subst, ◌∙◌, Contains}
 use Rattle.std.proofs.lemmas.Simd.{map-map}
 use Rattle.std.specs.Global.{Box}
+use Rattle.cedar_ast.proofs.Basics.{Contains-image}
 use Rattle.cedar_ast.proofs.Lists.{Contains-preimage}
 use Rattle.cedar_ast.proofs.TurnLemmas.{turn_weaker}
 use Rattle.cedar_ast.proofs.Uids.{entity_uid_eq-same}
 use Rattle.cedar_ast.specs.contracts.entity_uid.EntityUIDPartialEq.TheImpl as uid_eq
 use Rattle.cedar_builder.proofs.NodeParents as any
 use Rattle.cedar_builder.specs.ActionNodes.{IsAbove}
-use Rattle.cedar_builder.specs.Words.{ActionBody, ActionFragment, ActionReference, AreActionsOf, Bag, Chain, EntityType, EntityUID, Entries, Extensions, Fault, HasParentAction, HoldsPairwise, IsActionParent, IsDescendantAction, IsEdgeOf, IsFirst, IsParentActionFault, IsParentFault, Names, NamesAction, PlainName, PlainUid, Reference, ReferenceType, SameItems, Text, TypeScope, ValidatorEntityType, Written, action_uids, declared_actions, held_names, more, one, parents_in, requests_in, uid_of, written_action_body, written_actions}
-use Rattle.cedar_schema_semantics.proofs.OccurrenceLemmas.{Contains-image}
+use Rattle.cedar_builder.specs.Words.{ActionBody, ActionFragment, ActionReference, AreActionsOf, Bag, Chain, EntityType, EntityUID, Entries, Extensions, Fault, HasParentAction, HoldsPairwise, IsActionParent, IsDescendantAction, IsEdgeOf, IsParentActionFault, IsParentFault, Names, NamesAction, PlainName, PlainUid, Reference, ReferenceType, SameItems, TypeScope, ValidatorEntityType, Written, action_uids, declared_actions, held_names, more, one, parents_in, requests_in, uid_of, written_action_body, written_actions}
+use Rattle.cedar_schema_semantics.proofs.NamedActions.{NamesAction-among}
 use Rattle.cedar_schema_semantics.proofs.ResolutionLemmas.{IsFirst-like, IsFirst-same}
 use Rattle.cedar_schema_semantics.proofs.TurnLemmas.{turn_back, turn_forth}
 
@@ -76,21 +77,9 @@ descendant_declared bag {lower = lower} (one step) =
 descendant_declared bag {lower = lower} (more step rest) =
     Contains-image (λ (it : PlainUid × ActionBody). it.0) (declared_actions bag) (lower, step.1.0) step.1.1
 
--- a fact holds of the first item of which it does
-first_holds : {A : Type 0} (P : A → Type 0) (xs : List A) (x : A) → IsFirst P xs x → P x
-first_holds P [] x none = absurd none
-first_holds P (first ∷ rest) x found = elim found [ inl here ↦ subst P here.0 here.1 | inr later ↦ first_holds P rest x later.1 ]
-
 -- of some actions a type is that of one by the id of a reference
 abbrev IsTypeOf : List PlainUid → ActionReference → PlainName → Type 0
 IsTypeOf actions reference ty = Contains actions (record { ty = ty; eid = reference.id })
-
--- what a reference names is one of the actions
-pub named_among : (actions : List PlainUid) (reference : ActionReference) (uid : PlainUid) → NamesAction actions reference uid
-    → Contains actions uid
-named_among actions reference uid names =
-    let Is : Text → Type 0 = λ eid. Contains actions (record { ty = uid.ty; eid = eid }) in
-    subst Is (sym names.1) (first_holds (IsTypeOf actions reference) reference.ty.possibilities uid.ty names.0)
 
 -- a reference names one action
 once : (actions : List PlainUid) (reference : ActionReference) (uid other : PlainUid) → NamesAction actions reference uid
@@ -146,7 +135,7 @@ module _ (bag : Bag) (extensions : Extensions) (declared : List (PlainUid × Act
     -- the upper action of an edge is declared
     pub edge_declared : (upper lower : EntityUID) → IsAbove edges upper lower → Contains (action_uids bag) (uid_of upper)
     edge_declared upper lower above =
-        let parent = edge_has_parent upper lower above in named_among (action_uids bag) parent.0 (uid_of upper) parent.2
+        let parent = edge_has_parent upper lower above in NamesAction-among (action_uids bag) parent.0 (uid_of upper) parent.2
 
     -- and so is the lower
     pub lower_declared : (upper lower : EntityUID) → IsAbove edges upper lower → Contains (action_uids bag) (uid_of lower)

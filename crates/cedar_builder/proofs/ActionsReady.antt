@@ -4,6 +4,7 @@ use Rattle.std.proofs.lemmas.List.Elements.{Contains-append_cases}
 use Rattle.std.proofs.lemmas.List.Folds.{flat_map-map}
 use Rattle.std.proofs.lemmas.Simd.{map-map}
 use Rattle.std.specs.List.{flat_map}
+use Rattle.cedar_ast.proofs.Basics.{Contains-image, Contains-single}
 use Rattle.cedar_ast.proofs.Lists.{Contains-cons, Contains-preimage}
 use Rattle.cedar_ast.specs.contracts.entity_uid.EntityUIDPartialEq.TheImpl as uid_eq
 use Rattle.cedar_builder.proofs.ActionParents.{AreEdges, chain_descends, chain_to_same, descendant_declared, descends_by_chain, edge_declared, listed_parent, lower_declared, parent_named, parents_of}
@@ -20,7 +21,6 @@ use Rattle.cedar_schema_elements.proofs.SetLemmas.{list_any-uids}
 use Rattle.cedar_schema_elements.specs.ValidatorActionId.{parts_of}
 use Rattle.cedar_schema_semantics.proofs.DeclarationLemmas.{action_declaration}
 use Rattle.cedar_schema_semantics.proofs.Definitions.{declared_definition, said_definition}
-use Rattle.cedar_schema_semantics.proofs.OccurrenceLemmas.{Contains-image, Contains-single}
 use Rattle.cedar_schema_semantics.proofs.ResolutionLemmas.{IsFirst-same, elaborated_once, first_defined}
 use Rattle.cedar_table.specs.Entries.{Entries as TableEntries}
 

@@ -8,9 +8,9 @@ use Rattle.std.specs.Cmp.{IsEquivalence}
 use Rattle.std.specs.Map.{lookup}
 use Rattle.std.specs.Ordering.{is_eq}
 use Rattle.std.specs.declared.cmp.Ordering.{Ordering}
+use Rattle.cedar_ast.proofs.Basics.{Contains-image}
 use Rattle.cedar_builder.specs.Words.{IsDistinct, at_key, keys_of}
 use Rattle.cedar_graph.proofs.Numbers.{lookup_agree}
-use Rattle.cedar_schema_semantics.proofs.OccurrenceLemmas.{Contains-image}
 
 module _ {K : Type 0} {eq : K → K → Bool} (cmp : K → K → Ordering) (ties : (a b : K) → eq a b ≡ is_eq (cmp a b)) where
   -- what holds of look-ups by the order holds of those by equality

@@ -1,10 +1,11 @@
 -- What is found among entity types as they are gone through.
-use Rattle.std.proofs.Common.{◌≡◌, IsTrue, List, [], ◌∷◌, ◌++◌, Option, None, Some, is_some, false, refl, map, sym, Contains, inl, inr}
+use Rattle.std.proofs.Common.{◌≡◌, IsTrue, List, [], ◌∷◌, ◌++◌, Some, map, sym, Contains, inl, inr}
 use Rattle.std.proofs.lemmas.Bool.{true≢false}
 use Rattle.std.proofs.lemmas.List.{map-append}
 use Rattle.std.proofs.lemmas.List.Elements.{Contains-append_cases}
 use Rattle.std.specs.BTreeMap.{is_at}
 use Rattle.std.specs.Map.{lookup}
+use Rattle.cedar_ast.proofs.Basics.{Contains-image, Contains-single}
 use Rattle.cedar_ast.proofs.Names.{entity_type_eq-same}
 use Rattle.cedar_ast.specs.contracts.entity_type.EntityTypeEq.TheImpl as entity_type_equal
 use Rattle.cedar_ast.specs.contracts.entity_type.EntityTypeOrd.TheImpl as entity_type_ord
@@ -12,7 +13,6 @@ use Rattle.cedar_ast.specs.contracts.entity_type.EntityTypePartialEq.TheImpl as 
 use Rattle.cedar_builder.proofs.AtKeys.{at_equal_keys, entry_at_key, entry_standing, found_at_key}
 use Rattle.cedar_builder.specs.Words.{EntityType, IsDistinct, IsEnumerated, IsEnumeratedAt, IsExternalAt, EntityTypeLeadsTo, ValidatorEntityType, entity_type_of, has_descendant, keys_of, node_at, type_name}
 use Rattle.cedar_graph.proofs.KeyedEdges.{some_with}
-use Rattle.cedar_schema_semantics.proofs.OccurrenceLemmas.{Contains-image, Contains-single}
 use Rattle.cedar_types.proofs.MemberLemmas.{Contains-named, list_any-names}
 
 -- what holds of each that was shown, and of one more
@@ -23,11 +23,6 @@ shown_more {B = B} f P xs x each last y among =
       | inl here ↦ each y here
       | inr here ↦ rw (Contains-single (f x) y here) at last
     ]
-
--- what isn't there is none
-pub none_there : {A : Type 0} (o : Option A) → is_some o ≡ false → o ≡ None
-none_there None there = refl
-none_there (Some it) there = absurd (true≢false there)
 
 module _ (nodes : List (EntityType × ValidatorEntityType)) where
   -- what is found by the order of names stands at the name

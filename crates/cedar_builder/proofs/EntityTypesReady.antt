@@ -3,6 +3,7 @@ use Rattle.std.proofs.Common.{◌≡◌, ◌⊎◌, true, is_some, List, [], ◌
 use Rattle.std.proofs.lemmas.Bool.{false≢true}
 use Rattle.std.proofs.lemmas.List.Elements.{Contains-append_cases}
 use Rattle.std.specs.List.{flat_map}
+use Rattle.cedar_ast.proofs.Basics.{Contains-image, Contains-single}
 use Rattle.cedar_ast.specs.contracts.entity_type.EntityTypePartialEq.TheImpl as entity_type_eq
 use Rattle.cedar_builder.proofs.EntityTypeParents.{AreEdges, an_edge, chain_descends, descends_by_chain, edge_has_parent, edge_names, listed_parent, parent_edge, parent_placed, parent_resolves}
 use Rattle.cedar_builder.proofs.NodeParents.{with_parents}
@@ -13,7 +14,7 @@ use Rattle.cedar_builder.specs.EntityTypeSteps.{IsElaboratedKind}
 use Rattle.cedar_builder.specs.Words.{AreDeclaredTags, AreElaboratedTags, AreLinked, AreUnlinked, Bag, CountsInEntity, Covers, Defined, Entity, EntityBody, EntitySays, EntityType, EntityTypeKind, EntityTypesAreSound, Expr, Extensions, Fault, HasNoRecord, HasParent, IsAbove, IsActionType, IsBodyFault, IsCollected, IsCollectedAt, IsCollectingFault, IsCounted, IsDeclaredEntityType, IsDeclaredKind, IsDefined, IsDescendant, IsElaboratedEntity, IsEnumerated, IsEnumeratedAt, IsExternalAt, IsExternalType, IsFault, IsLinkingFault, IsNoRecord, IsParent, IsParentFault, IsReady, IsSoundBody, IsTypeFault, EntityTypeLeadsTo, NamesType, PlainEntityType, PlainName, Reference, ResolvesTo, SameType, SaysTogether, Text, Twice, Ty, TypeScope, ValidatorEntityType, action_uids, declared_entities, defined_entities, defined_in, defined_names, definition_in, definitions, duplicate_entity_type, entity_definition_in, entity_definitions, entity_parents, entity_type_of, entry_names, enumerated, enumerated_below, enumerated_kind, extensions_in_scope, external, external_kind, has_descendant, held_names, is_entity_definition, node_at, out_of_memory, parents_in, plain_entry, shape_not_record, standard, standard_kind, type_name, undeclared_entity_types}
 use Rattle.cedar_schema_semantics.proofs.DeclarationLemmas.{entity_declaration}
 use Rattle.cedar_schema_semantics.proofs.Definitions.{declared_definition, key_defined, said_declared, said_definition}
-use Rattle.cedar_schema_semantics.proofs.OccurrenceLemmas.{Contains-image, Contains-single, value_once}
+use Rattle.cedar_schema_semantics.proofs.OccurrenceLemmas.{value_once}
 use Rattle.cedar_schema_semantics.proofs.ResolutionLemmas.{elaborated_once, first_defined}
 use Rattle.cedar_schema_semantics.proofs.TogetherLemmas.{IsDefinition, entity_counted}
 use Rattle.cedar_types.proofs.MemberLemmas.{list_any-names}

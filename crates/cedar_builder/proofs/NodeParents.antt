@@ -1,9 +1,10 @@
 -- Parents and descent: as edges, and as declarations have them.
 use Rattle.std.proofs.Common.{◌≡◌, ◌↔◌, Bool, IsTrue, List, map, ap, sym, subst, ◌∙◌, refl, Contains}
+use Rattle.cedar_ast.proofs.Basics.{Contains-image}
 use Rattle.cedar_ast.proofs.Chains.{joined}
 use Rattle.cedar_ast.proofs.Lists.{Contains-preimage}
 use Rattle.cedar_builder.specs.Words.{Chain, HoldsPairwise, IsEdgeIn, IsEdgeOf, more, one, parents_in}
-use Rattle.cedar_schema_semantics.proofs.OccurrenceLemmas.{Contains-flat_map, Contains-given, Contains-image}
+use Rattle.cedar_schema_semantics.proofs.OccurrenceLemmas.{Contains-flat_map, Contains-given}
 use Rattle.cedar_schema_semantics.proofs.TurnLemmas.{turn_back, turn_forth}
 
 module _ {Name Body Reference : Type 0} (parents : Body → List Reference) where

@@ -4,9 +4,9 @@ use Rattle.std.proofs.lemmas.Bool.{false≢true}
 use Rattle.std.proofs.lemmas.List.{append-nil}
 use Rattle.std.proofs.lemmas.List.Elements.{Contains-append_cases, Contains-append_right}
 use Rattle.std.specs.List.{flat_map}
+use Rattle.cedar_ast.proofs.Basics.{Contains-single}
 use Rattle.cedar_builder.specs.Words.{Fault, IsCollected, IsCollectedAt, IsCollectingFault, IsDefinedAt, IsPut, SaysIf, SaysTogether, Twice, at_key, defined_in, definition_in}
 use Rattle.cedar_schema_semantics.proofs.Definitions.{Definitions, defined_again, defined_is_declared, key_cases, key_defined, once_more, said_definition, said_of_external, said_of_new, said_of_other}
-use Rattle.cedar_schema_semantics.proofs.OccurrenceLemmas.{Contains-single}
 
 -- a declaration that is a definition is what it gives
 pub given : {A : Type 0} (b : Bool) (it : A) → b ≡ true → Contains (if b then it ∷ [] else []) it

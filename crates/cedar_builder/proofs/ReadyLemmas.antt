@@ -1,10 +1,10 @@
 -- What a bag owes to the steps that build its entity types and its actions.
 use Rattle.std.proofs.Common.{◌≡◌, ◌⊎◌, List, [], ◌∷◌, Result, Ok, Err, IfOk, OnOk, map, ap, sym, ◌∙◌, refl, inl, inr, Contains}
+use Rattle.cedar_ast.proofs.Basics.{Contains-single}
 use Rattle.cedar_ast.proofs.Lists.{Contains-cons, Contains-preimage}
 use Rattle.cedar_builder.specs.Words.{Bag, Expr, Extensions, Fault, HoldsJust, IsActionType, IsAtEntityTypePosition, IsCounted, IsExprFault, IsFault, IsReserved, IsTypeFault, IsUnresolved, Names, PlainName, PlainUid, Reference, action_not_defined, action_uids, declared_actions, defined_names, definitions, extension_types, open_record, out_of_memory, reserved_name, type_not_defined, unknown_extension_type}
 use Rattle.cedar_elaboration.proofs.ScopeLemmas.{same_resolves}
 use Rattle.cedar_schema_semantics.proofs.DeclarationLemmas.{action_declaration}
-use Rattle.cedar_schema_semantics.proofs.OccurrenceLemmas.{Contains-single}
 use Rattle.cedar_schema_semantics.proofs.ResolutionLemmas.{first_defined}
 
 -- no action's uid has another type

@@ -6,12 +6,12 @@ use Rattle.std.proofs.lemmas.Simd.{map-map}
 use Rattle.std.specs.BTreeMap.{is_at}
 use Rattle.std.specs.Bool.{Decides}
 use Rattle.std.specs.Map.{keys_of}
+use Rattle.cedar_ast.proofs.Basics.{Contains-single}
 use Rattle.cedar_ast.proofs.Lists.{Contains-cons}
 use Rattle.cedar_ast.proofs.Names.{entity_type_ord-Equal}
 use Rattle.cedar_ast.specs.contracts.entity_type.EntityTypeOrd.TheImpl as order
 use Rattle.cedar_builder.specs.Words.{AreNamed, EntityType, Entries, IsDefined, Names, PlainName, Reference, ResolvesTo, ValidatorEntityType, get_by, names_in, type_name}
 use Rattle.cedar_fragments.proofs.SetLemmas.{found-Decides}
-use Rattle.cedar_schema_semantics.proofs.OccurrenceLemmas.{Contains-single}
 use Rattle.cedar_schema_semantics.proofs.ResolutionLemmas.{IsFirst-same}
 
 -- a map has an entity type exactly where its name is among those of the map

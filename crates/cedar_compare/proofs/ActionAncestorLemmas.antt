@@ -5,12 +5,12 @@ use Rattle.std.specs.BTreeMap.{BTreeMap, get, get_by, is_at}
 use Rattle.std.specs.Map.{lookup}
 use Rattle.std.specs.Option.{option_map}
 use Rattle.std.specs.Ordering.{is_eq}
+use Rattle.cedar_ast.proofs.Basics.{Contains-image, Contains-none}
 use Rattle.cedar_ast.proofs.Lists.{Contains-cons_cases}
 use Rattle.cedar_ast.proofs.Uids.{entity_uid_ord-uid_cmp}
 use Rattle.cedar_ast.specs.contracts.entity_uid.EntityUIDOrd.TheImpl as uid_ord
-use Rattle.cedar_compare.proofs.ReportedLemmas.{none_there}
 use Rattle.cedar_compare.specs.Words.{AreActionAncestorsSoFar, EntityUID, IsActionAncestorSoFar, IsKeyed, ListsApart, ListsDescendantAction, PlainSchema, PlainUid, SchemaAction, action_upper_at, uid_cmp, uid_of}
-use Rattle.cedar_schema_semantics.proofs.OccurrenceLemmas.{Contains-image, uid_test}
+use Rattle.cedar_schema_semantics.proofs.OccurrenceLemmas.{uid_test}
 
 -- what is apart in two schemas is apart in them turned round
 pub apart_turned : (one other : PlainSchema) (lower upper : PlainUid) → ListsApart one other lower upper → ListsApart other one lower upper
@@ -181,7 +181,7 @@ pub no_action_left : (one other : PlainSchema) (left : List PlainUid) (ancestors
     → AreActionAncestorsSoFar one other (λ lower upper. Contains left upper) ancestors → AreActionAncestorsSoFar one other (λ lower upper. ⊥) ancestors
 no_action_left one other left ancestors nothing so_far key =
     action_found_on one other (uid_of key) (Contains left) (λ upper. ⊥) (action_upper_at ancestors key)
-    (λ none upper above is_left. absurd (none_there upper (subst (λ xs. Contains xs upper) nothing is_left)))
+    (λ none upper above is_left. absurd (Contains-none upper (subst (λ xs. Contains xs upper) nothing is_left)))
     (so_far key)
 
 -- what is found at a uid

@@ -1,13 +1,7 @@
 -- Actions whose entities the new version of a schema lacks, and those that it keeps.
-use Rattle.std.proofs.Common.{◌≡◌, ◌⊎◌, List, [], ◌∷◌, inl, inr, refl, subst, sym, ◌∙◌, ⊎_elim, Contains}
-use Rattle.cedar_ast.proofs.Lists.{Contains-cons}
-use Rattle.cedar_compare.proofs.ReportedLemmas.{none_there}
+use Rattle.std.proofs.Common.{◌≡◌, ◌⊎◌, [], ◌∷◌, inl, inr, subst, sym, ◌∙◌, ⊎_elim, Contains}
+use Rattle.cedar_ast.proofs.Basics.{Contains-none, no_members}
 use Rattle.cedar_compare.specs.Words.{ActionEntity, AreTagsOf, DefinesAction, EntityTypeKind, Entries, Extensions, Has, IsActionCause, IsEntityOfAction, IsEntityOfKind, IsEntityOfType, IsLostAction, IsReal, KeepsAction, ListsApart, ListsDescendantAction, MayStandAbove, PlainCause, PlainSchema, PlainUid, action_above, enumerated_kind, external_kind, removed, map_value, record_of, standard_kind}
-
--- a list without members is empty
-pub no_members : {A : Type 0} (xs : List A) → ((x : A) → ¬ Contains xs x) → xs ≡ []
-no_members [] none = refl
-no_members (x ∷ xs) none = absurd (none x (Contains-cons x xs x (inl refl)))
 
 -- an entity that agrees with one of a kind in all but the order of its ancestors is one of it
 of_same_parts : (extensions : Extensions) (schema : PlainSchema) (kind : EntityTypeKind) (one it : ActionEntity) → it.uid ≡ one.uid
@@ -23,7 +17,7 @@ of_same_parts extensions schema (enumerated_kind choices) one it uid attributes 
   subst (λ (u : PlainUid). Contains choices u.eid) (sym uid) of.0,
   attributes ∙ of.1,
   tags_same ∙ of.2,
-  no_members it.ancestors (λ upper among. none_there upper (subst (λ xs. Contains xs upper) of.3 (above upper among))),
+  no_members it.ancestors (λ upper among. Contains-none upper (subst (λ xs. Contains xs upper) of.3 (above upper among))),
 )
 of_same_parts extensions schema external_kind one it uid attributes tags_same above of = of
 

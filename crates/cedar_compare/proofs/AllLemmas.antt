@@ -6,10 +6,11 @@ use Rattle.std.specs.List.Sorted.{IsStrictlySortedBy}
 use Rattle.std.specs.Ordering.{ordering_then}
 use Rattle.std.specs.declared.cmp.Ordering.{Ordering}
 use Rattle.std.specs.declared.cmp.Ordering.TheVariants.{Less, Equal}
+use Rattle.cedar_ast.proofs.Basics.{Contains-none}
 use Rattle.cedar_ast.proofs.Lists.{Contains-cons_cases, Contains-preimage}
 use Rattle.cedar_ast.proofs.Ordered.{IsStrictlySortedBy-map}
 use Rattle.cedar_ast.proofs.PlainNames.{name_cmp-Equal, uid_cmp-Equal}
-use Rattle.cedar_compare.proofs.ReportedLemmas.{answered_append, none_there}
+use Rattle.cedar_compare.proofs.ReportedLemmas.{answered_append}
 use Rattle.cedar_compare.specs.Words.{AreActionAnswers, AreAnswers, AreLosses, DefinesAction, Environment, Extensions, IsEnvironmentOf, IsLoss, Keeps, KeepsOf, LosesOf, PlainDifference, PlainName, PlainSchema, PlainUid, SchemaEntityType, Subject, action_lost, action_subject, entity_lost, environment_subject, name_cmp, request_lost, subject_cmp, subject_of, type_subject, uid_cmp}
 
 -- environments of one action with one principal are in the order of their resources
@@ -127,7 +128,7 @@ module _ (extensions : Extensions) (old new : PlainSchema) where
     pub nothing_lost : reported ≡ [] → Keeps extensions old new
     nothing_lost none =
         let keeps : (subject : Subject) → Contains subjects subject → KeepsOf extensions old new subject = λ subject among.
-        ⊎_elim (λ kept. kept) (λ there. absurd (none_there subject (subst (λ ds. Contains (map subject_of ds) subject) none there)))
+        ⊎_elim (λ kept. kept) (λ there. absurd (Contains-none subject (subst (λ ds. Contains (map subject_of ds) subject) none there)))
         (answers.each subject among) in
         record {
           entities = λ it real of. ⊎_elim

@@ -5,13 +5,13 @@ use Rattle.std.specs.BTreeMap.{BTreeMap, get, get_by, is_at}
 use Rattle.std.specs.Map.{lookup}
 use Rattle.std.specs.Option.{option_map}
 use Rattle.std.specs.Ordering.{is_eq}
+use Rattle.cedar_ast.proofs.Basics.{Contains-image, Contains-none}
 use Rattle.cedar_ast.proofs.Lists.{Contains-cons_cases}
 use Rattle.cedar_ast.proofs.Names.{entity_type_ord-name_cmp}
 use Rattle.cedar_ast.specs.contracts.entity_type.EntityTypeOrd.TheImpl as type_ord
 use Rattle.cedar_compare.proofs.LostLemmas.{choices_of_id, id_of_choices}
-use Rattle.cedar_compare.proofs.ReportedLemmas.{none_there}
 use Rattle.cedar_compare.specs.Words.{AreAncestorsSoFar, EntityType, EntityUID, IsKeyed, IsListedBy, IsAncestorKept, IsAncestorSoFar, MayHave, MayStandAbove, PlainName, PlainSchema, PlainUid, SchemaEntityType, Text, kind_choices, name_cmp, type_name, uid_of, upper_at}
-use Rattle.cedar_schema_semantics.proofs.OccurrenceLemmas.{Contains-image, name_test}
+use Rattle.cedar_schema_semantics.proofs.OccurrenceLemmas.{name_test}
 
 module _ (old new : PlainSchema) (keyed : IsKeyed old) (keyed' : IsKeyed new) (name : PlainName) (it : SchemaEntityType)
     (there : Contains old.entity_types (name, it)) (id : Text) (may : MayHave (kind_choices it.kind) id) (kept : Option SchemaEntityType)
@@ -220,7 +220,7 @@ pub none_left : (old new : PlainSchema) (left : List PlainName) (ancestors : BTr
     → AreAncestorsSoFar old new (λ lower upper. Contains left upper.ty) ancestors → AreAncestorsSoFar old new (λ lower upper. ⊥) ancestors
 none_left old new left ancestors nothing so_far key =
     found_on old new (type_name key) (λ upper. Contains left upper.ty) (λ upper. ⊥) (upper_at ancestors key)
-    (λ none upper above is_left. absurd (none_there upper.ty (subst (λ xs. Contains xs upper.ty) nothing is_left)))
+    (λ none upper above is_left. absurd (Contains-none upper.ty (subst (λ xs. Contains xs upper.ty) nothing is_left)))
     (so_far key)
 
 -- what is found at a name

@@ -10,16 +10,17 @@ use Rattle.std.proofs.lemmas.Simd.{map-map}
 use Rattle.std.specs.List.Sorted.{IsPermutation, IsStrictlySortedBy}
 use Rattle.std.specs.Option.{option_map}
 use Rattle.std.specs.declared.cmp.Ordering.TheVariants.{Less}
+use Rattle.cedar_ast.proofs.Basics.{Contains-image, Contains-none, no_members}
 use Rattle.cedar_ast.proofs.Lists.{Contains-cons, Contains-cons_cases, Contains-preimage}
 use Rattle.cedar_ast.proofs.Ordered.{IsStrictlySortedBy-map}
 use Rattle.cedar_ast.proofs.PlainNames.{name_cmp-total, uid_cmp-total}
 use Rattle.cedar_compare.proofs.AllLemmas.{AreAllSubjects, RequestsSoFar, all_losses, nothing_lost, requests_more}
 use Rattle.cedar_compare.proofs.LeftLemmas.{SureSoFar}
-use Rattle.cedar_compare.proofs.ReportedLemmas.{AnswersSoFar, answered_append, answered_none, none_there, reported_kept, reported_lost, reported_none}
+use Rattle.cedar_compare.proofs.ReportedLemmas.{AnswersSoFar, answered_append, answered_none, reported_kept, reported_lost, reported_none}
 use Rattle.cedar_compare.proofs.SortedLemmas.{one_at}
 use Rattle.cedar_compare.specs.Words.{ActionEntity, ActionKind, AreActionAnswers, AreActionEntities, AreAllRequests, AreAnswers, AreEnvironmentSubjects, AreLosses, Difference, Entity, EntityType, EntityTypeKind, EntityUID, Extensions, IsAnswer, IsCompleteSchema, IsEntityOfAction, IsKeyed, IsLoss, Keeps, PlainDifference, PlainName, PlainSchema, PlainUid, SchemaAction, SchemaEntityType, Subject, ValidatorActionId, ValidatorEntityType, ValidatorSchema, action_entries, action_lost, action_of, action_subject, action_subjects, defined_action, entity_lost, entity_type_of, entity_uid, environment_subject, external_action, external_actions, external_kind, external_types, is_external_kind, is_external_type, name_cmp, plain_action_entity, plain_action_entry, plain_difference, plain_entry, plain_type, request_lost, schema_entries, schema_of, schema_with, subject_cmp, type_name, type_subject, type_subjects, uid_cmp, uid_of, unresolved, unresolved_action, unresolved_type}
 use Rattle.cedar_queries.proofs.SelectedLemmas.{Contains-kept}
-use Rattle.cedar_schema_semantics.proofs.OccurrenceLemmas.{Contains-filter, Contains-image}
+use Rattle.cedar_schema_semantics.proofs.OccurrenceLemmas.{Contains-filter}
 
 -- the subjects of names are those of the schema's entity types
 pub named_subjects : (schema : ValidatorSchema) (names : List EntityType) → names ≡ map (λ entry. entry.0) (schema_entries schema)
@@ -84,7 +85,7 @@ module _ (extensions : Extensions) (old new : PlainSchema) where
         answers = answered_none extensions old new;
         all = λ it of. inl (subst (λ xs. Contains xs it.action) (sym same)
             (Contains-image (λ (entry : PlainUid × SchemaAction). entry.0) old.actions (it.action, of.0) of.1));
-        alone = λ it among. absurd (none_there it among);
+        alone = λ it among. absurd (Contains-none it among);
         in_order = sorted;
       })
 
@@ -105,7 +106,7 @@ module _ (extensions : Extensions) (old new : PlainSchema) where
     so_far.subjects,
     record {
       all = λ it of. ⊎_elim
-          (λ still. absurd (none_there it.action (subst (λ xs. Contains xs it.action) nothing still)))
+          (λ still. absurd (Contains-none it.action (subst (λ xs. Contains xs it.action) nothing still)))
           (λ there. there)
           (so_far.all it of);
       alone = λ it among. (let one = so_far.alone it among in (one.0, one.1, one.2, one.3));
@@ -267,11 +268,6 @@ module _ {A : Type 0} (P : A → Type 0) (all : List A) where
         (Contains-cons first rest x (inr there)));
   }
 
--- a list without members is empty
-no_members : {A : Type 0} (xs : List A) → ((x : A) → ¬ Contains xs x) → xs ≡ []
-no_members [] none = refl
-no_members (x ∷ xs) none = absurd (none x (Contains-cons x xs x (inl refl)))
-
 -- a kind of entity type that counts as external is so
 external_type_is : (kind : EntityTypeKind) → is_external_type kind ≡ true → kind ≡ external_kind
 external_type_is external_kind is = refl
@@ -305,14 +301,14 @@ complete_schema schema none =
           let kind : (entity_type_of entry.0.1).kind ≡ external_kind = ap (λ (e : PlainName × SchemaEntityType). e.1.kind) entry.2 ∙ external in
           let value = Contains-image (λ (e : EntityType × ValidatorEntityType). e.1) types entry.0 entry.1 in
           let kept = Contains-kept is_type_elsewhere (map (λ (e : EntityType × ValidatorEntityType). e.1) types) entry.0.1 value (ap is_external_type kind) in
-          none_there (unresolved_type entry.0.1) (subst (λ xs. Contains xs (unresolved_type entry.0.1)) none
+          Contains-none (unresolved_type entry.0.1) (subst (λ xs. Contains xs (unresolved_type entry.0.1)) none
           (Contains-append_left first second (unresolved_type entry.0.1) (Contains-image unresolved_type (external_types types) entry.0.1 kept))));
       actions = λ uid it there external.
           (let entry = Contains-preimage plain_action_entry actions (uid, it) there in
           let kind : (action_of entry.0.1).kind ≡ external_action = ap (λ (e : PlainUid × SchemaAction). e.1.kind) entry.2 ∙ external in
           let value = Contains-image (λ (e : EntityUID × ValidatorActionId). e.1) actions entry.0 entry.1 in
           let kept = Contains-kept is_action_elsewhere (map (λ (e : EntityUID × ValidatorActionId). e.1) actions) entry.0.1 value (ap is_external_kind kind) in
-          none_there (unresolved_action entry.0.1) (subst (λ xs. Contains xs (unresolved_action entry.0.1)) none
+          Contains-none (unresolved_action entry.0.1) (subst (λ xs. Contains xs (unresolved_action entry.0.1)) none
           (Contains-append_right first second (unresolved_action entry.0.1) (Contains-image unresolved_action (external_actions actions) entry.0.1 kept))));
     }
 

@@ -1,20 +1,12 @@
 -- Entities that are put together, and those that are found of a uid.
-use Rattle.std.proofs.Common.{◌≡◌, Bool, true, false, cond, List, [], ◌∷◌, Option, Some, None, inl, inr, refl, ap, subst, sym, ◌∙◌, ⊎_elim, find, map, string_bytes, Contains}
+use Rattle.std.proofs.Common.{◌≡◌, Bool, true, false, cond, List, [], ◌∷◌, Option, Some, None, inl, inr, refl, subst, sym, ◌∙◌, ⊎_elim, find, Contains}
 use Rattle.std.proofs.lemmas.Bool.{false≢true}
-use Rattle.std.specs.BTreeMap.{BTreeMap}
 use Rattle.std.specs.Ordering.{is_eq}
-use Rattle.std.specs.declared.alloc.Global.{Global}
-use Rattle.std.specs.declared.string.String.{String}
+use Rattle.cedar_ast.proofs.Basics.{Contains-none}
 use Rattle.cedar_ast.proofs.Lists.{Contains-cons, Contains-cons_cases, Contains-preimage}
 use Rattle.cedar_ast.proofs.ValueCopies.{uid_real}
-use Rattle.cedar_compare.proofs.ReportedLemmas.{none_there}
-use Rattle.cedar_compare.specs.Words.{Entities, Entity, Entries, IsReal, IsValue, PlainUid, Value, entities_of, entity_at, entity_attrs, entity_tags, entity_uid, entries_from, map_value, named_values, no_entry, plain_action_entity, tree_of, uid_cmp, uid_of, uid_value, value_expr}
+use Rattle.cedar_compare.specs.Words.{Entities, Entity, Entries, IsReal, IsValue, PlainUid, entities_of, entity_at, entity_attrs, entity_tags, entity_uid, map_value, named_values, no_entry, plain_action_entity, uid_cmp, uid_of, uid_value}
 use Rattle.cedar_schema_semantics.proofs.OccurrenceLemmas.{uid_test}
-
--- no values are no entries
-pub no_values : (values : BTreeMap (String Global) Value) → values.entries ≡ [] → named_values values ≡ no_entry
-no_values values none = ap (λ (entries : List (String Global × Value)).
-    entries_from (map (λ entry. (string_bytes entry.0, tree_of (value_expr entry.1))) entries)) none
 
 -- an entity without attributes and tags is one of the language
 pub real_entity : (entity : Entity) → named_values (entity_attrs entity) ≡ no_entry → named_values (entity_tags entity) ≡ no_entry
@@ -33,7 +25,7 @@ IsFound {A = A} test xs None = (x : A) → Contains xs x → test x ≡ false
 IsFound test xs (Some x) = Contains xs x × (test x ≡ true)
 
 found_by : {A : Type 0} (test : A → Bool) (xs : List A) → IsFound test xs (find test xs)
-found_by test [] = λ x among. absurd (none_there x among)
+found_by test [] = λ x among. absurd (Contains-none x among)
 found_by {A} test (first ∷ rest) = cases (test first) refl (found_by test rest)
   where
     later : (o : Option A) → test first ≡ false → IsFound test rest o → IsFound test (first ∷ rest) o

@@ -6,7 +6,7 @@ use Rattle.std.specs.Map.{lookup}
 use Rattle.std.specs.Option.{option_map}
 use Rattle.std.specs.Ordering.{is_eq}
 use Rattle.cedar_ast.proofs.Lists.{Contains-cons, Contains-cons_cases}
-use Rattle.cedar_compare.specs.Words.{ActionKind, AreChoicesAt, DefinesAction, IsActionAt, IsAt, IsDefinedKind, IsKeyed, IsTypeAt, ListsDescendantAction, PlainName, PlainSchema, PlainUid, SchemaAction, SchemaEntityType, Text, ValidatorActionId, ValidatorEntityType, ValidatorSchema, action_entries, action_of, action_of_uid, defined_action, entity_type_named, external_action, kind_choices, name_cmp, plain_type, schema_entries, schema_of, type_name, uid_cmp, uid_of}
+use Rattle.cedar_compare.specs.Words.{AreChoicesAt, DefinesAction, IsActionAt, IsAt, IsDefinedKind, IsKeyed, IsTypeAt, ListsDescendantAction, PlainName, PlainSchema, PlainUid, SchemaAction, SchemaEntityType, Text, ValidatorActionId, ValidatorEntityType, ValidatorSchema, action_entries, action_of, action_of_uid, entity_type_named, kind_choices, name_cmp, plain_type, schema_entries, schema_of, type_name, uid_cmp, uid_of}
 use Rattle.cedar_schema_semantics.proofs.OccurrenceLemmas.{name_test, uid_test}
 
 module _ {K V P D : Type 0} (f : K → P) (g : V → D) (name : P) (test : K → Bool)
@@ -79,11 +79,6 @@ module _ (schema : PlainSchema) (keyed : IsKeyed schema) where
       → Contains it.descendants lower
   listed_by lower uid it there (other, among, below) =
       subst (λ (action : SchemaAction). Contains action.descendants lower) (keyed.actions uid other it among there) below
-
--- an action that isn't external is defined
-pub not_external : (kind : ActionKind) → ¬ (kind ≡ external_action) → IsDefinedKind kind
-not_external (defined_action principals resources context) other = tt
-not_external external_action other = absurd (other refl)
 
 -- a test that isn't met fails
 pub fails : (b : Bool) → ¬ IsTrue b → IsTrue (not b)

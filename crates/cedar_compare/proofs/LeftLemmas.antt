@@ -1,7 +1,7 @@
 -- What is made sure of the members of a list, one after another.
 use Rattle.std.proofs.Common.{◌≡◌, ◌⊎◌, List, [], ◌∷◌, inl, inr, refl, subst, sym, ⊎_elim, Contains}
+use Rattle.cedar_ast.proofs.Basics.{Contains-none}
 use Rattle.cedar_ast.proofs.Lists.{Contains-cons, Contains-cons_cases}
-use Rattle.cedar_compare.proofs.ReportedLemmas.{none_there}
 
 -- of each member something is made sure, or it is left; and what is left is a member
 pub record SureSoFar {A : Type 0} (P : A → Type 0) (all left : List A) : Type 0 where
@@ -34,5 +34,5 @@ module _ {A : Type 0} where
   pub sure_all : (P : A → Type 0) (all left : List A) → left ≡ [] → SureSoFar P all left → (x : A) → Contains all x → P x
   sure_all P all left nothing so_far x among = ⊎_elim
       (λ sound. sound)
-      (λ still. absurd (none_there x (subst (λ xs. Contains xs x) nothing still)))
+      (λ still. absurd (Contains-none x (subst (λ xs. Contains xs x) nothing still)))
       (so_far.sure x among)

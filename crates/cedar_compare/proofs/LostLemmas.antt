@@ -1,11 +1,10 @@
 -- Entities that the new version of a schema lacks, and entity types of which it keeps all.
 use Rattle.std.proofs.Common.{◌≡◌, List, [], ◌∷◌, Some, None, inl, refl, ap, subst, sym, ⊎_elim, Contains}
+use Rattle.cedar_ast.proofs.Basics.{Contains-image, Contains-none}
 use Rattle.cedar_ast.proofs.Lists.{Contains-cons, Contains-cons_cases}
 use Rattle.cedar_ast.proofs.ValueLemmas.{IsText-nil}
 use Rattle.cedar_compare.proofs.NoTags.{no_tags}
-use Rattle.cedar_compare.proofs.ReportedLemmas.{none_there}
 use Rattle.cedar_compare.specs.Words.{ActionEntity, AreTagsOf, AreTagsOutside, DefinesAction, EntityTypeKind, Entries, Extensions, Has, HasAction, IsAlike, IsCauseOfKinds, IsEntityOfKind, IsFreshEntity, IsIdOf, IsKeyed, IsLostEntity, IsOutsideAt, IsReal, IsSampleOf, IsStandard, IsTagOutside, IsTypeLoss, IsAncestorCause, IsValue, KeepsEntityType, MayHave, MayStandAbove, PlainCause, PlainName, PlainSchema, PlainStep, PlainUid, SchemaAction, SchemaEntityType, Text, Tree, ValuesIncluded, attributes_outside, entity_lost, enumerated_kind, external_kind, removed, kind_choices, kind_fields, kind_openness, kind_tags, map_value, no_entry, one_tag, record_of, standard_kind, tags_outside, type_subject, uid_value}
-use Rattle.cedar_schema_semantics.proofs.OccurrenceLemmas.{Contains-image}
 
 -- entities of a kind may have an id where its choices, if it has some, say so
 pub id_of_choices : (kind : EntityTypeKind) (id : Text) → IsIdOf kind id → MayHave (kind_choices kind) id
@@ -171,7 +170,7 @@ module _ (extensions : Extensions) (old new : PlainSchema) (name : PlainName) (t
     ap type_subject fresh.fresh.ty,
     (
       lost_with extensions old new it ty name attributes no_entry [] fresh there standard sample tt (no_tags extensions (kind_tags ty.kind))
-          (λ upper among. absurd (none_there upper among))
+          (λ upper among. absurd (Contains-none upper among))
           (λ other among standard' has tagged above. lacking other among standard'),
       λ one other among also alike.
           let same : one ≡ ty = keyed.types name one ty (subst (λ n. Contains old.entity_types (n, one)) fresh.fresh.ty among) there in
@@ -196,8 +195,8 @@ module _ (extensions : Extensions) (old new : PlainSchema) (name : PlainName) (t
       ap type_subject fresh.fresh.ty,
       (
         lost_with extensions old new it ty name attributes (one_tag value) [] fresh there standard sample
-            (IsText-nil, real, tt, none_there []) of
-            (λ upper among. absurd (none_there upper among))
+            (IsText-nil, real, tt, Contains-none []) of
+            (λ upper among. absurd (Contains-none upper among))
             (λ one among std has tagged above. lacks (as_other (λ t. AreTagsOf extensions (kind_tags t.kind) (one_tag value)) one among tagged)),
         (
           ty,
@@ -221,7 +220,7 @@ module _ (extensions : Extensions) (old new : PlainSchema) (name : PlainName) (t
       ap type_subject fresh.fresh.ty,
       (
         lost_with extensions old new it ty name attributes no_entry [] fresh there standard sample tt (no_tags extensions (kind_tags ty.kind))
-            (λ upper among. absurd (none_there upper among))
+            (λ upper among. absurd (Contains-none upper among))
             (λ one among std has tagged above. lacks
             (as_other (λ t. Has extensions (map_value attributes) (record_of (kind_fields t.kind) (kind_openness t.kind))) one among has)),
         (
@@ -247,7 +246,7 @@ module _ (extensions : Extensions) (old new : PlainSchema) (name : PlainName) (t
       lost_with extensions old new it ty name attributes no_entry (upper ∷ []) fresh there standard sample tt (no_tags extensions (kind_tags ty.kind))
           (λ one among. ⊎_elim
           (λ same. (subst (λ u. IsValue (uid_value u)) same real, subst (MayStandAbove old name) same may))
-          (λ none. absurd (none_there one none))
+          (λ none. absurd (Contains-none one none))
           (Contains-cons_cases upper [] one among))
           (λ other among std has tagged above. may_not (above upper (Contains-cons upper [] upper (inl refl)))),
       true_cause it fresh.fresh.ty (subst (λ us. Contains us upper) (sym fresh.ancestors_are) (Contains-cons upper [] upper (inl refl))),

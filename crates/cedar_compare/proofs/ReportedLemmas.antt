@@ -1,21 +1,13 @@
 -- Differences that are reported one after another.
-use Rattle.std.proofs.Common.{◌≡◌, ◌⊎◌, List, [], ◌∷◌, ◌++◌, append_assoc, inl, inr, refl, ap, subst, sym, ◌∙◌, ⊎_elim, map, Contains, arith}
-use Rattle.std.proofs.lemmas.List.{append-nil}
+use Rattle.std.proofs.Common.{◌≡◌, ◌⊎◌, List, [], ◌∷◌, ◌++◌, append_assoc, inl, inr, refl, ap, subst, sym, ◌∙◌, ⊎_elim, map, Contains}
+use Rattle.std.proofs.lemmas.List.{append-nil, map-append}
 use Rattle.std.proofs.lemmas.List.Elements.{Contains-append_cases, Contains-append_left, Contains-append_right}
 use Rattle.std.specs.List.Sorted.{IsStrictlySortedBy}
 use Rattle.std.specs.declared.cmp.Ordering.TheVariants.{Less}
+use Rattle.cedar_ast.proofs.Basics.{Contains-none}
 use Rattle.cedar_ast.proofs.Lists.{Contains-cons, Contains-cons_cases}
 use Rattle.cedar_compare.proofs.SortedLemmas.{sorted_append, sorted_without}
 use Rattle.cedar_compare.specs.Words.{AreAnswers, Extensions, IsLoss, KeepsOf, PlainDifference, PlainSchema, Subject, subject_cmp, subject_of}
-
--- nothing stands in an empty list
-pub none_there : {A : Type 0} (x : A) → ¬ Contains [] x
-none_there x among = omega (arith, among.1)
-
--- the images of two lists are those of both together
-pub map_append : {A B : Type 0} (f : A → B) (xs ys : List A) → map f (xs ++ ys) ≡ map f xs ++ map f ys
-map_append f [] ys = refl
-map_append f (x ∷ xs) ys = ap (λ zs. f x ∷ zs) (map_append f xs ys)
 
 module _ (extensions : Extensions) (old new : PlainSchema) where
   -- some subjects are answered, but for those that are left
@@ -30,7 +22,7 @@ module _ (extensions : Extensions) (old new : PlainSchema) where
   pub reported_none : (all : List Subject) → IsStrictlySortedBy subject_cmp all → AnswersSoFar all all []
   reported_none all sorted = record {
     each = λ subject there. inl there;
-    true_ones = λ it there. absurd (none_there it there);
+    true_ones = λ it there. absurd (Contains-none it there);
     among = λ subject there. there;
     in_order = sorted;
   }
@@ -61,7 +53,7 @@ module _ (extensions : Extensions) (old new : PlainSchema) where
   reported_lost all rest reported first it is loss so_far =
       let subjects = map subject_of reported in
       let more : map subject_of (reported ++ it ∷ []) ≡ subjects ++ first ∷ [] =
-      map_append subject_of reported (it ∷ []) ∙ ap (λ s. subjects ++ s ∷ []) is in
+      map-append subject_of reported (it ∷ []) ∙ ap (λ s. subjects ++ s ∷ []) is in
       let together : map subject_of (reported ++ it ∷ []) ++ rest ≡ subjects ++ first ∷ rest =
       ap (λ xs. xs ++ rest) more ∙ append_assoc subjects (first ∷ []) rest in
       record {
@@ -77,7 +69,7 @@ module _ (extensions : Extensions) (old new : PlainSchema) where
             (so_far.each subject there);
         true_ones = λ other there. ⊎_elim
             (λ before. so_far.true_ones other before)
-            (λ last. ⊎_elim (λ same. subst (IsLoss extensions old new) same loss) (λ none. absurd (none_there other none))
+            (λ last. ⊎_elim (λ same. subst (IsLoss extensions old new) same loss) (λ none. absurd (Contains-none other none))
             (Contains-cons_cases it [] other last))
             (Contains-append_cases reported (it ∷ []) other there);
         among = λ subject there. so_far.among subject (subst (λ xs. Contains xs subject) together there);
@@ -90,7 +82,7 @@ module _ (extensions : Extensions) (old new : PlainSchema) where
   reported_all all left reported none so_far =
       let so_far : AnswersSoFar all [] reported = subst (λ xs. AnswersSoFar all xs reported) none so_far in
       record {
-        each = λ subject there. ⊎_elim (λ still. absurd (none_there subject still)) (λ answered. answered) (so_far.each subject there);
+        each = λ subject there. ⊎_elim (λ still. absurd (Contains-none subject still)) (λ answered. answered) (so_far.each subject there);
         true_ones = so_far.true_ones;
         among = λ subject there. so_far.among subject (Contains-append_left (map subject_of reported) [] subject there);
         in_order = subst (IsStrictlySortedBy subject_cmp) (append-nil (map subject_of reported)) so_far.in_order;
@@ -107,7 +99,7 @@ module _ (extensions : Extensions) (old new : PlainSchema) where
       → AreAnswers extensions old new subjects reported → AreAnswers extensions old new others more
       → AreAnswers extensions old new (subjects ++ others) (reported ++ more)
   answered_append subjects others reported more below one other =
-      let both = map_append subject_of reported more in
+      let both = map-append subject_of reported more in
       record {
         each = λ subject there. ⊎_elim
             (λ first. ⊎_elim (λ kept. inl kept)

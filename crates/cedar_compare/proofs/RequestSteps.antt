@@ -1,19 +1,19 @@
 -- What is reported of the environments of an action, one after another.
 use Rattle.std.proofs.Common.{◌≡◌, ◌⊎◌, ℕ, ◌<◌, ◌+◌, List, [], ◌∷◌, ◌++◌, Option, Some, None, get_or, length, take, inl, inr, refl, ap, subst, sym, ◌∙◌, ⊎_elim, map, Contains}
 use Rattle.std.proofs.lemmas.Grind.{flat_map-append}
-use Rattle.std.proofs.lemmas.List.{append-nil, take_more}
+use Rattle.std.proofs.lemmas.List.{append-nil, map-append, take_more}
 use Rattle.std.proofs.lemmas.List.Elements.{Contains-append_right}
 use Rattle.std.specs.List.{flat_map}
 use Rattle.std.specs.List.Sorted.{IsStrictlySortedBy}
 use Rattle.std.specs.Option.{option_map}
 use Rattle.std.specs.declared.cmp.Ordering.TheVariants.{Less}
+use Rattle.cedar_ast.proofs.Basics.{AllByRecursion-at, Contains-image, Contains-none}
 use Rattle.cedar_ast.proofs.Lists.{Contains-cons, Contains-cons_cases, Contains-preimage}
 use Rattle.cedar_compare.proofs.AllLemmas.{principals_below}
-use Rattle.cedar_compare.proofs.ReportedLemmas.{AnswersSoFar, answered_append, answered_none, map_append, none_there, reported_lost}
+use Rattle.cedar_compare.proofs.ReportedLemmas.{AnswersSoFar, answered_append, answered_none, reported_lost}
 use Rattle.cedar_compare.proofs.RequestLemmas.{kept_requests, lacking, lost_request}
-use Rattle.cedar_compare.proofs.SortedLemmas.{all_at}
 use Rattle.cedar_compare.specs.Words.{ActionKind, AreActionAnswers, AreAnswers, Environment, Extensions, Has, HasEnvironment, IsActionAt, IsAnswer, IsAppliedBy, IsContextIn, IsContextOf, IsContextOutside, IsEnvironmentFor, IsEnvironmentLacking, IsEnvironmentOf, IsKeyed, IsLostRequest, IsOfTypes, IsOutsideAt, IsRequestOf, IsSampleRequest, IsUidOfType, IsUidOutside, KeepsOf, LacksChoice, MayHaveId, PlainDifference, PlainName, PlainRequest, PlainSchema, PlainStep, PlainUid, SameItems, SchemaAction, Subject, Tree, Ty, choice_removed, context_at, context_outside, defined_action, environment_subject, external_action, removed, kind_context, kind_principals, kind_resources, name_cmp, request_lost, subject_cmp, subjects_with}
-use Rattle.cedar_schema_semantics.proofs.OccurrenceLemmas.{Contains-flat_map, Contains-given, Contains-image}
+use Rattle.cedar_schema_semantics.proofs.OccurrenceLemmas.{Contains-flat_map, Contains-given}
 
 -- the context of an environment is that of its action
 kind_of_environment : (kind : ActionKind) (environment : Environment) → IsRequestOf kind environment
@@ -28,7 +28,7 @@ environment_of_kind : (kind : ActionKind) (environment : Environment) → Contai
     → Contains (kind_resources kind) environment.resource → kind_context kind ≡ Some environment.context → IsRequestOf kind environment
 environment_of_kind (defined_action principals resources context) environment first second is =
     (first, second, cc)
-environment_of_kind external_action environment first second is = absurd (none_there environment.principal first)
+environment_of_kind external_action environment first second is = absurd (Contains-none environment.principal first)
 
 -- the context of an environment of the schema is that of an action of it
 pub environment_context : (schema : PlainSchema) (environment : Environment) → IsEnvironmentOf schema environment
@@ -72,7 +72,7 @@ module _ (schema : PlainSchema) (uid : PlainUid) where
               applied.1 (ap kind_context is),
         ),
       )
-      found external_action is = absurd (none_there principal (subst (λ k. Contains (kind_principals k) principal) is applied.0))
+      found external_action is = absurd (Contains-none principal (subst (λ k. Contains (kind_principals k) principal) is applied.0))
 
 module _ (extensions : Extensions) (old new : PlainSchema) (principal : PlainName) (uid : PlainUid) (resource : PlainName) (ty : Ty)
     (asked : IsEnvironmentOf old (record { principal = principal; action = uid; resource = resource; context = ty })) where
@@ -179,9 +179,9 @@ module _ (extensions : Extensions) (old new : PlainSchema) (principal : PlainNam
 front_below : (front : List PlainName) (name : PlainName) (rest : List PlainName) → IsStrictlySortedBy name_cmp (front ++ name ∷ rest)
     → (other : PlainName) → Contains front other → name_cmp other name ≡ Less
 unfolding IsStrictlySortedBy
-front_below [] name rest sorted other among = absurd (none_there other among)
+front_below [] name rest sorted other among = absurd (Contains-none other among)
 front_below (first ∷ front) name rest sorted other among = ⊎_elim
-    (λ same. subst (λ n. name_cmp n name ≡ Less) same (all_at (λ n. name_cmp first n ≡ Less) (front ++ name ∷ rest) name sorted.0
+    (λ same. subst (λ n. name_cmp n name ≡ Less) same (AllByRecursion-at (λ n. name_cmp first n ≡ Less) (front ++ name ∷ rest) name sorted.0
     (Contains-append_right front (name ∷ rest) name (Contains-cons name rest name (inl refl)))))
     (λ later. front_below front name rest sorted.1 other later)
     (Contains-cons_cases first front other among)
@@ -222,7 +222,7 @@ module _ (extensions : Extensions) (old new : PlainSchema) where
     [],
     record {
       all = λ it of named. absurd (none_left it of named);
-      alone = λ it there. absurd (none_there it there);
+      alone = λ it there. absurd (Contains-none it there);
     },
     answered_none extensions old new,
   )
@@ -280,8 +280,8 @@ pub copied_more : {A B : Type 0} (f : A → B) (items copies more : List A) (i :
     → map f more ≡ map f (take (i + 1) items)
 copied_more f items copies more i item copy within is so_far added same =
     let front : map f (take (i + 1) items) ≡ map f (take i items) ++ f item ∷ [] =
-    ap (map f) (take_more items i item within ∙ ap (λ x. take i items ++ x ∷ []) (sym is)) ∙ map_append f (take i items) (item ∷ []) in
-    ap (map f) added ∙ (map_append f copies (copy ∷ []) ∙ (ap (λ xs. xs ++ f copy ∷ []) so_far
+    ap (map f) (take_more items i item within ∙ ap (λ x. take i items ++ x ∷ []) (sym is)) ∙ map-append f (take i items) (item ∷ []) in
+    ap (map f) added ∙ (map-append f copies (copy ∷ []) ∙ (ap (λ xs. xs ++ f copy ∷ []) so_far
     ∙ (ap (λ x. map f (take i items) ++ x ∷ []) same ∙ sym front)))
 
 -- where no difference is found of a subject, it is kept

@@ -1,6 +1,7 @@
 -- A schema keeps all that another admits which is the same.
 use Rattle.std.proofs.Common.{◌≡◌, inl, inr, subst, sym, ◌∙◌, ⊎_elim, Contains}
-use Rattle.cedar_compare.specs.Words.{ActionEntity, ActionKind, EntityTypeKind, Environment, Extensions, HoldsPairwise, IsDefinedKind, IsEntityIn, IsEntityOfKind, IsIdOf, IsRequestIn, IsRequestOf, Keeps, ListsDescendantAction, MayHaveId, MayStandAbove, PlainName, PlainRequest, PlainSchema, PlainUid, SameAction, SameActionKind, SameEntityType, SameItems, SameSchema, SchemaAction, SchemaEntityType, defined_action, enumerated_kind, external_action, external_kind, standard_kind}
+use Rattle.cedar_compare.specs.Words.{ActionEntity, ActionKind, EntityTypeKind, Environment, Extensions, HoldsPairwise, IsEntityIn, IsEntityOfKind, IsIdOf, IsRequestIn, IsRequestOf, Keeps, ListsDescendantAction, MayHaveId, MayStandAbove, PlainName, PlainRequest, PlainSchema, PlainUid, SameAction, SameActionKind, SameEntityType, SameItems, SameSchema, SchemaAction, SchemaEntityType, defined_action, enumerated_kind, external_kind, standard_kind}
+use Rattle.cedar_schema_semantics.proofs.SameActions.{action_back, defined_like}
 use Rattle.cedar_schema_semantics.proofs.TurnLemmas.{turn_back, turn_forth}
 
 -- the same entity types the other way round
@@ -10,25 +11,6 @@ type_back it other same = record {
   name = sym same.name;
   kind = sym same.kind;
   descendants = λ name. ((same.descendants name).1, (same.descendants name).0);
-}
-
--- the same requests the other way round
-kind_back : (kind other : ActionKind) → SameActionKind kind other → SameActionKind other kind
-kind_back (defined_action principals resources context) (defined_action others other_resources other_context) same = (
-  λ name. ((same.0 name).1, (same.0 name).0),
-  λ name. ((same.1 name).1, (same.1 name).0),
-  sym same.2,
-)
-kind_back external_action external_action same = tt
-kind_back _ _ same = absurd same
-
--- the same actions the other way round
-action_back : (it other : PlainUid × SchemaAction) → SameAction it other → SameAction other it
-action_back it other same = record {
-  key = sym same.key;
-  uid = sym same.uid;
-  kind = kind_back it.1.kind other.1.kind same.kind;
-  descendants = λ uid. ((same.descendants uid).1, (same.descendants uid).0);
 }
 
 -- entity types and actions are pairwise the same
@@ -42,11 +24,6 @@ alike_back schema other alike = (
   turn_back SameEntityType SameEntityType type_back schema.entity_types other.entity_types alike.0,
   turn_back SameAction SameAction action_back schema.actions other.actions alike.1,
 )
-
--- a kind for the same requests as a defined one is defined
-defined_like : (kind other : ActionKind) → SameActionKind kind other → IsDefinedKind kind → IsDefinedKind other
-defined_like (defined_action p r c) (defined_action q s d) same is = tt
-defined_like _ _ same is = absurd assumption
 
 -- and is for them
 asked_like : (kind other : ActionKind) (it : Environment) → SameActionKind kind other → IsRequestOf kind it → IsRequestOf other it

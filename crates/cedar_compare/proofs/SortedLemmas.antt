@@ -1,13 +1,13 @@
 -- Lists in strict order.
-use Rattle.std.proofs.Common.{◌≡◌, List, [], ◌∷◌, ◌++◌, inl, inr, refl, ap, subst, sym, ◌∙◌, ⊎_elim, map, Contains, arith}
+use Rattle.std.proofs.Common.{◌≡◌, List, [], ◌∷◌, ◌++◌, inl, inr, refl, ap, sym, ◌∙◌, ⊎_elim, map, Contains, arith}
 use Rattle.std.specs.Cmp.{IsTotalOrder}
 use Rattle.std.specs.List.{AllByRecursion}
 use Rattle.std.specs.List.Sorted.{IsStrictlySortedBy}
 use Rattle.std.specs.declared.cmp.Ordering.{Ordering}
 use Rattle.std.specs.declared.cmp.Ordering.TheVariants.{Less}
+use Rattle.cedar_ast.proofs.Basics.{AllByRecursion-at, Contains-image}
 use Rattle.cedar_ast.proofs.Lists.{Contains-cons, Contains-cons_cases}
 use Rattle.cedar_ast.proofs.Ordered.{not_itself}
-use Rattle.cedar_schema_semantics.proofs.OccurrenceLemmas.{Contains-image}
 
 module _ {A : Type 0} where
   -- what holds of each of two lists holds of both together
@@ -46,12 +46,6 @@ module _ {A : Type 0} where
       sorted_append xs ys sorted.1 others (λ z y among. below z y (Contains-cons x xs z (inr among))),
     )
 
--- what holds of each item holds of a member
-pub all_at : {A : Type 0} (P : A → Type 0) (xs : List A) (x : A) → AllByRecursion P xs → Contains xs x → P x
-all_at P [] x all among = absurd (omega (arith, among.1))
-all_at P (first ∷ rest) x all among =
-    ⊎_elim (λ same. subst P same all.0) (λ later. all_at P rest x all.1 later) (Contains-cons_cases first rest x among)
-
 -- of entries whose keys are in order there is one at each key
 pub one_at : {K V : Type 0} (R : K → K → Ordering) → IsTotalOrder R → (entries : List (K × V))
     → IsStrictlySortedBy R (map (λ (it : K × V). it.0) entries) → (key : K) (it other : V) → Contains entries (key, it)
@@ -61,7 +55,7 @@ one_at R total [] sorted key it other among also = absurd (omega (arith, among.1
 one_at {K} {V} R total (first ∷ rest) sorted key it other among also =
     let not_later : (value : V) → first.0 ≡ key → ¬ Contains rest (key, value) = λ value same later.
     not_itself R total first.0 key same
-    (all_at (λ k. R first.0 k ≡ Less) (map (λ (e : K × V). e.0) rest) key sorted.0 (Contains-image (λ (e : K × V). e.0) rest (key, value) later)) in
+    (AllByRecursion-at (λ k. R first.0 k ≡ Less) (map (λ (e : K × V). e.0) rest) key sorted.0 (Contains-image (λ (e : K × V). e.0) rest (key, value) later)) in
     ⊎_elim
     (λ (here : first ≡ (key, it)). ⊎_elim
     (λ (here' : first ≡ (key, other)). ap (λ (e : K × V). e.1) (sym here ∙ here'))

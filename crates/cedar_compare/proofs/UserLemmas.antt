@@ -1,28 +1,21 @@
 -- Schemas of one entity type.
 use Rattle.std.proofs.Common.{◌≡◌, [], ◌∷◌, Contains, ap, arith, inl, refl, subst, sym, ⊎_elim}
-use Rattle.cedar_ast.proofs.Lists.{Contains-cons, Contains-cons_cases}
+use Rattle.cedar_ast.proofs.Basics.{Contains-none, Contains-single}
+use Rattle.cedar_ast.proofs.Lists.{Contains-cons}
 use Rattle.cedar_compare.specs.Words.{ActionEntity, EntityTypeKind, Extensions, IsEntityIn, IsEntityOfKind, IsEntityOfType, IsName, IsReal, IsText, Keeps, LosesEntityType, MayStandAbove, PlainName, PlainUid, SchemaEntityType, Text, no_entry, user, user_of, users}
-
--- nothing is among no members
-none_among : {A : Type 0} (item : A) → ¬ Contains [] item
-none_among item among = omega (arith, among.1)
-
--- the one member of a list is that one
-only_one : {A : Type 0} (one item : A) → Contains (one ∷ []) item → one ≡ item
-only_one one item among = ⊎_elim (λ same. same) (λ others. absurd (none_among item others)) (Contains-cons_cases one [] item among)
 
 -- the schema's entity type is of its kind
 pub user_kind : (kind : EntityTypeKind) (name : PlainName) (ty : SchemaEntityType) → Contains (users kind).entity_types (name, ty)
     → (user ≡ name) × (user_of kind ≡ ty)
 user_kind kind name ty among =
-    let same = only_one (user, user_of kind) (name, ty) among in
+    let same = Contains-single (user, user_of kind) (name, ty) among in
     (ap (λ (it : PlainName × SchemaEntityType). it.0) same, ap (λ (it : PlainName × SchemaEntityType). it.1) same)
 
 -- nothing may stand above entities of the schema's type
 pub nothing_above : (kind : EntityTypeKind) (name : PlainName) (upper : PlainUid) → ¬ MayStandAbove (users kind) name upper
 nothing_above kind name upper above =
     let ty = (user_kind kind upper.ty above.0 above.1).1 in
-    none_among name (subst (λ (it : SchemaEntityType). Contains it.descendants name) (sym ty) above.2)
+    Contains-none name (subst (λ (it : SchemaEntityType). Contains it.descendants name) (sym ty) above.2)
 
 -- an entity of the schema is of its kind
 pub entity_of_kind : (extensions : Extensions) (kind : EntityTypeKind) (it : ActionEntity) → IsEntityIn extensions (users kind) it
@@ -31,7 +24,7 @@ entity_of_kind extensions kind it among =
     ⊎_elim
     (λ of. (let same = user_kind kind it.uid.ty of.0 of.1 in
     (same.0, subst (λ (ty : SchemaEntityType). IsEntityOfKind extensions (users kind) ty.kind it) (sym same.1) of.2)))
-    (λ action. absurd (none_among (it.uid, action.defined.0) action.defined.1))
+    (λ action. absurd (Contains-none (it.uid, action.defined.0) action.defined.1))
     among
 
 -- what is of the kind is an entity of the schema
@@ -51,7 +44,7 @@ pub users_keep : (extensions : Extensions) (lower upper : EntityTypeKind)
 users_keep extensions lower upper each = record {
   entities = λ it real of. (let own = entity_of_kind extensions lower it of in
       inl (kind_of_entity extensions upper it own.0 (each it own.1)));
-  requests = λ it real of. absurd (none_among _ of.1.1);
+  requests = λ it real of. absurd (Contains-none _ of.1.1);
 }
 
 -- an entity of `User` with an id and nothing else
@@ -60,11 +53,11 @@ bare id = record { uid = record { ty = user; eid = id }; attributes = no_entry; 
 
 -- `User` is a name that isn't reserved
 user_is_name : IsName user
-user_is_name = (refl, (λ i part below. absurd (omega (arith, below))), λ reserved. ⊎_elim (λ same. absurd cc) (none_among _) reserved)
+user_is_name = (refl, (λ i part below. absurd (omega (arith, below))), λ reserved. ⊎_elim (λ same. absurd cc) (Contains-none _) reserved)
 
 -- it is one of the language
 bare_is_real : (id : Text) → IsText id → IsReal (bare id)
-bare_is_real id written = ((user_is_name, written), tt, tt, λ upper among. absurd (none_among upper among))
+bare_is_real id written = ((user_is_name, written), tt, tt, λ upper among. absurd (Contains-none upper among))
 
 -- an entity without attributes and tags is lost where the one kind has it and the other hasn't
 pub users_lose : (extensions : Extensions) (lower upper : EntityTypeKind) (id : Text) → IsText id

@@ -3,10 +3,11 @@ use Rattle.std.proofs.Common.{◌⊎◌, not, zero, suc, Bool, true, false, List
 use Rattle.std.proofs.lemmas.List.{map-append}
 use Rattle.std.proofs.lemmas.List.Elements.{Contains-append_cases}
 use Rattle.std.specs.List.{filter}
+use Rattle.cedar_ast.proofs.Basics.{Contains-image}
 use Rattle.cedar_ast.proofs.Lists.{Contains-preimage}
 use Rattle.cedar_elaboration.specs.Words.{Bag, Expr, Extensions, HasOpenRecord, PlainName, Text, Twice, TypeNamesFit, alias_name, aliases, built_in_name, built_in_types, built_ins, declared_common, definitions, extension_expr, extension_types, is_declared_here}
 use Rattle.cedar_schema_semantics.proofs.BuiltInLemmas.{alias_apart, alias_of, built_in_once, common_cases}
-use Rattle.cedar_schema_semantics.proofs.OccurrenceLemmas.{Twice-append, Contains-filter, Contains-image}
+use Rattle.cedar_schema_semantics.proofs.OccurrenceLemmas.{Twice-append, Contains-filter}
 
 -- a built-in type under its alias
 abbrev alias_item : Text × Expr → PlainName × Expr

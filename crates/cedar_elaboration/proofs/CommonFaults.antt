@@ -2,6 +2,7 @@
 use Rattle.std.proofs.Common.{◌≡◌, ◌⊎◌, List, ◌++◌, map, sym, subst, ◌∙◌, refl, append_assoc, inl, inr, Contains}
 use Rattle.std.proofs.lemmas.List.{map-append}
 use Rattle.std.proofs.lemmas.List.Elements.{Contains-append_left}
+use Rattle.cedar_ast.proofs.Basics.{Contains-image}
 use Rattle.cedar_ast.proofs.Chains.{refined}
 use Rattle.cedar_elaboration.proofs.AliasLemmas.{built_in_closed, declared_or_built_in, defined_twice}
 use Rattle.cedar_elaboration.specs.Words.{AreElaborated, AreSound, AreTypesOf, Bag, Chain, CommonTypesAreSound, Defined, Expr, Extensions, Fault, HoldsElaborated, IsCommonFault, IsCounted, IsFault, Names, NamesItems, PlainName, RefersToCommon, SameItems, Twice, Ty, aliases, built_ins, common_type_cycle, declared_common, defined_over, definitions, duplicate_common_type, extension_types, item_names, one, open_record, out_of_memory, reserved_name, type_not_defined, unknown_extension_type}
@@ -9,7 +10,7 @@ use Rattle.cedar_schema_laws.proofs.MentionLemmas.{known_built_in}
 use Rattle.cedar_schema_semantics.proofs.BuiltInLemmas.{refers_declared}
 use Rattle.cedar_schema_semantics.proofs.DeclarationLemmas.{common_declaration}
 use Rattle.cedar_schema_semantics.proofs.DefinedLemmas.{SameDefined, SameDefined-sym, resolves_there, unresolved_there, elaborated_there}
-use Rattle.cedar_schema_semantics.proofs.OccurrenceLemmas.{Contains-image, Twice-left}
+use Rattle.cedar_schema_semantics.proofs.OccurrenceLemmas.{Twice-left}
 
 -- a step from a common type to one that it refers to is one where the same is defined
 refers_there : (defined other : Defined) → SameDefined defined other → (name to : PlainName)

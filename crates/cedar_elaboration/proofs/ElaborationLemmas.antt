@@ -4,6 +4,7 @@ use Rattle.std.proofs.Math.ListN.{length-map}
 use Rattle.std.proofs.lemmas.List.Elements.{Contains-append_cases, Contains-get_or}
 use Rattle.std.specs.BTreeMap.{BTreeMap, insert_entry}
 use Rattle.std.specs.Prelude.{slice_get}
+use Rattle.cedar_ast.proofs.Basics.{Contains-image, Contains-single}
 use Rattle.cedar_ast.proofs.Lists.{Contains-preimage}
 use Rattle.cedar_ast.proofs.Names.{internal_name_ord-Equal}
 use Rattle.cedar_ast.specs.contracts.internal_name.InternalNameOrd.TheImpl as order
@@ -12,7 +13,7 @@ use Rattle.cedar_elaboration.proofs.IndexLemmas.{Contains-at}
 use Rattle.cedar_elaboration.proofs.ScopeLemmas.{same_resolves}
 use Rattle.cedar_elaboration.specs.Words.{Covers, ElaboratesTo, Expr, Fault, HoldsElaborated, HoldsJust, Included, InternalName, IsCommonFault, IsElaborationOrder, IsExprFault, IsSoundExpr, Names, NamesItems, PlainName, Reference, ReferenceType, SameItems, Twice, Ty, TypeScope, Written, common_type_cycle, defined_over, duplicate_common_type, elaborated_types, held_names, item_names, name_of, names_of, out_of_memory, ty_of, written_common, written_expr}
 use Rattle.cedar_schema_ast.specs.declared.json_schema.type_of.Type as json
-use Rattle.cedar_schema_semantics.proofs.OccurrenceLemmas.{Contains-image, Contains-single, value_once}
+use Rattle.cedar_schema_semantics.proofs.OccurrenceLemmas.{value_once}
 use Rattle.cedar_types.specs.declared.types.Type.{«Type»}
 
 -- the types of some entries, each with the name that it stands under

@@ -8,12 +8,13 @@ use Rattle.std.proofs.lemmas.Option.{slice_get-get_or, slice_get-map}
 use Rattle.std.specs.BTreeMap.{insert_entry}
 use Rattle.std.specs.Option.{option_map}
 use Rattle.std.specs.Prelude.{slice_get}
+use Rattle.cedar_ast.proofs.Basics.{Contains-single}
 use Rattle.cedar_ast.proofs.Lists.{Contains-cons, Contains-cons_cases}
 use Rattle.cedar_ast.proofs.Names.{internal_name_ord-Equal}
 use Rattle.cedar_ast.specs.contracts.internal_name.InternalNameOrd.TheImpl as order
 use Rattle.cedar_elaboration.proofs.Entries.{inserted_cases, inserted_names, seen, seen_names}
 use Rattle.cedar_elaboration.specs.Words.{AreIndices, InternalName, PlainName, Reference, ReferenceType, Twice, «Type», Written, item_names, name_of, written_common, written_expr}
-use Rattle.cedar_schema_semantics.proofs.OccurrenceLemmas.{Contains-single, Twice-append, Twice-both}
+use Rattle.cedar_schema_semantics.proofs.OccurrenceLemmas.{Twice-append, Twice-both}
 
 -- an item stays at its place as others come after
 pub slice_get-front : {X : Type 0} (xs ys : List X) (i : ℕ) (x : X) → slice_get xs i ≡ Some x → slice_get (xs ++ ys) i ≡ Some x

@@ -4,10 +4,10 @@ use Rattle.std.proofs.Math.ListN.{length-map}
 use Rattle.std.proofs.lemmas.Option.{slice_get-map, slice_get_within}
 use Rattle.std.specs.Option.{option_map}
 use Rattle.std.specs.Prelude.{slice_get}
+use Rattle.cedar_ast.proofs.Basics.{Contains-image}
 use Rattle.cedar_ast.proofs.Lists.{Contains-preimage}
 use Rattle.cedar_elaboration.proofs.IndexLemmas.{Contains-at, index_of, index_once}
 use Rattle.cedar_elaboration.specs.Words.{AddsIndices, AreIndices, Chain, Expr, HasNoCycle, HoldsPairwise, IsDefined, IsElaborationOrder, IsOrder, LeadsTo, Names, NamesItems, PlainName, Reference, Refers, RefersToCommon, ResolvesTo, Twice, defined_over, item_names, items_at, more, names_of, one}
-use Rattle.cedar_schema_semantics.proofs.OccurrenceLemmas.{Contains-image}
 use Rattle.cedar_schema_semantics.proofs.ResolutionLemmas.{IsFirst-like}
 
 -- what holds pairwise holds of the item at an index and of the list there

@@ -1,8 +1,8 @@
 -- References to what is known.
 use Rattle.std.proofs.Common.{◌≡◌, ◌⊎◌, List, [], ◌∷◌, map, subst, refl, inl, inr, Contains, Result, Ok, Err, IfErr, IfOk, OnOk}
+use Rattle.cedar_ast.proofs.Basics.{Contains-single}
 use Rattle.cedar_ast.proofs.Lists.{Contains-preimage}
 use Rattle.cedar_elaboration.specs.Words.{Covers, CoversExtensions, Defined, ElaboratesAs, ElaboratesTo, Expr, Fault, Fields, HoldsJust, IsCommon, IsDefined, IsEntity, IsExprFault, IsElaborationFault, IsReserved, IsReservedEntity, IsUnresolved, MayNameCommon, Members, MembersElaborateTo, MembersRefer, Names, PlainName, Reference, Refers, ResolvesEach, ResolvesTo, Text, Ty, TypeScope, as_common, as_entity, as_extension, as_member, as_no_member, as_record, as_set, elaborated_types, extension_expr, extension_name, extension_of, extensions_in_scope, fault_of, held_names, named, names_of, out_of_memory, reserved_name, set_expr, set_of, ty_of, type_not_defined, union_of, unknown_extension_type}
-use Rattle.cedar_schema_semantics.proofs.OccurrenceLemmas.{Contains-single}
 use Rattle.cedar_schema_semantics.proofs.ResolutionLemmas.{IsFirst-like, first_defined}
 use Rattle.cedar_schema_semantics.specs.declared.schema_error.SchemaError.{SchemaError}
 use Rattle.cedar_types.specs.declared.types.Type.{«Type»}

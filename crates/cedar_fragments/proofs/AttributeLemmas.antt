@@ -13,11 +13,11 @@ use Rattle.std.specs.declared.alloc.Global.{Global}
 use Rattle.std.specs.declared.cmp.Ordering.TheVariants.{Less}
 use Rattle.std.specs.declared.string.String.{String}
 use Rattle.std.specs.declared.vec.Vec.{Vec}
+use Rattle.cedar_ast.proofs.Basics.{Contains-image}
 use Rattle.cedar_ast.proofs.Lists.{Contains-cons, Contains-cons_cases, Contains-preimage}
 use Rattle.cedar_ast.proofs.Ordered.{IsStrictlySortedBy-map}
 use Rattle.cedar_fragments.specs.Words.{ActionBody, ActionType, Bag, Body, CommonType, CommonTypeId, Declaration, EntityBody, Expr, Fault, HasAttributes, IsDefinitionFault, NamesAllWithAttributes, NamesNoAttributes, PlainName, RawName, Text, UnreservedId, action, action_attributes, action_body, action_declarations, common_declarations, common_type, entity_declarations, entity_type, id_where, out_of_memory, raw_reference, text_cmp, with_attributes}
 use Rattle.cedar_schema_ast.specs.declared.json_schema.entity_type.EntityType.{EntityType}
-use Rattle.cedar_schema_semantics.proofs.OccurrenceLemmas.{Contains-image}
 
 -- the actions of a definition
 abbrev pub Actions : Type 0

@@ -9,10 +9,10 @@ use Rattle.std.specs.List.Sorted.{IsStrictlySortedBy}
 use Rattle.std.specs.Map.{keys_of}
 use Rattle.std.specs.declared.cmp.Ordering.{Ordering}
 use Rattle.std.specs.declared.cmp.Ordering.TheVariants.{Greater}
+use Rattle.cedar_ast.proofs.Basics.{Contains-image}
 use Rattle.cedar_ast.proofs.Lists.{Contains-cons}
 use Rattle.cedar_ast.proofs.Ordered.{above_front, insert_entry-end}
 use Rattle.cedar_ast.specs.Lists.{HoldsPairwise}
-use Rattle.cedar_schema_semantics.proofs.OccurrenceLemmas.{Contains-image}
 
 module _ {A B : Type 0} (R : A → B → Type 0) where
   -- two lists after two others

@@ -13,11 +13,11 @@ use Rattle.std.specs.declared.alloc.Global.{Global}
 use Rattle.std.specs.declared.cmp.Ordering.{Ordering}
 use Rattle.std.specs.declared.cmp.Ordering.TheVariants.{Less, Equal, Greater}
 use Rattle.std.specs.declared.string.String.{String}
+use Rattle.cedar_ast.proofs.Basics.{Contains-image}
 use Rattle.cedar_ast.proofs.Lists.{Contains-cons, Contains-cons_cases}
 use Rattle.cedar_ast.proofs.Texts.{text_cmp-Equal}
 use Rattle.cedar_fragments.proofs.SetLemmas.{only, is_eq-Equal}
 use Rattle.cedar_fragments.specs.Words.{EntityUID, IsPlainAction, IsUnqualified, PlainName, PlainUid, ShadowsAction, ShadowsType, Text, text_cmp, uid_of}
-use Rattle.cedar_schema_semantics.proofs.OccurrenceLemmas.{Contains-image}
 
 -- the actions with unqualified types, by id
 abbrev pub Entries : Type 0

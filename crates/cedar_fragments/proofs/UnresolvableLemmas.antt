@@ -1,11 +1,11 @@
 -- What can't be resolved in a part can't be in the whole.
 use Rattle.std.proofs.Common.{◌≡◌, List, [], ◌∷◌, map, ap, ◌∙◌, refl, inl, inr, Contains}
 use Rattle.std.specs.List.{AllByRecursion}
+use Rattle.cedar_ast.proofs.Basics.{Contains-image}
 use Rattle.cedar_ast.proofs.Lists.{Contains-preimage}
 use Rattle.cedar_fragments.proofs.SoundLemmas.{AllByRecursion-at}
 use Rattle.cedar_fragments.specs.Words.{ActionReference, AllDefs, Bag, Body, Declaration, Entity, EntityUID, Fault, HasToResolve, HasToResolveIn, HoldsPairwise, InternalName, IsDefined, IsRefusedAmong, IsReserved, IsUnresolvable, Names, NoneIsReserved, PlainName, PlainUid, QualifyError, Reference, ReferenceType, ResolvesBody, ResolvesDeclaration, ResolvesReference, ResolvesTo, action_not_defined, declared_action, declared_as, held_names, name_of, out_of_memory, qualify_fault, reference_to_one, reserved_name, resolved_reference, type_not_defined, uid_of}
 use Rattle.cedar_schema_ast.specs.declared.json_schema.qualify_error.QualifyError.TheVariants as error
-use Rattle.cedar_schema_semantics.proofs.OccurrenceLemmas.{Contains-image}
 use Rattle.cedar_schema_semantics.proofs.ResolutionLemmas.{IsFirst-same}
 use Rattle.cedar_schema_semantics.proofs.TurnLemmas.{turn_forth, turn_back}
 

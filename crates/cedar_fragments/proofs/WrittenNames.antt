@@ -1,8 +1,8 @@
 -- What is found of a written name is what the reference that it is resolves to.
 use Rattle.std.proofs.Common.{◌≡◌, List, [], ◌∷◌, Option, None, Some, Result, Ok, Err, IfOk, MatchOption, sym, subst, refl, inl, Contains}
+use Rattle.cedar_ast.proofs.Basics.{Contains-single}
 use Rattle.cedar_fragments.specs.Words.{IsDefined, IsFirst, Names, PlainName, ReferenceType, StandsWhere, Text}
 use Rattle.cedar_schema_ast.specs.Reference.{name_within, names_within}
-use Rattle.cedar_schema_semantics.proofs.OccurrenceLemmas.{Contains-single}
 
 module _ {A : Type 0} (f : A → PlainName) (names : Names) (kind : ReferenceType) where
   -- what is found of names is the first of them that is defined, or none is

@@ -119,7 +119,3 @@ key_here xs members index x same within is d =
 pub held : {A : Type 0} (o : Option A) → is_some o ≡ true → (x : A) × (o ≡ Some x)
 held None e = absurd (cc)
 held (Some x) e = (x, refl)
-
-pub nothing : {A : Type 0} (o : Option A) → is_some o ≡ false → o ≡ None
-nothing None e = refl
-nothing (Some x) e = absurd (cc)

@@ -6,10 +6,11 @@ use Rattle.std.proofs.lemmas.Slice.Eq.{bytes_eq-Decides}
 use Rattle.std.specs.List.{list_all}
 use Rattle.std.specs.Option.{option_cmp}
 use Rattle.std.specs.Str.{bytes_eq}
+use Rattle.cedar_ast.proofs.IdStops.{identifier_bytes}
 use Rattle.cedar_ast.proofs.NameReading.{both_true, either, ids_are_identifiers, path_text}
 use Rattle.cedar_ast.proofs.Names.{name_ord-name_cmp}
 use Rattle.cedar_ast.specs.contracts.name.NameOrd.TheImpl as name_ord
-use Rattle.cedar_json.specs.Words.{CommonTypeId, InternalName, IsIdentifier, IsNameFault, IsNameText, IsOfIdentifiers, IsReserved, IsReservedNameText, Name, NameFault, NoCommonType, NotAName, PlainName, RawName, Reserved, Text, UnreservedId, begins_identifier, common_key, common_type_text, if_unreserved, is_among, is_identifier_byte, is_identifier_text, is_reserved, is_unreserved, joined, name_after, name_cmp, name_of, name_of_parts, name_text, namespace_key, pieces, plain_name, plain_name_in, raw_name, reserved_type_words, reserved_word, spelled_name, unreserved_id_text, with_byte}
+use Rattle.cedar_json.specs.Words.{CommonTypeId, InternalName, IsIdentifier, IsNameFault, IsNameText, IsOfIdentifiers, IsReserved, IsReservedNameText, Name, NameFault, NoCommonType, NotAName, PlainName, RawName, Reserved, Text, UnreservedId, common_key, common_type_text, if_unreserved, is_among, is_identifier_byte, is_identifier_text, is_reserved, is_unreserved, joined, name_after, name_cmp, name_of, name_of_parts, name_text, namespace_key, pieces, plain_name, plain_name_in, raw_name, reserved_type_words, reserved_word, spelled_name, unreserved_id_text, with_byte}
 
 -- a byte of an identifier is no colon
 no_colon : (byte : ℕ) (test : Bool) → (byte == 58) ≡ test → is_identifier_byte byte ≡ true → test ≡ false
@@ -37,9 +38,6 @@ pieces-part [] rest all = refl
 pieces-part (byte ∷ part) rest all =
     let halves = both_true (is_identifier_byte byte) (list_all is_identifier_byte part) all in
     pieces-byte byte (part ++ rest) (no_colon byte (byte == 58) refl halves.0) ∙ ap (with_byte byte) (pieces-part part rest halves.1)
-
-identifier_bytes : (text : Text) → IsIdentifier text → list_all is_identifier_byte text ≡ true
-identifier_bytes text is = (both_true (begins_identifier text) (list_all is_identifier_byte text) is).1
 
 -- the pieces of an identifier with `::` behind it
 pieces-colons : (part rest : Text) → IsIdentifier part → pieces (part ++ 58 ∷ 58 ∷ rest) ≡ part ∷ pieces rest
@@ -205,7 +203,7 @@ listed-true text (first ∷ rest) (suc k, within, e) =
     ap (λ t. bytes_eq text first || t) (listed-true text rest (k, omega (arith, within), e)) ∙ or_true (bytes_eq text first)
 
 -- and a text that is listed is among them
-true-listed : (text : Text) (texts : List Text) → is_among text texts ≡ true → Contains texts text
+pub true-listed : (text : Text) (texts : List Text) → is_among text texts ≡ true → Contains texts text
 true-listed text [] e = absurd (false≢true e)
 true-listed text (first ∷ rest) e =
     ⊎_elim (λ same. (0, omega arith, sym ((bytes_eq-Decides text first).0 same)))
@@ -224,7 +222,7 @@ true-reserved name e =
     ⊎_elim (λ base. inl ((bytes_eq-Decides name.base reserved_word).0 base)) (λ path. inr (true-listed reserved_word name.path path))
     (either (bytes_eq name.base reserved_word) (is_among reserved_word name.path) e)
 
-unreserved_by : (name : PlainName) (test : Bool) → is_reserved name ≡ test → ¬ IsReserved name → cond test None (Some name) ≡ Some name
+pub unreserved_by : (name : PlainName) (test : Bool) → is_reserved name ≡ test → ¬ IsReserved name → cond test None (Some name) ≡ Some name
 unreserved_by name true e other = absurd (other (true-reserved name e))
 unreserved_by name false e other = refl
 
@@ -255,7 +253,7 @@ pub reserved_name : (text : Text) (fault : NameFault) → IsNameFault IsNameText
     → IsReservedNameText text
 reserved_name text fault claim is = subst (IsNameFault IsNameText IsReservedNameText (λ _. ⊥) text) is claim
 
-differs : (xs ys : Text) (test : Bool) → bytes_eq xs ys ≡ test → xs ≢ ys → test ≡ false
+pub differs : (xs ys : Text) (test : Bool) → bytes_eq xs ys ≡ test → xs ≢ ys → test ≡ false
 differs xs ys true same other = absurd (other ((bytes_eq-Decides xs ys).0 same))
 differs xs ys false same other = refl
 
@@ -264,7 +262,7 @@ unlisted text texts true listed other = absurd (other (true-listed text texts li
 unlisted text texts false listed other = refl
 
 -- the text of an identifier that isn't reserved is one
-is_unreserved-id : (id : UnreservedId) → is_unreserved (unreserved_id_text id) ≡ true
+pub is_unreserved-id : (id : UnreservedId) → is_unreserved (unreserved_id_text id) ≡ true
 is_unreserved-id id =
     ap (λ test. test && not (bytes_eq (unreserved_id_text id) reserved_word)) id.id.identifier
     ∙ ap not (differs (unreserved_id_text id) reserved_word (bytes_eq (unreserved_id_text id) reserved_word) refl id.unreserved)

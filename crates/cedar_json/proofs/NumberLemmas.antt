@@ -7,7 +7,7 @@ use Rattle.std.specs.Str.Parse.{AllDigits, IsNumeral, ParsesSigned, signed_digit
 use Rattle.cedar_ast.proofs.NameReading.{both_true}
 use Rattle.cedar_json.specs.Words.{Text, are_digits, is_digit, is_long, whole_number}
 
-both : (a b : Bool) → a ≡ true → b ≡ true → (a && b) ≡ true
+pub both : (a b : Bool) → a ≡ true → b ≡ true → (a && b) ≡ true
 both a b first second = ap (λ t. t && b) first ∙ second
 
 digits_true : (text : Text) → AllDigits 10 text → list_all is_digit text ≡ true
@@ -21,11 +21,11 @@ true_digits (byte ∷ text) e =
     let halves = both_true (is_digit byte) (list_all is_digit text) e in
     (ltb-true (digit_value byte) 10 halves.0, true_digits text halves.1)
 
-long_true : (number : ℤ) → FitsSigned w64 number → is_long number ≡ true
+pub long_true : (number : ℤ) → FitsSigned w64 number → is_long number ≡ true
 long_true (pos n) fits = lt-ltb n (2 ^ 63) fits.sfits
 long_true (negsuc n) fits = lt-ltb n (2 ^ 63) fits.sfits
 
-true_long : (number : ℤ) → is_long number ≡ true → FitsSigned w64 number
+pub true_long : (number : ℤ) → is_long number ≡ true → FitsSigned w64 number
 true_long (pos n) e = record { sfits = ltb-true n (2 ^ 63) e }
 true_long (negsuc n) e = record { sfits = ltb-true n (2 ^ 63) e }
 

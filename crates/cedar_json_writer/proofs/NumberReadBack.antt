@@ -2,12 +2,12 @@
 use Rattle.std.proofs.Common.{◌≡◌, ◌≢◌, ◌==◌, ◌^◌, ◌<◌, ℕ, suc, Bool, true, false, [], ◌∷◌, ℤ, pos, negsuc, neg_ℤ, Some, cond, codes, FitsSigned, w64, refl, ap, sym, subst, ◌∙◌, arith, ltb-true}
 use Rattle.std.proofs.lemmas.Bool.{eqb-true}
 use Rattle.std.proofs.lemmas.Fmt.{decimal_is_IsNumeral}
-use Rattle.std.proofs.lemmas.Slice.Eq.{bytes_eq-Decides}
 use Rattle.std.specs.Char.{digit_value}
 use Rattle.std.specs.Fmt.{decimal, signed_decimal}
 use Rattle.std.specs.Str.{bytes_eq}
 use Rattle.std.specs.Str.Parse.{IsNumeral, digits_value, signed_digits_value, starts_with_minus, without_leading_sign}
-use Rattle.cedar_json.proofs.NumberLemmas.{whole_number-parsed}
+use Rattle.cedar_json.proofs.NameLemmas.{differs}
+use Rattle.cedar_json.proofs.NumberLemmas.{true_long, whole_number-parsed}
 use Rattle.cedar_json_writer.specs.Words.{Text, is_long, whole_number}
 
 -- a digit is no sign
@@ -36,14 +36,6 @@ unsigned (c ∷ cs) is =
       not_zero = rw minus refl;
     }
 
-longs : (z : ℤ) → is_long z ≡ true → FitsSigned w64 z
-longs (pos n) e = record { sfits = ltb-true n (2 ^ 63) e }
-longs (negsuc n) e = record { sfits = ltb-true n (2 ^ 63) e }
-
-differs : (xs ys : Text) (test : Bool) → bytes_eq xs ys ≡ test → xs ≢ ys → test ≡ false
-differs xs ys true same other = absurd (other ((bytes_eq-Decides xs ys).0 same))
-differs xs ys false same other = refl
-
 -- the number that a text writes which is printed of it
 pub whole_number-back : (z : ℤ) → is_long z ≡ true → whole_number (signed_decimal z) ≡ Some z
 whole_number-back (pos n) e =
@@ -54,7 +46,7 @@ whole_number-back (pos n) e =
     ap pos (sym printed.1) ∙ ap (λ ds. pos (digits_value 10 ds)) (sym plain.same)
     ∙ ap (λ test. cond test (neg_ℤ (pos (digits_value 10 (without_leading_sign (decimal n))))) (pos (digits_value 10 (without_leading_sign (decimal n))))) (sym plain.no_minus_first) in
     whole_number-parsed {E = ℕ} (decimal n) 0 (Some (pos n)) plain.not_zero
-    ((subst (IsNumeral 10) (sym plain.same) printed.0, subst (FitsSigned w64) value (longs (pos n) e)), value)
+    ((subst (IsNumeral 10) (sym plain.same) printed.0, subst (FitsSigned w64) value (true_long (pos n) e)), value)
 whole_number-back (negsuc n) e =
     let below : n < 2 ^ 63 = ltb-true n (2 ^ 63) e in
     let printed = decimal_is_IsNumeral (suc n) (omega (arith, below)) in
@@ -62,4 +54,4 @@ whole_number-back (negsuc n) e =
     whole_number-parsed {E = ℕ} (45 ∷ decimal (suc n)) 0 (Some (negsuc n))
     (differs (decimal (suc n)) (48 ∷ []) (bytes_eq (decimal (suc n)) (48 ∷ [])) refl
     (λ same. omega (arith, printed.1, ap (digits_value 10) same)))
-    ((printed.0, subst (FitsSigned w64) value (longs (negsuc n) e)), value)
+    ((printed.0, subst (FitsSigned w64) value (true_long (negsuc n) e)), value)

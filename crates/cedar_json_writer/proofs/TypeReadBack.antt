@@ -69,7 +69,7 @@ either_row name is =
     let made = ap (λ (o : Option PlainName). option_map (λ it. named (reference_to None CommonOrEntity it)) o) is in
     record { plain = made; of_common = made; of_required = made; of_optional = made }
 
-neither : (a b : Bool) → (a || b) ≡ false → (a ≡ false) × (b ≡ false)
+pub neither : (a b : Bool) → (a || b) ≡ false → (a ≡ false) × (b ≡ false)
 neither true b e = absurd (cc)
 neither false b e = (refl, e)
 

@@ -1,31 +1,17 @@
 -- What is written of a value describes it.
-use Rattle.std.proofs.Common.{◌≡◌, inl, inr, ⊎_elim, Contains, suc, List, [], ◌∷◌, ◌++◌, Bool, true, false, cond, ◌||◌, Some, None, option_map, option_and_then, codes, refl, ap, ap₂, sym, ◌∙◌, append_assoc, append-nil, arith}
+use Rattle.std.proofs.Common.{◌≡◌, ⊎_elim, [], ◌∷◌, ◌++◌, Bool, true, false, cond, ◌||◌, Some, None, option_map, option_and_then, codes, refl, ap, ap₂, sym, ◌∙◌, append_assoc, append-nil}
 use Rattle.std.proofs.lemmas.Bool.{false≢true}
-use Rattle.std.proofs.lemmas.Slice.Eq.{bytes_eq-Decides}
 use Rattle.std.specs.BTreeMap.{insert_entry}
 use Rattle.std.specs.List.Sorted.{IsStrictlySortedBy}
 use Rattle.std.specs.Map.{keys_of}
 use Rattle.std.specs.Str.{bytes_eq}
-use Rattle.cedar_ast.proofs.NameReading.{either}
 use Rattle.cedar_ast.proofs.Texts.{text_cmp-total}
-use Rattle.cedar_json.proofs.NameLemmas.{spelled_name-text}
+use Rattle.cedar_json.proofs.NameLemmas.{spelled_name-text, unreserved_by}
 use Rattle.cedar_json.proofs.ValueLemmas.{pairs_of-member, pairs_of-none, value_of-record}
 use Rattle.cedar_json_writer.proofs.NumberReadBack.{whole_number-back}
+use Rattle.cedar_json_writer.proofs.TypeReadBack.{neither}
 use Rattle.cedar_json_writer.proofs.WrittenOrder.{both_none, put-last, still_sorted}
-use Rattle.cedar_json_writer.specs.Words.{Entries, IsPlain, IsReserved, Pairs, PlainName, PlainUid, SoundEntries, SoundValue, SoundValues, Text, Tree, Trees, call_of, call_value, entries_flaws, entries_from, entry, entry_names, if_unreserved, is_among, is_reserved, key_flaws, lone_key, map_value, name_text, no_entry, no_tree, number_value, pairs_of, plain_name_in, record_of_pairs, reserved_word, set_value, sole_held, text_cmp, text_value, tree, truth_value, uid_by, uid_document, uid_in, uid_value, value_document, value_flaws, value_items, value_keys, value_members, value_of, values_flaws, values_of}
-
-listed-among : (text : Text) (texts : List Text) → is_among text texts ≡ true → Contains texts text
-listed-among text [] e = absurd (false≢true e)
-listed-among text (first ∷ rest) e =
-    ⊎_elim (λ same. (0, omega arith, sym ((bytes_eq-Decides text first).0 same)))
-    (λ later. let it = listed-among text rest later in (suc it.0, omega (arith, it.1), it.2))
-    (either (bytes_eq text first) (is_among text rest) e)
-
-unreserved_by : (name : PlainName) (test : Bool) → is_reserved name ≡ test → ¬ IsReserved name → cond test None (Some name) ≡ Some name
-unreserved_by name true e other =
-    absurd (other (⊎_elim (λ base. inl ((bytes_eq-Decides name.base reserved_word).0 base)) (λ path. inr (listed-among reserved_word name.path path))
-    (either (bytes_eq name.base reserved_word) (is_among reserved_word name.path) e)))
-unreserved_by name false e other = refl
+use Rattle.cedar_json_writer.specs.Words.{Entries, IsPlain, Pairs, PlainName, PlainUid, SoundEntries, SoundValue, SoundValues, Text, Tree, Trees, call_of, call_value, entries_flaws, entries_from, entry, entry_names, if_unreserved, is_among, is_reserved, key_flaws, lone_key, map_value, name_text, no_entry, no_tree, number_value, pairs_of, plain_name_in, record_of_pairs, set_value, sole_held, text_cmp, text_value, tree, truth_value, uid_by, uid_document, uid_in, uid_value, value_document, value_flaws, value_items, value_keys, value_members, value_of, values_flaws, values_of}
 
 -- the text of a name that isn't reserved spells it
 pub plain_name-back : (name : PlainName) → IsPlain name → plain_name_in (name_text name) ≡ Some name
@@ -49,10 +35,6 @@ entries_from-listed (entry name value rest) = ap (entry name value) (entries_fro
 abbrev NoSole : Entries → Type 0
 NoSole values =
     (sole_held (codes "__entity") (value_members values) ≡ None) × (sole_held (codes "__extn") (value_members values) ≡ None)
-
-neither : (a b : Bool) → (a || b) ≡ false → (a ≡ false) × (b ≡ false)
-neither true b e = absurd (cc)
-neither false b e = (refl, e)
 
 no_key : (name : Text) (test : Bool) → cond test (lone_key name ∷ []) [] ≡ [] → test ≡ false
 no_key name true e = absurd (cc)

@@ -1,16 +1,12 @@
 -- Tokens that are written one after another, and what is free of flaws.
 use Rattle.std.proofs.Common.{◌≡◌, List, [], ◌∷◌, ◌++◌, Err, IfErr, MatchResult, Ok, OnOk, Result, Some, None, ap, refl, sym, subst, ◌∙◌, append_assoc}
 use Rattle.std.proofs.lemmas.List.Elements.{Contains-append_left, Contains-append_right}
+use Rattle.cedar_ast.proofs.Basics.{OnOk-map}
 use Rattle.cedar_json_writer.specs.Words.{AddsField, AddsFields, AddsMembers, AddsValue, Flaw, IsChecked, IsFlawOf, IsFree, Text, WriteFault, flaw_of}
 use Rattle.cedar_json_writer.specs.declared.fault.WriteFault.TheVariants as fault
 use Rattle.json.specs.Json.{Json, array, object, Items, no_items, item, Members, no_members, member}
 use Rattle.json.specs.Token.{Token, begin_array, begin_object, end_array, end_object, key}
 use Rattle.json.specs.Tree.{items_tokens, json_tokens, members_tokens}
-
--- what follows from the clause of a success is one too
-pub on_ok : {A E P Q : Type 0} (r : Result A E) → OnOk r P → (P → Q) → OnOk r Q
-on_ok (Ok a) is so = so is
-on_ok (Err e) is so = tt
 
 -- what has no flaw before a step that only memory may stop has none behind it
 pub flawless_checked : {A : Type 0} (flaws : List Flaw) (r : Result A WriteFault) → IfErr r (λ f. f ≡ fault.Memory) → flaws ≡ []
@@ -61,7 +57,7 @@ field_added old keyed new name j named added rest =
 -- so it is where the value is the last that is written
 pub field_by : {A E : Type 0} (r : Result A E) (old keyed new : List Token) (name : Text) (j : Json) → keyed ≡ old ++ key name ∷ []
     → OnOk r (AddsValue keyed new j) → OnOk r (AddsField old new name (Some j))
-field_by r old keyed new name j named added = on_ok r added (λ is. field_added old keyed new name j named is)
+field_by r old keyed new name j named added = OnOk-map r added (λ is. field_added old keyed new name j named is)
 
 -- nothing is a field that is left out
 pub field_absent : (old new : List Token) (name : Text) → new ≡ old → AddsField old new name None

@@ -8,9 +8,9 @@ use Rattle.std.specs.declared.alloc.Global.{Global}
 use Rattle.std.specs.declared.string.String.{String}
 use Rattle.cedar_ast.proofs.NameReading.{ids_are_identifiers}
 use Rattle.cedar_ast.proofs.Ordered.{IsStrictlySortedBy-map}
-use Rattle.cedar_json.proofs.NameLemmas.{spelled_name-text}
+use Rattle.cedar_json.proofs.NameLemmas.{is_unreserved-id, spelled_name-text}
 use Rattle.cedar_json_writer.proofs.WritingLemmas.{MembersShape, fields_after, object_closed}
-use Rattle.cedar_json_writer.specs.Words.{AddsField, AddsFields, AddsMembers, AddsValue, Common, CommonOrEntity, Each, Entity, Expr, IsFlawOf, IsFree, IsOfIdentifiers, PlainName, RawName, SoundAttributes, SoundType, Text, TypeOfAttribute, UnreservedId, WriteFault, attribute_document, attribute_members, attribute_names, attributes_flaws, extension_expr, flag_held, form_opening, id_key, is_among, is_identifier_text, is_unreserved, long_expr, members_from, name_text, named, optional_member, plain_members, raw_attribute, raw_name, raw_reference, record_expr, reserved_word, set_expr, spelled_name, text_cmp, text_expr, truth_expr, type_document, type_flaws, type_members, type_word, type_words, unreserved_id_text}
+use Rattle.cedar_json_writer.specs.Words.{AddsField, AddsFields, AddsMembers, AddsValue, Common, CommonOrEntity, Each, Entity, Expr, IsFlawOf, IsFree, IsOfIdentifiers, PlainName, RawName, SoundAttributes, SoundType, Text, TypeOfAttribute, UnreservedId, WriteFault, attribute_document, attribute_members, attribute_names, attributes_flaws, extension_expr, flag_held, form_opening, id_key, is_among, long_expr, members_from, name_text, named, optional_member, plain_members, raw_attribute, raw_name, raw_reference, record_expr, reserved_word, set_expr, spelled_name, text_cmp, text_expr, truth_expr, type_document, type_flaws, type_members, type_word, type_words, unreserved_id_text}
 use Rattle.cedar_schema_ast.specs.Expr.{Members as AttributeList}
 use Rattle.json.specs.Json.{object, string, Members, no_members, member}
 use Rattle.json.specs.Token.{Token, begin_object}
@@ -47,22 +47,13 @@ qualified_apart name qualified =
     bases_apart (raw_name name) type_words (spelled_name-text (raw_name name) (raw_ids name))
     (refl, (refl, (refl, (refl, (refl, (refl, (refl, (refl, tt)))))))) qualified
 
-both_true : (a b : Bool) → a ≡ true → b ≡ true → (a && b) ≡ true
-both_true a b first second = ap (λ test. test && b) first ∙ second
-
 not_reserved : (text : Text) (test : Bool) → bytes_eq text reserved_word ≡ test → text ≢ reserved_word → not test ≡ true
 not_reserved text true same other = absurd (other ((bytes_eq-Decides text reserved_word).0 same))
 not_reserved text false same other = refl
 
--- an id that isn't reserved is one
-pub unreserved-is : (id : UnreservedId) → is_unreserved (unreserved_id_text id) ≡ true
-unreserved-is id =
-    both_true (is_identifier_text (unreserved_id_text id)) (not (bytes_eq (unreserved_id_text id) reserved_word)) id.id.identifier
-    (not_reserved (unreserved_id_text id) (bytes_eq (unreserved_id_text id) reserved_word) refl id.unreserved)
-
 -- and is the key of an entity type
 pub id_key-read : (id : UnreservedId) → id_key (unreserved_id_text id) ≡ Some (unreserved_id_text id)
-id_key-read id = ap (λ test. cond test (Some (unreserved_id_text id)) None) (unreserved-is id)
+id_key-read id = ap (λ test. cond test (Some (unreserved_id_text id)) None) (is_unreserved-id id)
 
 -- a type of which nothing is a flaw, and which is sound
 abbrev pub FreeType : Expr → Type 0
@@ -198,7 +189,7 @@ extension_fields old new name added = added
 
 pub extension_free : (name : UnreservedId) → FreeType (extension_expr (unreserved_id_text name))
 unfolding type_flaws SoundType
-extension_free name = record { flawless = refl; sound = unreserved-is name }
+extension_free name = record { flawless = refl; sound = is_unreserved-id name }
 
 pub set_fields : (old formed new : List Token) (element : Expr) → formed ≡ old ++ form_opening (codes "Set") (codes "element")
     → AddsValue formed new (type_document element) → AddsFields old new (type_members (set_expr element))

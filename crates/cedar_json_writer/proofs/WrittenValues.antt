@@ -1,5 +1,5 @@
 -- What is written of values, row by row.
-use Rattle.std.proofs.Common.{◌≡◌, ◌≢◌, ◌^◌, ℕ, ℤ, pos, negsuc, suc, List, [], ◌∷◌, ◌++◌, Bool, true, false, cond, map, length, string_cmp, Some, Contains, codes, string_bytes, FitsSigned, w64, get_or, refl, ap, sym, subst, ◌∙◌, append_assoc, arith, lt-ltb}
+use Rattle.std.proofs.Common.{◌≡◌, ◌≢◌, ◌^◌, ℕ, ℤ, suc, List, [], ◌∷◌, ◌++◌, Bool, true, false, cond, map, length, string_cmp, Some, Contains, codes, string_bytes, get_or, refl, ap, sym, subst, ◌∙◌, append_assoc, arith}
 use Rattle.std.specs.BTreeMap.{BTreeMap}
 use Rattle.std.specs.Fmt.{signed_decimal}
 use Rattle.std.specs.List.{slice_get}
@@ -30,11 +30,6 @@ tree_of-long z =
     ∙ (let e : tree_of (roll-RestrictedExpr (layer.Long z)) ≡ number_value z =
     fold-roll-RestrictedExpr Tree tree_step (layer.Long z) in
     e)
-
--- a number of 64 bits is one
-pub long_true : (z : ℤ) → FitsSigned w64 z → is_long z ≡ true
-long_true (pos n) fits = lt-ltb n (2 ^ 63) fits.sfits
-long_true (negsuc n) fits = lt-ltb n (2 ^ 63) fits.sfits
 
 -- a value of which nothing is a flaw, and which is sound
 abbrev pub FreeValue : Tree → Type 0

@@ -11,6 +11,7 @@ use Rattle.std.specs.List.Sorted.{IsStrictlySortedBy}
 use Rattle.std.specs.Ordering.{ordering_reverse}
 use Rattle.std.specs.declared.cmp.Ordering.{Ordering}
 use Rattle.std.specs.declared.cmp.Ordering.TheVariants.{Less, Equal, Greater}
+use Rattle.cedar_ast.proofs.Basics.{some_item}
 use Rattle.cedar_ast.proofs.Inclusion.{Included-head, Included-in_none, Included-none}
 use Rattle.cedar_ast.proofs.Lists.{Contains-cons, Contains-cons_cases, Contains-preimage}
 use Rattle.cedar_ast.proofs.Ordered.{not_itself}
@@ -224,11 +225,6 @@ Passed-next {E = E} see R all k from at x passed within less = record {
             subst (λ n. P n d) same (subst (λ e. R (see e) k ≡ Less) (get_or_default all at x d within) less)
       ];
 }
-
--- a list with a place in it has an item
-pub some_item : {E : Type 0} (all : List E) (place : ℕ) → place < length all → E
-some_item [] place within = absurd (omega (arith, within))
-some_item (x ∷ xs) place within = x
 
 -- what is seen at a place is among all that is seen
 pub Contains-seen_at : {E K : Type 0} (see : E → K) (all : List E) (place : ℕ) (d : E) → place < length all

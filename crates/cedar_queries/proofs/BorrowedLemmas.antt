@@ -5,6 +5,7 @@ use Rattle.std.proofs.lemmas.Simd.{map-map}
 use Rattle.std.specs.List.Sorted.{IsSorted}
 use Rattle.std.specs.Map.Iter.{deref}
 use Rattle.std.specs.declared.cmp.Ordering.{Ordering}
+use Rattle.cedar_ast.proofs.Basics.{some_item}
 
 -- what a reference shows
 abbrev pub borrowed : {A B : Type 0} → (A → B) → Bor A → B
@@ -38,11 +39,6 @@ module _ {A B C : Type 0} (shows : A → B) (reads : C → B) (all : List B) (it
   pub borrowed_all : left ≡ [] → map (borrowed shows) items ≡ all
   borrowed_all none =
       sym (ap (λ others. map (borrowed shows) items ++ map reads others) none ∙ append-nil (map (borrowed shows) items)) ∙ so_far
-
--- an item of a list that reaches past a place
-some_item : {A : Type 0} (items : List A) (place : ℕ) → place < length items → A
-some_item [] place within = absurd (omega (arith, within))
-some_item (item ∷ items) place within = item
 
 module _ {A B : Type 0} (cmp : A → A → Ordering) (plain : B → B → Ordering) (shows : A → B)
     (same : (a b : A) → cmp a b ≡ plain (shows a) (shows b)) where

@@ -1,15 +1,15 @@
 -- What is known of the attributes of a union of clean types: what the least clean bound of open
 -- records has.
-use Rattle.std.proofs.Common.{◌≡◌, Bool, true, false, IsTrue, List, [], ◌∷◌, Option, None, Some, Ok, map, ap, refl, sym, ◌∙◌, inl, inr, Contains, arith}
+use Rattle.std.proofs.Common.{◌≡◌, Bool, true, false, IsTrue, List, [], ◌∷◌, Ok, map, refl, sym, ◌∙◌, inl, inr, Contains, arith}
 use Rattle.std.proofs.lemmas.Bool.{false≢true}
 use Rattle.std.specs.List.{AllByRecursion}
 use Rattle.cedar_ast.proofs.Lists.{Contains-cons, Contains-cons_cases}
 use Rattle.cedar_queries.proofs.JoinedLemmas.{known_formed, known_once}
 use Rattle.cedar_queries.specs.Words.{AreCleanTypes, AreExactlyKnown, AreKnownOfAll, AttributesAreUnique, Below, Fields, FieldsBelow, HasField, IsBound, IsClean, IsCleanBound, IsCommonBound, IsLeast, IsSortedByName, KnownAttributesAreCommon, LargerUnionsKnowLess, OpenAttributes, Permissive, PlainName, SchemaEntityType, Text, Ty, declared_fields, end, field, open_record, record_of, union_of}
+use Rattle.cedar_type_rules.proofs.AgreeLaws.{HasField-once}
 use Rattle.cedar_type_rules.proofs.OwnBoundLemmas.{AreClean-of}
 use Rattle.cedar_type_rules.proofs.ReduceLemmas.{reduce_least_clean}
 use Rattle.cedar_type_rules.proofs.SubtypeLaws.{HasBelow-of, HasField-name, HasField-named}
-use Rattle.cedar_type_rules.proofs.SubtypeLemmas.{found-HasField}
 
 -- what holds of all images of some items holds of each
 each_of : {A B : Type 0} (f : A → B) (P : B → Type 0) (xs : List A) → AllByRecursion P (map f xs) → (x : A) → Contains xs x → P (f x)
@@ -24,17 +24,6 @@ of_each : {A B : Type 0} (f : A → B) (P : B → Type 0) (xs : List A) → ((x 
 of_each f P [] each = tt
 of_each f P (y ∷ ys) each =
     (each y (Contains-cons y ys y (inl refl)), of_each f P ys (λ x among. each x (Contains-cons y ys x (inr among))))
-
--- one of the attributes of a record in the order of its names is the only one of its name
-only_field : (fields : Fields) (name : Text) (required other : Bool) (ty own : Ty) → IsSortedByName fields
-    → HasField fields name required ty → HasField fields name other own → (required ≡ other) × (ty ≡ own)
-only_field fields name required other ty own sorted_by_name has also =
-    let same = sym (found-HasField name fields required ty sorted_by_name has) ∙ found-HasField name fields other own sorted_by_name also in
-    (ap (λ it. (given it).0) same, ap (λ it. (given it).1) same)
-  where
-    given : Option (Bool × Ty) → Bool × Ty
-    given (Some it) = it
-    given None = (required, ty)
 
 module _ (types : List (PlainName × SchemaEntityType)) (members : List PlainName) (known : Fields)
     (clean : AreCleanTypes types members) (joined : AreKnownOfAll types members known) where
@@ -92,20 +81,20 @@ module _ (types : List (PlainName × SchemaEntityType)) (members : List PlainNam
       known_common name required ty has,
       λ bound common.
           let found = common_known name bound common in
-          let same = only_field known name required found.0 ty found.1 known_ascends has found.2 in
+          let same = HasField-once known name required found.0 ty found.1 known_ascends has found.2 in
           rw same.1 found.3,
     );
     required = λ name required ty has. (
       λ is member flag own among also.
           let below = HasBelow-of Permissive (declared_fields types member) known name required ty (member_below member among) has in
-          let same = only_field (declared_fields types member) name below.0 flag below.1 own (clean member among).1 below.2 also in
+          let same = HasField-once (declared_fields types member) name below.0 flag below.1 own (clean member among).1 below.2 also in
           rw same.0 at (below.3 is),
       λ all.
           let common = known_common name required ty has in
           let found = known_below name true ty common.1
           (λ member among. let own = common.0 member among in
           (own.0, own.1, own.2, (λ _. all member own.0 own.1 among own.2), own.3)) in
-          let same = only_field known name required found.0 ty found.1 known_ascends has found.2 in
+          let same = HasField-once known name required found.0 ty found.1 known_ascends has found.2 in
           rw same.0 (found.3 refl),
     );
   }

@@ -3,11 +3,11 @@ use Rattle.std.proofs.Common.{◌≡◌, List, Option, ◌++◌, not, map, ap, s
 use Rattle.std.proofs.lemmas.List.{map-append}
 use Rattle.std.proofs.lemmas.List.Elements.{Contains-append_left, Contains-append_right, Contains-append_cases}
 use Rattle.std.specs.List.{filter}
+use Rattle.cedar_ast.proofs.Basics.{Contains-image}
 use Rattle.cedar_ast.proofs.Lists.{Contains-preimage}
 use Rattle.cedar_fragments.proofs.DeclaredNames.{written_names_are_declared}
 use Rattle.cedar_resolution.proofs.TakenNames.{taken_same}
 use Rattle.cedar_resolution.specs.Words.{AllDefs, AreTheDeclaredNames, Bag, DeclaresJust, Expr, Extensions, Fault, HasAlso, HoldsJust, IsFault, IsShadowing, Names, NoActionShadows, NoTypeShadows, PlainName, PlainUid, Reference, ReferenceType, SameItems, Text, ValidatorSchemaFragment, action_shadowing, action_uids, alias_name, aliases, built_in_types, built_ins, declared_common, declared_names, declared_types, defined_names, held_names, free_aliases, names_given, type_names, type_shadowing, written_bag}
-use Rattle.cedar_schema_semantics.proofs.OccurrenceLemmas.{Contains-image}
 
 -- lists with the same items, after one another
 SameItems-append : {A : Type 0} (xs ys xs' ys' : List A) → SameItems xs ys → SameItems xs' ys'

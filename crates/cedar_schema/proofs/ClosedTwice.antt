@@ -1,7 +1,8 @@
 -- What closes the same schema is the same schema.
-use Rattle.std.proofs.Common.{List, refl, sym, subst, ◌∙◌}
-use Rattle.cedar_schema.specs.Words.{ActionKind, ClosesAction, ClosesSchema, ClosesType, HoldsPairwise, PlainName, PlainSchema, PlainUid, SameAction, SameActionKind, SameEntityType, SameSchema, SchemaAction, SchemaEntityType, defined_action, external_action}
+use Rattle.std.proofs.Common.{List, sym, subst, ◌∙◌}
+use Rattle.cedar_schema.specs.Words.{ActionKind, ClosesAction, ClosesSchema, ClosesType, HoldsPairwise, PlainName, PlainSchema, PlainUid, SameAction, SameActionKind, SameEntityType, SameSchema, SchemaAction, SchemaEntityType}
 use Rattle.cedar_schema_laws.proofs.SameEntities.{same_entities}
+use Rattle.cedar_schema_semantics.proofs.SameActions.{kind_itself}
 use Rattle.cedar_schema_semantics.proofs.TurnLemmas.{turn_back}
 use Rattle.cedar_validation.proofs.Pairwise.{pairwise_joined}
 
@@ -12,11 +13,6 @@ pairwise_apart : {A B C : Type 0} (R : A → B → Type 0) (S : A → C → Type
 pairwise_apart R S T step xs ys zs first second =
     pairwise_joined (λ y x. R x y) S T (λ y x z. step x y z) ys xs zs
     (turn_back R (λ y x. R x y) (λ x y is. is) xs ys first) second
-
--- a kind of actions is the same as itself
-pub kind_itself : (kind : ActionKind) → SameActionKind kind kind
-kind_itself (defined_action principals resources context) = ((λ item. (λ h. h, λ h. h)), (λ item. (λ h. h, λ h. h)), refl)
-kind_itself external_action = tt
 
 module _ (schema closed other : PlainSchema) (first : ClosesSchema schema closed) (second : ClosesSchema schema other) where
   -- the entity types are the same

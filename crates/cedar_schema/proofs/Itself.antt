@@ -1,7 +1,7 @@
 -- A schema is the same as itself, and its entries are copies of themselves.
 use Rattle.std.proofs.Common.{List, [], ◌∷◌, refl}
-use Rattle.cedar_schema.proofs.ClosedTwice.{kind_itself}
 use Rattle.cedar_schema.specs.Words.{ActionEntity, EntityType, EntityUID, HoldsPairwise, IsActionCopied, IsTypeCopied, PlainName, PlainSchema, PlainUid, SameAction, SameActionEntity, SameEntityType, SameItems, SameSchema, SchemaAction, SchemaEntityType, ValidatorActionId, ValidatorEntityType, plain_action_entry, plain_entry}
+use Rattle.cedar_schema_semantics.proofs.SameActions.{kind_itself}
 
 -- what holds of each item and itself holds pairwise of a list and itself
 pairwise_itself : {A : Type 0} (R : A → A → Type 0) → ((x : A) → R x x) → (xs : List A) → HoldsPairwise R xs xs

@@ -5,6 +5,7 @@ use Rattle.std.proofs.Math.Logic.{∥∥₁_elim}
 use Rattle.std.proofs.Props.{props}
 use Rattle.std.specs.List.Sorted.{IsStrictlySortedBy}
 use Rattle.std.specs.Map.{keys_of}
+use Rattle.cedar_ast.proofs.Basics.{Contains-image}
 use Rattle.cedar_ast.proofs.Lists.{Contains-cons, Contains-preimage}
 use Rattle.cedar_ast.proofs.Names.{entity_type_ord-name_cmp}
 use Rattle.cedar_ast.proofs.Ordered.{IsStrictlySortedBy-map}
@@ -14,7 +15,6 @@ use Rattle.cedar_ast.specs.contracts.entity_type.EntityTypeOrd.TheImpl as entity
 use Rattle.cedar_ast.specs.contracts.entity_uid.EntityUIDOrd.TheImpl as entity_uid_ord
 use Rattle.cedar_schema.specs.Words.{ActionEntity, AreActionEntities, ClosesAction, ClosesSchema, ClosesType, EntityType, EntityUID, HasNoReservedName, HoldsPairwise, IsInOrder, PlainName, PlainSchema, PlainUid, SameAction, SameEntityType, SchemaAction, SchemaEntityType, StandsUnderItsNames, ValidatorActionId, ValidatorEntityType, ValidatorSchema, action_of, entity_type_of, name_cmp, plain_action_entry, plain_entry, reserved_word, schema_listing, schema_of, schema_with, type_name, uid_cmp, uid_of}
 use Rattle.cedar_schema_elements.proofs.ListedEntities.{listed_are}
-use Rattle.cedar_schema_semantics.proofs.OccurrenceLemmas.{Contains-image}
 use Rattle.cedar_schema_semantics.proofs.TurnLemmas.{turn_forth}
 use Rattle.cedar_validation.proofs.Keyed.{key_of_uid, named_key, names_of_keys}
 use Rattle.cedar_validation.proofs.Pairwise.{pairwise_back}

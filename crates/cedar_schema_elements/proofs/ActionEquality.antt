@@ -15,7 +15,7 @@ use Rattle.cedar_schema_elements.proofs.SetLemmas.{reference-Decides, sets-Decid
 use Rattle.cedar_schema_elements.proofs.TypeSetLemmas.{type_sets-Decides}
 use Rattle.cedar_schema_elements.specs.ActionKind.{plain_kind}
 use Rattle.cedar_schema_elements.specs.ValidatorActionId.{parts_of}
-use Rattle.cedar_schema_elements.specs.Words.{ActionKind, ConditionalName, EntityType, SameActionKind, SameItems, ValidatorActionId, ValidatorActionKind, ValidatorApplySpec, action_of, conditional_reference, defined_action, external_action, principal_names, principal_references, resource_names, resource_references, type_name, uid_of}
+use Rattle.cedar_schema_elements.specs.Words.{ConditionalName, EntityType, SameActionKind, SameItems, ValidatorActionId, ValidatorActionKind, ValidatorApplySpec, action_of, conditional_reference, principal_names, principal_references, resource_names, resource_references, type_name, uid_of}
 use Rattle.cedar_schema_elements.specs.contracts.action_id.ValidatorActionIdPartialEq.TheImpl as action_eq
 use Rattle.cedar_schema_elements.specs.contracts.action_kind.ValidatorActionKindPartialEq.TheImpl as kind_eq
 use Rattle.cedar_schema_elements.specs.declared.action_kind.ValidatorActionKind.TheVariants as variant
@@ -38,11 +38,6 @@ pub reference_specs-Decides : (a b : ValidatorApplySpec ConditionalName)
 reference_specs-Decides a b =
     let same = sets-Decides (reference_eq.ghosts).eq conditional_reference reference_equal.Laws.laws-law reference-Decides in
     Decides-and _ _ (same a.principals b.principals) (same a.resources b.resources)
-
--- each kind is for the same requests as itself
-pub same_kind : (kind : ActionKind) → SameActionKind kind kind
-same_kind (defined_action principals resources context) = (λ it. (λ is. is, λ is. is), λ it. (λ is. is, λ is. is), refl)
-same_kind external_action = tt
 
 -- kinds of actions are equal exactly where they are for the same requests
 pub kinds-Decides : (a b : ValidatorActionKind)

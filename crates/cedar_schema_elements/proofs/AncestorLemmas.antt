@@ -11,10 +11,10 @@ use Rattle.std.specs.List.{list_any}
 use Rattle.std.specs.Map.{lookup}
 use Rattle.std.specs.declared.cmp.Ordering.{Ordering}
 use Rattle.std.specs.declared.cmp.Ordering.TheVariants.{Equal}
+use Rattle.cedar_ast.proofs.Basics.{Contains-image, Contains-single}
 use Rattle.cedar_ast.proofs.Lists.{Contains-cons, Contains-preimage, list_any-Contains}
 use Rattle.cedar_schema_elements.proofs.SetLemmas.{alike}
 use Rattle.cedar_schema_elements.specs.Ancestors.{HasNode, IsAncestor, ListsBelow, upper_set}
-use Rattle.cedar_schema_semantics.proofs.OccurrenceLemmas.{Contains-image, Contains-single}
 
 -- what sets have, by what their keys stand for
 module _ {K P : Type 0} (name : K → P) where

@@ -10,12 +10,13 @@ use Rattle.std.specs.List.Sorted.{IsStrictlySortedBy}
 use Rattle.std.specs.Ordering.{is_eq}
 use Rattle.std.specs.declared.alloc.Global.{Global}
 use Rattle.std.specs.declared.string.String.{String}
+use Rattle.cedar_ast.proofs.Basics.{Contains-image}
 use Rattle.cedar_ast.proofs.Lists.{Contains-cons, Contains-cons_cases, Contains-preimage}
 use Rattle.cedar_ast.proofs.PlainNames.{uid_cmp-total}
 use Rattle.cedar_schema_elements.proofs.AncestorLemmas.{node_more, node_plain}
 use Rattle.cedar_schema_elements.proofs.KeyLemmas.{cmp, under}
 use Rattle.cedar_schema_elements.specs.Words.{ActionEntity, ActionKind, AreActionEntities, Entities, Entity, EntityUID, HasNode, IsDefinedKind, IsEntityOf, IsEntityOfAction, IsAncestor, Lists, ListsBelow, PlainName, PlainUid, SchemaAction, SchemaEntityType, Twice, ValidatorActionId, Value, action_of, defined_action, entities_of, entity_at, entity_uid, entries_from, external_action, named_values, no_entry, plain_action_entity, plain_action_entry, schema_with, tree_of, uid_cmp, uid_of, upper_set, value_expr}
-use Rattle.cedar_schema_semantics.proofs.OccurrenceLemmas.{Contains-image, Twice-sorted_by_name, uid_test}
+use Rattle.cedar_schema_semantics.proofs.OccurrenceLemmas.{Twice-sorted_by_name, uid_test}
 
 abbrev Item : Type 0
 Item = EntityUID × ValidatorActionId

@@ -2,10 +2,11 @@
 use Rattle.std.proofs.Common.{◌≡◌, ◌≢◌, ◌↔◌, List, [], ◌∷◌, ◌++◌, map, ap, sym, subst, ◌∙◌, refl, Contains, AllPairs, arith, inl, inr}
 use Rattle.std.proofs.lemmas.List.{map-append, map-id}
 use Rattle.std.proofs.lemmas.List.Concat.{flat_map_single}
+use Rattle.cedar_ast.proofs.Basics.{Contains-image, Contains-single}
 use Rattle.cedar_ast.proofs.Lists.{Contains-preimage}
 use Rattle.cedar_schema_elements.proofs.GivenLemmas.{all_differ, all_once}
 use Rattle.cedar_schema_elements.specs.Words.{ActionKind, AreEnvironmentsOf, ActionEntity, EntityUID, Environment, IsRequestOf, PlainName, PlainUid, SchemaAction, SchemaEntityType, Twice, Ty, UnlinkedRequestEnv, ValidatorActionId, action_environments, defined_action, external_action, kind_environments, owned_environment, plain_action_entry, schema_with, with_principals, with_resources}
-use Rattle.cedar_schema_semantics.proofs.OccurrenceLemmas.{Contains-flat_map, Contains-given, Contains-image, Contains-single, Twice-distinct}
+use Rattle.cedar_schema_semantics.proofs.OccurrenceLemmas.{Contains-flat_map, Contains-given, Twice-distinct}
 
 -- an environment of these parts
 abbrev pub environment : PlainUid → Ty → PlainName → PlainName → Environment

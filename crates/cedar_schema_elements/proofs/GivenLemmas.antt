@@ -4,9 +4,10 @@ use Rattle.std.proofs.lemmas.Grind.{flat_map-append}
 use Rattle.std.proofs.lemmas.List.{append-nil, get_or_default, map-append, take_all, take_more}
 use Rattle.std.proofs.lemmas.List.Kept.{AllPairs-cons}
 use Rattle.std.specs.List.{flat_map}
+use Rattle.cedar_ast.proofs.Basics.{Contains-image}
 use Rattle.cedar_ast.proofs.Lists.{Contains-cons}
 use Rattle.cedar_ast.specs.Lists.{Twice}
-use Rattle.cedar_schema_semantics.proofs.OccurrenceLemmas.{Contains-flat_map, Contains-image, Twice-append, Twice-both}
+use Rattle.cedar_schema_semantics.proofs.OccurrenceLemmas.{Contains-flat_map, Twice-append, Twice-both}
 
 -- the items of a list in which none stands twice differ
 pub all_differ : {A : Type 0} (xs : List A) → ((x : A) → ¬ Twice xs x) → AllPairs (λ a b. a ≢ b) xs

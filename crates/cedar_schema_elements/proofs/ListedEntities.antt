@@ -7,12 +7,13 @@ use Rattle.std.specs.List.Sorted.{IsStrictlySortedBy}
 use Rattle.std.specs.Map.{keys_of}
 use Rattle.std.specs.Ordering.{is_eq}
 use Rattle.std.specs.declared.cmp.Ordering.TheVariants.{Less}
+use Rattle.cedar_ast.proofs.Basics.{Contains-image, Contains-single}
 use Rattle.cedar_ast.proofs.Ordered.{IsStrictlySortedBy-map}
 use Rattle.cedar_ast.proofs.Uids.{entity_uid_ord-uid_cmp}
 use Rattle.cedar_schema_elements.proofs.KeyLemmas.{cmp}
 use Rattle.cedar_schema_elements.specs.ActionEntities.{entity_if_defined, listed_ancestors}
 use Rattle.cedar_schema_elements.specs.Words.{ActionEntity, ActionKind, AreActionEntities, EntityUID, IsDefinedKind, IsEntityOfAction, PlainName, PlainUid, SchemaAction, SchemaEntityType, ValidatorActionId, defined_action, external_action, listed_entities, no_entry, plain_action_entry, schema_listing, uid_cmp, uid_of}
-use Rattle.cedar_schema_semantics.proofs.OccurrenceLemmas.{Contains-flat_map, Contains-given, Contains-image, Contains-single, any_of, some_of, uid_test}
+use Rattle.cedar_schema_semantics.proofs.OccurrenceLemmas.{Contains-flat_map, Contains-given, any_of, some_of, uid_test}
 
 -- an action whose descendants are tested gives its uid where one passes
 given_if : (b : Bool) (uid upper : PlainUid) → Contains (if b then uid ∷ [] else []) upper → (b ≡ true) × (uid ≡ upper)

@@ -2,12 +2,12 @@
 use Rattle.std.proofs.Common.{◌≡◌, ◌⊎◌, ◌↔◌, Bool, true, List, [], ◌∷◌, ◌++◌, map, cond, subst, ap, refl, inl, inr, arith, Contains}
 use Rattle.std.proofs.lemmas.List.Elements.{Contains-append_cases, Contains-append_left, Contains-append_right}
 use Rattle.std.specs.List.{list_any}
+use Rattle.cedar_ast.proofs.Basics.{Contains-image}
 use Rattle.cedar_ast.proofs.Lists.{Contains-cons, Contains-cons_cases, Contains-preimage}
 use Rattle.cedar_ast.specs.contracts.entity_type.EntityTypeEq.TheImpl as entity_type_equal
 use Rattle.cedar_ast.specs.contracts.entity_type.EntityTypePartialEq.TheImpl as entity_type_eq
 use Rattle.cedar_schema_elements.proofs.SetLemmas.{AnswersAlike-insert, SameItems-types}
 use Rattle.cedar_schema_elements.specs.Words.{ConditionalName, EntityType, IsDefined, IsNamedBy, IsReserved, Names, PlainName, Reference, ResolvesTo, conditional_reference, type_name}
-use Rattle.cedar_schema_semantics.proofs.OccurrenceLemmas.{Contains-image}
 use Rattle.cedar_schema_semantics.proofs.ResolutionLemmas.{IsFirst-same}
 
 -- what a reference resolves to is among some names, and isn't reserved

@@ -1,22 +1,12 @@
 -- The entities of actions of a declared schema are those of the actions that are defined.
-use Rattle.std.proofs.Common.{List, [], ◌∷◌, map, sym, subst, Contains, inl, inr}
+use Rattle.std.proofs.Common.{[], ◌∷◌, map, Contains}
+use Rattle.cedar_ast.proofs.Basics.{Contains-image}
 use Rattle.cedar_ast.proofs.Chains.{last_step}
 use Rattle.cedar_schema_laws.proofs.ValidLaws.{listed_action}
-use Rattle.cedar_schema_laws.specs.Words.{ActionEntitiesAreDeclared, ActionKind, ActionReference, ActionSays, Bag, DefinesAction, Extensions, HasParentAction, IsDeclaredActionKind, IsDeclaredSchema, IsDefinedKind, IsDescendantAction, IsFirst, ListsDescendantAction, NamesAction, PlainName, PlainSchema, PlainUid, Requests, action_uids, defined_action, defined_actions, definitions, elsewhere, external_action, requests}
-use Rattle.cedar_schema_semantics.proofs.OccurrenceLemmas.{Contains-image, Contains-entry}
+use Rattle.cedar_schema_laws.specs.Words.{ActionEntitiesAreDeclared, ActionKind, ActionSays, Bag, DefinesAction, Extensions, HasParentAction, IsDeclaredActionKind, IsDeclaredSchema, IsDefinedKind, IsDescendantAction, ListsDescendantAction, PlainSchema, PlainUid, Requests, action_uids, defined_action, defined_actions, definitions, elsewhere, external_action, requests}
+use Rattle.cedar_schema_semantics.proofs.NamedActions.{NamesAction-among}
+use Rattle.cedar_schema_semantics.proofs.OccurrenceLemmas.{Contains-entry}
 use Rattle.cedar_schema_semantics.proofs.TogetherLemmas.{defined_action_is_declared}
-
--- of the first item of which a fact holds it holds
-first_holds : {A : Type 0} (P : A → Type 0) (xs : List A) (x : A) → IsFirst P xs x → P x
-first_holds P [] x first = absurd first
-first_holds P (y ∷ rest) x first = elim first [ inl here ↦ rw here.0 at here.1 | inr later ↦ first_holds P rest x later.1 ]
-
--- an action that a reference names is one of those that it may name
-named_action : (actions : List PlainUid) (reference : ActionReference) (uid : PlainUid) → NamesAction actions reference uid
-    → Contains actions uid
-named_action actions reference uid names =
-    let Stands : PlainName → Type 0 = λ ty. Contains actions (record { ty = ty; eid = reference.id }) in
-    subst (Contains actions) (λ i. record { ty = uid.ty; eid = sym names.1 i }) (first_holds Stands reference.ty.possibilities uid.ty names.0)
 
 module _ (bag : Bag) (extensions : Extensions) (schema : PlainSchema) (declared : IsDeclaredSchema bag extensions schema) where
   -- a descendant of an action is listed
@@ -24,7 +14,7 @@ module _ (bag : Bag) (extensions : Extensions) (schema : PlainSchema) (declared 
   descendant_listed lower upper below =
       let step = (last_step (HasParentAction bag) lower upper below).1 in
       let it = Contains-entry schema.actions upper (declared.each_action upper
-      (named_action (action_uids bag) step.0 upper step.2)) in
+      (NamesAction-among (action_uids bag) step.0 upper step.2)) in
       (it.0, it.1, ((declared.actions (upper, it.0) it.1).descendants lower).1 below)
 
   -- an action that the schema defines the bag defines

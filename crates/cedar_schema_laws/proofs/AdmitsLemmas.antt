@@ -3,17 +3,13 @@ use Rattle.std.proofs.Common.{◌≡◌, Bool, false, [], ◌∷◌, Option, Som
 use Rattle.cedar_ast.proofs.Lists.{Contains-cons_cases}
 use Rattle.cedar_schema_laws.specs.Words.{Admits, AdmitsEach, AdmitsMembers, Defined, EachTree, ElaboratesTo, Entries, EntryFits, Expr, Extensions, Fields, Gives, Has, HasFieldsBy, IsDefined, Members, MembersElaborateTo, Text, Tree, Trees, Ty, admits_common, admits_entity, admits_extension, admits_first, admits_long, admits_missing, admits_no_member, admits_none, admits_record, admits_set, admits_text, admits_there, admits_truth, as_common, as_entity, as_extension, as_long, as_member, as_no_member, as_record, as_set, as_text, as_truth, call_value, entry_at, field_names, map_value, member, member_names, names_of, no_tree, number_value, set_value, text_value, tree, truth_value, uid_value}
 use Rattle.cedar_schema_semantics.proofs.ResolutionLemmas.{IsFirst-same, HasOneDefinition, same_definition}
+use Rattle.cedar_type_rules.proofs.SampleValues.{fits_some}
 
 -- what is elaborated keeps the names of a record's attributes
 same_names : (defined : Defined) {members : Members} {fields : Fields} → MembersElaborateTo defined members fields
     → field_names fields ≡ member_names members
 same_names defined as_no_member = refl
 same_names defined (as_member {name = name} first rest) = ap (λ names. name ∷ names) (same_names defined rest)
-
--- what holds of a found entry
-entry_of : (P : Tree → Type 0) (required : Bool) (found : Option Tree) (value : Tree) → found ≡ Some value → P value
-    → EntryFits P required found
-entry_of P required found value is holds = rw is holds
 
 -- an attribute may be missing that isn't required
 entry_missing : (P : Tree → Type 0) (found : Option Tree) → found ≡ None → EntryFits P false found
@@ -69,7 +65,7 @@ mutual
   members_have_admitted defined extensions one
       (admits_there {values = values} {name = name} {required = required} value there admitted rest)
       (as_member {ty = ty} first others) = (
-        entry_of (λ each. Has extensions each ty) required (entry_at name values) value there
+        fits_some (λ each. Has extensions each ty) required (entry_at name values) value there
             (has_admitted defined extensions one admitted first),
         members_have_admitted defined extensions one rest others,
       )

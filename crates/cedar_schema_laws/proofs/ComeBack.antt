@@ -1,12 +1,12 @@
 -- The schema that a bag declares meets what a schema has to that is converted back, so that it
 -- comes back.
 use Rattle.std.proofs.Common.{inl, inr}
+use Rattle.cedar_ast.proofs.Basics.{Contains-image}
 use Rattle.cedar_schema_laws.proofs.DeclaredKinds.{decide_record}
 use Rattle.cedar_schema_laws.proofs.FaultsConvertedBack.{converted_schemas_are_well_formed}
 use Rattle.cedar_schema_laws.proofs.SchemasConvertedBack.{converted_schemas_are_declared}
 use Rattle.cedar_schema_laws.proofs.ValidLaws.{declared_action_uid, declared_closed, declared_type, declared_valid}
 use Rattle.cedar_schema_laws.specs.Words.{ActionKind, ActionSays, Bag, DeclaredSchemasComeBack, Extensions, HasNoReservedName, HasRecordContexts, IsContextOf, IsDeclaredActionKind, IsDeclaredSchema, IsIllFormed, IsInOrder, IsRecordType, PlainSchema, PlainUid, PositionsFit, Requests, StandsUnderItsNames, Ty, TypeNamesFit, action_uids, context_not_record, defined_action, definitions, elsewhere, extension_types, requests, reserved_name}
-use Rattle.cedar_schema_semantics.proofs.OccurrenceLemmas.{Contains-image}
 
 module _ (bag : Bag) (extensions : Extensions) (schema : PlainSchema) (declared : IsDeclaredSchema bag extensions schema) where
   -- a declared schema is in order

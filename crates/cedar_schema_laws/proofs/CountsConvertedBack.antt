@@ -3,13 +3,14 @@ use Rattle.std.proofs.Common.{◌≡◌, ◌⊎◌, List, [], ◌∷◌, ◌++�
 use Rattle.std.proofs.lemmas.List.{map-append}
 use Rattle.std.proofs.lemmas.List.Sorted.{IsPermutation-sym}
 use Rattle.std.specs.List.{flat_map}
+use Rattle.cedar_ast.proofs.Basics.{Contains-image, Contains-single}
 use Rattle.cedar_ast.proofs.Lists.{Contains-cons, Contains-preimage}
 use Rattle.cedar_ast.proofs.PlainNames.{name_cmp-total, uid_cmp-total}
 use Rattle.cedar_schema_laws.proofs.EntriesConvertedBack.{no_common_type}
 use Rattle.cedar_schema_laws.proofs.OrderLaws.{order_is_nothing}
 use Rattle.cedar_schema_laws.specs.Words.{ActionBody, Bag, EntityBody, Expr, Extensions, HoldsPairwise, IsActionDeclaration, IsConvertedBack, IsInOrder, IsTypeDeclaration, PlainName, PlainSchema, PlainUid, Requests, SchemaAction, SchemaEntityType, Twice, TypeNamesFit, action_definition_in, action_in, built_ins, declared_actions, declared_common, declared_entities, declared_name, declared_uid, defined_actions, defined_entities, elsewhere, entity_in, extension_types, name_cmp, requests, uid_cmp}
 use Rattle.cedar_schema_semantics.proofs.BuiltInLemmas.{built_ins_once}
-use Rattle.cedar_schema_semantics.proofs.OccurrenceLemmas.{Contains-flat_map, Contains-image, Contains-single, Twice-append, Twice-sorted_by_name}
+use Rattle.cedar_schema_semantics.proofs.OccurrenceLemmas.{Contains-flat_map, Twice-append, Twice-sorted_by_name}
 use Rattle.cedar_schema_semantics.proofs.TogetherLemmas.{twice_declared}
 
 -- what stands twice stands in the list

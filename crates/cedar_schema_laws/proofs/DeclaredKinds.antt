@@ -2,11 +2,12 @@
 use Rattle.std.proofs.Common.{◌≡◌, [], Option, Some, None, map, inl, inr, refl, Contains}
 use Rattle.cedar_schema_laws.proofs.ElaboratedTypes.{counted_written}
 use Rattle.cedar_schema_laws.proofs.ReferenceDecisions.{list_named}
-use Rattle.cedar_schema_laws.proofs.TypeDecisions.{decide_names, decide_uids}
+use Rattle.cedar_schema_laws.proofs.TypeDecisions.{decide_uids}
 use Rattle.cedar_schema_laws.specs.Words.{ActionKind, ActionSays, AreDeclaredTags, Bag, ClosedAttributes, CountsInEntity, CountsInRequests, Defined, ElaboratesTo, EntityBody, EntitySays, EntityTypeKind, Expr, Extensions, Fields, IsCounted, IsDeclaredActionKind, IsDeclaredKind, IsIllFormed, IsNoRecord, IsRecordType, PlainName, PlainUid, Requests, Ty, action_uids, as_common, as_record, declared_entities, defined_action, defined_actions, defined_entities, definitions, elsewhere, enumerated, enumerated_kind, external, external_action, external_kind, names_of, record_of, requests, shape_not_record, standard, standard_kind}
 use Rattle.cedar_schema_semantics.proofs.DeclarationLemmas.{entity_declaration, action_declaration}
 use Rattle.cedar_schema_semantics.proofs.OccurrenceLemmas.{Contains-entry}
 use Rattle.cedar_schema_semantics.proofs.TogetherLemmas.{action_definition_declared, action_definition_says, definition_declared, definition_says}
+use Rattle.cedar_type_rules.proofs.AnsweredLemmas.{decide_names}
 use Rattle.cedar_type_rules.proofs.Decisions.{IsDecided, decide_among}
 
 -- a record type that an expression is elaborated as is closed

@@ -1,13 +1,14 @@
 -- Expressions that count in a bag which isn't ill-formed are elaborated.
 use Rattle.std.proofs.Common.{[], ◌∷◌, map, inl, inr, refl, Contains}
+use Rattle.cedar_ast.proofs.Basics.{Contains-image, Contains-single}
 use Rattle.cedar_schema_laws.proofs.ChainInduction.{by_steps}
 use Rattle.cedar_schema_laws.proofs.ReferenceDecisions.{decide_may_common, resolves_or_not}
-use Rattle.cedar_schema_laws.proofs.TypeDecisions.{decide_names}
 use Rattle.cedar_schema_laws.specs.Words.{AnyBool, Bag, ClosedAttributes, Defined, ElaboratesTo, Expr, Extensions, Fields, HasToResolve, IsCommon, IsCounted, IsIllFormed, Members, MembersElaborateTo, MembersRefer, PlainName, Reference, Refers, RefersToCommon, ResolvesTo, Ty, as_common, as_entity, as_extension, as_long, as_member, as_no_member, as_record, as_set, as_text, as_truth, common_type_cycle, defined_names, definitions, end, extension_expr, extension_of, field, long, long_expr, member, named, names_of, no_member, record_expr, record_of, set_expr, set_of, text, text_expr, truth, truth_expr, type_not_defined, union_of}
 use Rattle.cedar_schema_semantics.proofs.BuiltInLemmas.{refers_declared}
 use Rattle.cedar_schema_semantics.proofs.DeclarationLemmas.{common_declaration}
-use Rattle.cedar_schema_semantics.proofs.OccurrenceLemmas.{Contains-image, Contains-single, Contains-entry}
+use Rattle.cedar_schema_semantics.proofs.OccurrenceLemmas.{Contains-entry}
 use Rattle.cedar_schema_semantics.proofs.ResolutionLemmas.{first_defined}
+use Rattle.cedar_type_rules.proofs.AnsweredLemmas.{decide_names}
 use Rattle.cedar_type_rules.proofs.Decisions.{decide_among, decide_both}
 
 -- some type is what the expression is elaborated as

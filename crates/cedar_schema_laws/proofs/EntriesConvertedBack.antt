@@ -1,10 +1,10 @@
 -- What the bag of a schema that is converted back declares, entry by entry.
 use Rattle.std.proofs.Common.{◌≡◌, ◌↔◌, false, Option, map, ap, sym, subst, ◌∙◌, refl, Contains, inl, inr}
+use Rattle.cedar_ast.proofs.Basics.{Contains-image}
 use Rattle.cedar_ast.proofs.Lists.{Contains-preimage}
 use Rattle.cedar_schema_laws.proofs.NamesConvertedBack.{action_there, from_schema, type_there}
 use Rattle.cedar_schema_laws.specs.Words.{ActionBody, AreFullUids, AreRequestsWritten, Bag, Declaration, EntityBody, Expr, HasAction, HasEntityType, IsActionDeclaration, IsConvertedBack, IsKindWritten, IsPathOf, IsTypeDeclaration, ListsDescendant, ListsDescendantAction, PlainName, PlainSchema, PlainUid, SchemaAction, SchemaEntityType, action, action_uids, declared_actions, declared_common, declared_entities, entity_type}
 use Rattle.cedar_schema_semantics.proofs.DeclarationLemmas.{action_declaration, common_declaration, declares_action, declares_entity, entity_declaration}
-use Rattle.cedar_schema_semantics.proofs.OccurrenceLemmas.{Contains-image}
 
 -- what is declared of an entity type is that of the one, in the namespace of its name
 pub record IsTypeWritten (schema : PlainSchema) (it : PlainName × SchemaEntityType) (body : EntityBody) : Type 0 where

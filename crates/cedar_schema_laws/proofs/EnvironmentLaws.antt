@@ -1,8 +1,9 @@
 -- The environments of a declared schema are the declared ones.
 use Rattle.std.proofs.Common.{Contains}
+use Rattle.cedar_ast.proofs.Basics.{Contains-image}
 use Rattle.cedar_schema_laws.specs.Words.{ActionKind, ActionSays, Bag, Defined, Environment, Extensions, IsDeclaredActionKind, IsDeclaredEnvironment, IsDeclaredRequest, IsDeclaredSchema, IsEnvironmentOf, IsIllFormed, IsRequestOf, PlainSchema, PlainUid, Requests, TypeNamesFit, defined_action, defined_actions, definitions, duplicate_action, duplicate_common_type, elsewhere, extension_types, requests}
 use Rattle.cedar_schema_semantics.proofs.BuiltInLemmas.{one_definition}
-use Rattle.cedar_schema_semantics.proofs.OccurrenceLemmas.{Contains-image, Contains-entry}
+use Rattle.cedar_schema_semantics.proofs.OccurrenceLemmas.{Contains-entry}
 use Rattle.cedar_schema_semantics.proofs.ResolutionLemmas.{HasOneDefinition, elaborated_once}
 use Rattle.cedar_schema_semantics.proofs.TogetherLemmas.{defined_action_is_declared, action_definition_says, action_says_once}
 

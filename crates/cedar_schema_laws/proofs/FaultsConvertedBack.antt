@@ -2,6 +2,7 @@
 use Rattle.std.proofs.Common.{◌≡◌, ◌⊎◌, List, [], Option, map, sym, ◌∙◌, refl, inl, inr, Contains}
 use Rattle.std.proofs.lemmas.Bool.{false≢true}
 use Rattle.std.proofs.lemmas.List.Elements.{Contains-append_cases}
+use Rattle.cedar_ast.proofs.Basics.{Contains-image}
 use Rattle.cedar_ast.proofs.Chains.{first_step}
 use Rattle.cedar_ast.proofs.Lists.{Contains-preimage}
 use Rattle.cedar_schema_laws.proofs.CountsConvertedBack.{actions_once, common_types_once, types_once}
@@ -10,12 +11,12 @@ use Rattle.cedar_schema_laws.proofs.ExpressionsConvertedBack.{counted_of, placed
 use Rattle.cedar_schema_laws.proofs.KindsConvertedBack.{action_kind_declared, kind_declared, written_in_schema}
 use Rattle.cedar_schema_laws.proofs.NamesConvertedBack.{stands_for_itself}
 use Rattle.cedar_schema_laws.proofs.ParentsConvertedBack.{parent_lists, same_action_descendants, same_descendants, type_again, upper_action_there}
+use Rattle.cedar_schema_laws.proofs.ResolutionLaws.{some_first}
 use Rattle.cedar_schema_laws.proofs.SchemasConvertedBack.{external_written}
-use Rattle.cedar_schema_laws.proofs.ValidLaws.{some_first}
 use Rattle.cedar_schema_laws.specs.Words.{ActionKind, Bag, ClosedAttributes, ConvertedSchemasAreWellFormed, Defined, ElaboratesTo, Entity, EntityBody, EntityTypeKind, Expr, Extensions, Fault, HasAttributes, HasEntityType, HasNoReservedName, HasRecordContexts, HasToResolve, HasUnknownParent, IsActionType, IsAtEntityTypePosition, IsContextOf, IsConvertedBack, IsCounted, IsDeclaredActionKind, IsDeclaredKind, IsDefined, IsEnumerated, IsExternal, IsExternalType, IsFault, IsInOrder, IsKindWritten, IsNoRecord, IsOfKind, IsRecordType, IsUnqualified, IsUnresolved, IsValidSchema, IsWritable, ListsDescendant, MentionsExtension, PlainName, PlainSchema, PlainUid, Reference, RefersToCommon, ResolvesTo, Text, Ty, TypeNamesFit, action_attributes, action_cycle, action_entity_type, action_not_defined, action_shadowing, action_uids, common_type_cycle, context_not_record, declared_common, declared_entities, declared_types, defined_action, defined_actions, defined_names, definitions, duplicate_action, duplicate_common_type, duplicate_entity_type, enumerated, enumerated_below, enumerated_kind, extension_types, external, external_action, external_below_enumerated, full_name, one, open_record, record_of, requests, reserved_name, reserved_word, shape_not_record, standard, standard_kind, type_not_defined, type_shadowing, undeclared_entity_types, unknown_extension_type}
 use Rattle.cedar_schema_semantics.proofs.BuiltInLemmas.{one_definition, refers_declared}
 use Rattle.cedar_schema_semantics.proofs.DeclarationLemmas.{declares_action}
-use Rattle.cedar_schema_semantics.proofs.OccurrenceLemmas.{Contains-image, Contains-entry}
+use Rattle.cedar_schema_semantics.proofs.OccurrenceLemmas.{Contains-entry}
 use Rattle.cedar_schema_semantics.proofs.ResolutionLemmas.{HasOneDefinition, IsFirst-same, first_defined, elaborated_once}
 use Rattle.cedar_schema_semantics.proofs.TogetherLemmas.{action_definition_declared, declared_definition, definition_or_external}
 

@@ -2,15 +2,15 @@
 -- is in the schema.
 use Rattle.std.proofs.Common.{◌≡◌, ◌↔◌, List, [], ◌∷◌, Option, Some, None, map, refl, inl, inr, Contains}
 use Rattle.std.proofs.lemmas.List.Elements.{Contains-append_left, Contains-append_right}
+use Rattle.cedar_ast.proofs.Basics.{Contains-image, Contains-single}
 use Rattle.cedar_ast.proofs.Lists.{Contains-preimage}
 use Rattle.cedar_schema_laws.proofs.EntriesConvertedBack.{IsActionWritten, IsTypeWritten}
 use Rattle.cedar_schema_laws.proofs.NamesConvertedBack.{named_again}
 use Rattle.cedar_schema_laws.proofs.ParentsConvertedBack.{type_again}
-use Rattle.cedar_schema_laws.proofs.TypeDecisions.{decide_names}
 use Rattle.cedar_schema_laws.proofs.TypesConvertedBack.{type_back}
 use Rattle.cedar_schema_laws.specs.Words.{ActionBody, ActionKind, AreDeclaredTags, AreFullNames, AreRequestsWritten, AreTagsWritten, Bag, ClosedAttributes, Defined, ElaboratesTo, Entity, EntityBody, EntityTypeKind, Expr, Extensions, HasEntityType, IsContextOf, IsConvertedBack, IsDeclaredActionKind, IsDeclaredKind, IsDefined, IsKindWritten, IsKnownType, IsNamedAgain, IsNamedBy, IsPrincipalOrResourceOf, IsTypeIn, IsTypeOfKind, IsTypeWrittenIn, IsUnknownType, IsValidSchema, IsWritable, ListsDescendant, MentionsEntity, OpenAttributes, PlainName, PlainSchema, PlainUid, Reference, Requests, SchemaAction, SchemaEntityType, Ty, defined_action, definitions, elsewhere, enumerated, enumerated_kind, external, external_action, external_kind, full_name, names_of, record_of, requests, schema_names, standard, standard_kind, type_written, undeclared_entity_types}
-use Rattle.cedar_schema_semantics.proofs.OccurrenceLemmas.{Contains-image, Contains-single}
 use Rattle.cedar_schema_semantics.proofs.ResolutionLemmas.{IsFirst-same}
+use Rattle.cedar_type_rules.proofs.AnsweredLemmas.{decide_names}
 use Rattle.cedar_type_rules.proofs.Decisions.{decide_among}
 
 module _ (schema : PlainSchema) (extensions : Extensions) (valid : IsValidSchema extensions schema) where

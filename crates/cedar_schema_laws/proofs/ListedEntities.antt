@@ -1,11 +1,11 @@
 -- The entities of the actions of a schema are listed.
 use Rattle.std.proofs.Common.{◌≡◌, List, [], ◌∷◌, map, inl, inr, refl, Contains}
+use Rattle.cedar_ast.proofs.Basics.{Contains-image}
 use Rattle.cedar_ast.proofs.Lists.{Contains-preimage}
 use Rattle.cedar_ast.proofs.PlainNames.{uid_cmp-Equal, uid_cmp-total}
 use Rattle.cedar_schema_laws.proofs.ListDecisions.{Listed, decide_stands, in_order, list_all}
 use Rattle.cedar_schema_laws.proofs.TypeDecisions.{decide_uids}
 use Rattle.cedar_schema_laws.specs.Words.{ActionEntity, ActionKind, AreActionEntities, DefinesAction, IsDefinedKind, ListsDescendantAction, PlainSchema, PlainUid, SchemaAction, defined_action, external_action, no_entry, uid_cmp}
-use Rattle.cedar_schema_semantics.proofs.OccurrenceLemmas.{Contains-image}
 use Rattle.cedar_type_rules.proofs.Decisions.{IsDecided, decide_among}
 
 -- a kind is defined or external

@@ -4,8 +4,9 @@ use Rattle.std.proofs.Math.Logic.{∥∥₁_map, ∥∥₁_elim}
 use Rattle.std.proofs.Props.{props}
 use Rattle.std.proofs.lemmas.Grind.{not_there}
 use Rattle.cedar_schema_laws.proofs.ListDecisions.{decide_stands}
-use Rattle.cedar_schema_laws.proofs.TypeDecisions.{decide_like, decide_names, decide_types, decide_uids}
+use Rattle.cedar_schema_laws.proofs.TypeDecisions.{decide_like, decide_types, decide_uids}
 use Rattle.cedar_schema_laws.specs.Words.{ActionKind, AreEnvironmentsOf, Environment, IsRequestOf, PlainSchema, defined_action, external_action}
+use Rattle.cedar_type_rules.proofs.AnsweredLemmas.{decide_names}
 use Rattle.cedar_type_rules.proofs.Decisions.{IsDecided, decide_among, decide_both}
 
 -- a fact that is decided is known where it is merely known

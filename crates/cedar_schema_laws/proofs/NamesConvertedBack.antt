@@ -3,11 +3,11 @@
 use Rattle.std.proofs.Common.{◌⊎◌, ◌↔◌, ◌++◌, List, [], ◌∷◌, Option, None, Some, map, ap, sym, subst, ◌∙◌, refl, inl, inr, arith, Contains}
 use Rattle.std.proofs.lemmas.List.Elements.{Contains-append_cases, Contains-append_left, Contains-append_right}
 use Rattle.std.proofs.lemmas.List.Sorted.{Contains-permutation, IsPermutation-sym}
+use Rattle.cedar_ast.proofs.Basics.{Contains-image}
 use Rattle.cedar_ast.proofs.Lists.{Contains-preimage}
 use Rattle.cedar_schema_laws.proofs.ReferenceDecisions.{resolves_or_not}
 use Rattle.cedar_schema_laws.specs.Words.{ActionBody, Bag, ConvertedNamesAreNamedAgain, Declaration, Entity, EntityBody, Extensions, IsActionDeclaration, IsConvertedBack, IsDefined, IsNamedAgain, IsTypeDeclaration, NamesNoOther, PlainName, PlainSchema, PlainUid, SchemaAction, SchemaEntityType, Text, action_uids, declared_actions, declared_entities, declared_uid, defined_names, definitions, full_name, names_within, possible_names, schema_names}
 use Rattle.cedar_schema_semantics.proofs.DeclarationLemmas.{action_declaration, declares_action, declares_entity, entity_declaration}
-use Rattle.cedar_schema_semantics.proofs.OccurrenceLemmas.{Contains-image}
 use Rattle.cedar_schema_semantics.proofs.ResolutionLemmas.{IsFirst-like}
 use Rattle.cedar_schema_semantics.proofs.TurnLemmas.{turn_back, turn_forth}
 

@@ -5,10 +5,11 @@ use Rattle.std.specs.Bool.{Decides}
 use Rattle.std.specs.List.{flat_map}
 use Rattle.std.specs.List.Sorted.{IsPermutation}
 use Rattle.std.specs.Ordering.{is_eq}
+use Rattle.cedar_ast.proofs.Basics.{Contains-image}
 use Rattle.cedar_ast.proofs.Lists.{Contains-preimage}
 use Rattle.cedar_schema_laws.proofs.CountLemmas.{hits, hits_of_twice, twice_of_hits, hits-flat_map}
 use Rattle.cedar_schema_laws.specs.Words.{ActionBody, Bag, Declaration, EntityBody, Expr, OrderIsNothing, PlainName, PlainUid, Requests, SaysAll, Twice, action_definition_in, action_in, common_in, declared_actions, declared_entities, declared_name, declared_uid, defined_actions, defined_entities, entity_definition_in, entity_in, name_cmp, uid_cmp}
-use Rattle.cedar_schema_semantics.proofs.OccurrenceLemmas.{Contains-flat_map, Contains-given, Contains-image, name_test, uid_test}
+use Rattle.cedar_schema_semantics.proofs.OccurrenceLemmas.{Contains-flat_map, Contains-given, name_test, uid_test}
 use Rattle.cedar_schema_semantics.proofs.TogetherLemmas.{SameEntityBody-itself, SameRequests-itself}
 
 -- what the items of a list give in turn, those of what another gives give

@@ -2,13 +2,14 @@
 -- descendants.
 use Rattle.std.proofs.Common.{◌≡◌, ◌↔◌, Option, map, ap, sym, refl, inl, inr, arith, Contains}
 use Rattle.std.proofs.lemmas.List.Elements.{Contains-append_left}
+use Rattle.cedar_ast.proofs.Basics.{Contains-image}
 use Rattle.cedar_ast.proofs.Chains.{refined}
 use Rattle.cedar_schema_laws.proofs.EntriesConvertedBack.{action_declared, declared_action_from, declared_type_from, same_uids, type_declared}
 use Rattle.cedar_schema_laws.proofs.ListDecisions.{find_first}
 use Rattle.cedar_schema_laws.proofs.NamesConvertedBack.{named_again, stands_for_itself}
 use Rattle.cedar_schema_laws.proofs.TypeDecisions.{decide_uids}
 use Rattle.cedar_schema_laws.specs.Words.{Bag, Chain, Entity, EntityBody, EntityTypeKind, Extensions, HasAction, HasEntityType, HasParent, HasParentAction, IsConvertedBack, IsDefined, IsDescendant, IsDescendantAction, IsEnumerated, IsKindWritten, IsNameWrittenIn, IsNamedAgain, IsUidWrittenIn, IsWritable, ListsDescendant, ListsDescendantAction, NamesAction, PlainName, PlainSchema, PlainUid, Reference, SchemaAction, SchemaEntityType, action_uids, defined_names, definitions, entity_parents, enumerated, enumerated_kind, external, external_kind, full_name, full_uid, one, standard, standard_kind}
-use Rattle.cedar_schema_semantics.proofs.OccurrenceLemmas.{Contains-image, Contains-entry}
+use Rattle.cedar_schema_semantics.proofs.OccurrenceLemmas.{Contains-entry}
 use Rattle.cedar_schema_semantics.proofs.ResolutionLemmas.{IsFirst-like, IsFirst-same}
 use Rattle.cedar_type_rules.proofs.Decisions.{decide_among}
 

@@ -1,13 +1,15 @@
 -- What references resolve to is decided, and so is which entity types and actions are below which.
 use Rattle.std.proofs.Common.{◌⊎◌, ◌++◌, List, inl, inr, map, Contains}
 use Rattle.std.proofs.lemmas.List.Elements.{Contains-append_left, Contains-append_right}
+use Rattle.cedar_ast.proofs.Basics.{Contains-image}
 use Rattle.cedar_schema_laws.proofs.ChainDecisions.{list_below}
 use Rattle.cedar_schema_laws.proofs.ListDecisions.{Listed, decide_either, decide_first, decide_some, decide_stands, find_first, list_all}
-use Rattle.cedar_schema_laws.proofs.TypeDecisions.{decide_like, decide_names, decide_texts, decide_uids}
+use Rattle.cedar_schema_laws.proofs.TypeDecisions.{decide_like, decide_uids}
 use Rattle.cedar_schema_laws.specs.Words.{ActionBody, ActionReference, Bag, Common, CommonOrEntity, Entity, EntityBody, Extensions, HasParent, HasParentAction, IsDefined, IsDescendant, IsDescendantAction, IsNamedBy, IsUnresolved, MayNameCommon, MayNameEntity, Names, NamesAction, PlainName, PlainUid, Reference, ReferenceType, ResolvesTo, action_uids, declared_actions, declared_entities, defined_names, entity_parents}
-use Rattle.cedar_schema_semantics.proofs.OccurrenceLemmas.{Contains-image}
 use Rattle.cedar_schema_semantics.proofs.ResolutionLemmas.{first_defined}
+use Rattle.cedar_type_rules.proofs.AnsweredLemmas.{decide_names}
 use Rattle.cedar_type_rules.proofs.Decisions.{IsDecided, decide_among, decide_both}
+use Rattle.cedar_type_rules.proofs.RecordAnswers.{decide_texts}
 
 -- a reference of the kind may name common types or not
 pub decide_may_common : (kind : ReferenceType) → IsDecided (MayNameCommon kind)

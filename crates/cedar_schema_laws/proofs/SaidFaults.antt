@@ -1,6 +1,7 @@
 -- Where each of two bags says all that the other does, they are ill-formed both or neither.
 use Rattle.std.proofs.Common.{◌≡◌, List, ◌++◌, Option, map, ap, sym, ◌∙◌, refl, inl, inr, Contains}
 use Rattle.std.proofs.lemmas.List.{map-append}
+use Rattle.cedar_ast.proofs.Basics.{Contains-image}
 use Rattle.cedar_ast.proofs.Chains.{refined}
 use Rattle.cedar_ast.proofs.Lists.{Contains-preimage}
 use Rattle.cedar_schema_laws.proofs.EnumeratedLemmas.{enumerated_parent}
@@ -8,7 +9,7 @@ use Rattle.cedar_schema_laws.proofs.SaidLemmas.{common_name_said, type_said, act
 use Rattle.cedar_schema_laws.specs.Words.{ActionBody, ActionReference, Bag, Body, CountsIn, CountsInEntity, CountsInRequests, EntityBody, Expr, Extensions, Fault, HasParent, HasParentAction, HasToResolve, HasUnknownParent, IsAtEntityTypePosition, IsCounted, IsDescendant, IsDescendantAction, IsEntityTypePosition, IsExternalType, IsFault, IsIllFormed, IsPrincipalOrResource, NamesAction, PlainName, PlainUid, Reference, RefersToCommon, Requests, ResolvesTo, SameEntityBody, SameRequests, SaysAll, Text, Twice, action, action_attributes, action_cycle, action_entity_type, action_not_defined, action_shadowing, action_uids, built_ins, common_type, common_type_cycle, context_not_record, declared_actions, declared_common, declared_entities, declared_name, declared_uid, defined_actions, defined_entities, defined_names, definitions, duplicate_action, duplicate_common_type, duplicate_entity_type, elsewhere, entity_type, enumerated, enumerated_below, external, external_below_enumerated, one, open_record, requests, reserved_name, shape_not_record, standard, type_not_defined, type_shadowing, undeclared_entity_types, unknown_extension_type}
 use Rattle.cedar_schema_semantics.proofs.DeclarationLemmas.{entity_declaration, action_declaration, common_declaration, declares_entity, declares_action, declares_common}
 use Rattle.cedar_schema_semantics.proofs.DefinedLemmas.{resolves_there, unresolved_there, no_record_there}
-use Rattle.cedar_schema_semantics.proofs.OccurrenceLemmas.{Contains-image, Twice-append, Twice-left, Twice-right, Twice-both, Contains-entry}
+use Rattle.cedar_schema_semantics.proofs.OccurrenceLemmas.{Twice-append, Twice-left, Twice-right, Twice-both, Contains-entry}
 use Rattle.cedar_schema_semantics.proofs.ResolutionLemmas.{IsFirst-like}
 use Rattle.cedar_schema_semantics.proofs.TogetherLemmas.{IsDefinition, AreRequests, entity_counted, requests_counted, request_placed, definition_declared, declared_definition, action_definition_declared, declared_action_definition}
 

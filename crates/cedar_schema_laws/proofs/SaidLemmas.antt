@@ -2,10 +2,11 @@
 use Rattle.std.proofs.Common.{◌≡◌, Bool, true, false, not, ◌++◌, map, ap, sym, refl, Contains, inl, inr}
 use Rattle.std.proofs.lemmas.List.Elements.{Contains-append_left, Contains-append_right, Contains-append_cases, filter_agree}
 use Rattle.std.specs.Ordering.{is_eq}
+use Rattle.cedar_ast.proofs.Basics.{Contains-image}
 use Rattle.cedar_ast.proofs.Lists.{Contains-preimage}
 use Rattle.cedar_schema_laws.specs.Words.{Bag, Expr, Extensions, PlainName, PlainUid, SaysAll, Text, action_uids, alias_name, aliases, built_in_types, built_ins, declared_common, declared_entities, declared_types, definitions, is_declared_here, name_cmp}
 use Rattle.cedar_schema_semantics.proofs.DefinedLemmas.{SameDefined}
-use Rattle.cedar_schema_semantics.proofs.OccurrenceLemmas.{Contains-image, any_of, some_of}
+use Rattle.cedar_schema_semantics.proofs.OccurrenceLemmas.{any_of, some_of}
 
 module _ (bag other : Bag) (said : SaysAll bag other) where
   -- the name of a common type that the one declares the other does

@@ -1,10 +1,10 @@
 -- Bags that are the same are ill-formed both or neither, and declare the same schemas.
+use Rattle.cedar_ast.proofs.Basics.{Contains-image}
 use Rattle.cedar_ast.proofs.Lists.{Contains-preimage}
 use Rattle.cedar_schema_laws.proofs.KindLemmas.{kind_there, action_kind_there}
 use Rattle.cedar_schema_laws.proofs.SaidFaults.{descendant_said, descendant_action_said, external_said, fault_said}
 use Rattle.cedar_schema_laws.proofs.SaidLemmas.{same_defined}
 use Rattle.cedar_schema_laws.specs.Words.{ActionSays, Bag, EntityBody, EntitySays, Extensions, IsDeclaredAction, IsDeclaredEntityType, IsDeclaredSchema, IsExternalAction, PlainName, PlainSchema, PlainUid, Requests, SameBagsDeclareTheSame, SameEntityBody, SameRequests, SaysAll, SchemaAction, SchemaEntityType, defined_actions, definitions, elsewhere, enumerated, external, requests, standard}
-use Rattle.cedar_schema_semantics.proofs.OccurrenceLemmas.{Contains-image}
 use Rattle.cedar_schema_semantics.proofs.TogetherLemmas.{definition_says, action_definition_says}
 
 module _ (bag other : Bag) (said : SaysAll bag other) (back : SaysAll other bag) where

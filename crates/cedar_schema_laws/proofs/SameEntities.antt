@@ -2,33 +2,10 @@
 use Rattle.std.proofs.Common.{◌≡◌, subst, sym, ◌∙◌, map, Contains}
 use Rattle.cedar_ast.proofs.PlainNames.{uid_cmp-total}
 use Rattle.cedar_schema_laws.proofs.SchemaLaws.{keys_included, same_pairwise, same_items}
-use Rattle.cedar_schema_laws.specs.Words.{ActionEntity, ActionKind, AreActionEntities, DefinesAction, HoldsPairwise, IsDefinedKind, IsEntityOfAction, ListsDescendantAction, PlainSchema, PlainUid, SameAction, SameActionEntity, SameActionKind, SchemaAction, defined_action, external_action, uid_cmp}
+use Rattle.cedar_schema_laws.specs.Words.{ActionEntity, AreActionEntities, DefinesAction, HoldsPairwise, IsEntityOfAction, ListsDescendantAction, PlainSchema, PlainUid, SameAction, SameActionEntity, uid_cmp}
+use Rattle.cedar_schema_semantics.proofs.SameActions.{action_back, defined_like}
 use Rattle.cedar_schema_semantics.proofs.TurnLemmas.{turn_forth, turn_back}
 use Rattle.cedar_type_rules.proofs.AntisymmetryLaws.{Included-same}
-
--- a kind for the same requests as a defined one is defined
-defined_like : (kind other : ActionKind) → SameActionKind kind other → IsDefinedKind kind → IsDefinedKind other
-defined_like (defined_action principals resources context) (defined_action others other_resources other_context) same is = tt
-defined_like _ _ same is = absurd assumption
-
--- the same kinds the other way round
-kind_back : (kind other : ActionKind) → SameActionKind kind other → SameActionKind other kind
-kind_back (defined_action principals resources context) (defined_action others other_resources other_context) same = (
-  λ name. ((same.0 name).1, (same.0 name).0),
-  λ name. ((same.1 name).1, (same.1 name).0),
-  sym same.2,
-)
-kind_back external_action external_action same = tt
-kind_back _ _ same = absurd same
-
--- the same actions the other way round
-action_back : (it other : PlainUid × SchemaAction) → SameAction it other → SameAction other it
-action_back it other same = record {
-  key = sym same.key;
-  uid = sym same.uid;
-  kind = kind_back it.1.kind other.1.kind same.kind;
-  descendants = λ uid. ((same.descendants uid).1, (same.descendants uid).0);
-}
 
 -- where the actions of the one schema are those of the other in turn
 module _ (schema other : PlainSchema) (same : HoldsPairwise SameAction schema.actions other.actions) where

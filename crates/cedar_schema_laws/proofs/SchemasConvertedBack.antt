@@ -1,11 +1,12 @@
 -- The bag of a valid schema that is converted back declares the schema with its descendants closed.
 use Rattle.std.proofs.Common.{◌≡◌, List, [], ◌∷◌, Option, map, sym, ◌∙◌, refl, Contains, inl, inr}
+use Rattle.cedar_ast.proofs.Basics.{Contains-image}
 use Rattle.cedar_ast.proofs.PlainNames.{name_cmp-total, uid_cmp-total}
 use Rattle.cedar_schema_laws.proofs.EntriesConvertedBack.{IsActionWritten, IsTypeWritten, action_declared, declared_action_from, declared_type_from, same_types, same_uids, type_declared}
 use Rattle.cedar_schema_laws.proofs.KindsConvertedBack.{action_kind_declared, kind_declared}
 use Rattle.cedar_schema_laws.proofs.ParentsConvertedBack.{same_action_descendants, same_descendants}
 use Rattle.cedar_schema_laws.specs.Words.{ActionBody, ActionKind, ActionSays, AreRequestsWritten, Bag, ClosesAction, ClosesType, ConvertedDescendantsAreReached, ConvertedSchemasAreDeclared, EntityBody, EntitySays, EntityTypeKind, Extensions, HoldsPairwise, IsConvertedBack, IsDeclaredAction, IsDeclaredEntityType, IsExternal, IsInOrder, IsKindWritten, IsValidSchema, IsWritable, ListsDescendant, PlainName, PlainSchema, PlainUid, Requests, SchemaAction, SchemaEntityType, declared_actions, declared_entities, defined_action, defined_actions, defined_entities, elsewhere, enumerated, enumerated_kind, external, external_action, external_kind, name_cmp, requests, standard, standard_kind, uid_cmp}
-use Rattle.cedar_schema_semantics.proofs.OccurrenceLemmas.{Contains-image, Twice-sorted_by_name, value_once, Contains-entry}
+use Rattle.cedar_schema_semantics.proofs.OccurrenceLemmas.{Twice-sorted_by_name, value_once, Contains-entry}
 use Rattle.cedar_schema_semantics.proofs.TogetherLemmas.{AreRequests, IsDefinition, action_definition_declared, action_definition_says, declared_action_definition, declared_definition, definition_declared, definition_or_external, definition_says, requests_or_elsewhere}
 use Rattle.cedar_schema_semantics.proofs.TurnLemmas.{turn_back, turn_forth}
 

@@ -1,9 +1,10 @@
 -- Whether two plain types, or two names, uids or texts, are the same is decided.
 use Rattle.std.proofs.Common.{◌≡◌, List, [], ◌∷◌, inl, inr, refl, ap}
-use Rattle.cedar_ast.proofs.PlainNames.{name_cmp-Equal, uid_cmp-Equal}
-use Rattle.cedar_ast.proofs.Texts.{text_cmp-Equal}
-use Rattle.cedar_schema_laws.specs.Words.{BoolType, Fields, OpenTag, PlainName, PlainUid, Text, Ty, any_entity, any_set, end, extension_of, field, long, name_cmp, never, record_of, set_of, text, text_cmp, truth, uid_cmp, union_of}
+use Rattle.cedar_ast.proofs.PlainNames.{uid_cmp-Equal}
+use Rattle.cedar_schema_laws.specs.Words.{BoolType, Fields, OpenTag, PlainUid, Ty, any_entity, any_set, end, extension_of, field, long, never, record_of, set_of, text, truth, uid_cmp, union_of}
+use Rattle.cedar_type_rules.proofs.AnsweredLemmas.{decide_names}
 use Rattle.cedar_type_rules.proofs.Decisions.{IsDecided, decide_both, decide_flags, decide_same}
+use Rattle.cedar_type_rules.proofs.RecordAnswers.{decide_texts}
 use Rattle.cedar_type_rules.specs.declared.bool_type.BoolType.TheVariants as truth_value
 use Rattle.cedar_type_rules.specs.declared.open_tag.OpenTag.TheVariants as openness
 
@@ -20,17 +21,9 @@ decide_lists decide (x ∷ xs) [] = inr (λ e. absurd cc)
 decide_lists decide (x ∷ xs) (y ∷ ys) =
     decide_like (λ both i. both.0 i ∷ both.1 i) (λ e. (cc, cc)) (decide_both (decide x y) (decide_lists decide xs ys))
 
--- names are the same or not
-pub decide_names : (a b : PlainName) → IsDecided (a ≡ b)
-decide_names = decide_same name_cmp name_cmp-Equal
-
 -- uids are the same or not
 pub decide_uids : (a b : PlainUid) → IsDecided (a ≡ b)
 decide_uids = decide_same uid_cmp uid_cmp-Equal
-
--- texts are the same or not
-pub decide_texts : (a b : Text) → IsDecided (a ≡ b)
-decide_texts = decide_same text_cmp text_cmp-Equal
 
 -- what is known of a truth value is the same or not
 decide_truths : (a b : BoolType) → IsDecided (a ≡ b)

@@ -1,13 +1,15 @@
 -- The schema that a bag declares is valid, and its descendants are closed.
 use Rattle.std.proofs.Common.{◌≡◌, ◌≢◌, ◌⊎◌, List, [], ◌∷◌, Option, Some, None, map, ap, sym, subst, ◌∙◌, refl, inl, inr, arith, Contains}
 use Rattle.std.proofs.lemmas.List.Elements.{Contains-append_right, Contains-append_cases}
+use Rattle.cedar_ast.proofs.Basics.{Contains-image}
 use Rattle.cedar_ast.proofs.Chains.{first_step, refined}
 use Rattle.cedar_ast.proofs.Lists.{Contains-cons, Contains-cons_cases, Contains-preimage}
 use Rattle.cedar_schema_laws.proofs.EnumeratedLemmas.{enumerated_parent}
 use Rattle.cedar_schema_laws.proofs.MentionLemmas.{mentions_entity, known_written, known_counted, known_common}
+use Rattle.cedar_schema_laws.proofs.ResolutionLaws.{some_first}
 use Rattle.cedar_schema_laws.specs.Words.{ActionBody, ActionKind, AreDeclaredTags, Bag, Chain, ClosesAction, ClosesSchema, ClosesType, CountsInEntity, CountsInRequests, ElaboratesTo, EntityBody, EntitySays, EntityTypeKind, Expr, Extensions, HasAction, HasEntityType, HasParent, HasParentAction, HoldsPairwise, IsActionType, IsAtEntityTypePosition, IsContextOf, IsCounted, IsDeclaredActionKind, IsDeclaredKind, IsDeclaredSchema, IsDescendant, IsDescendantAction, IsEnumerated, IsExternal, IsExternalType, IsIllFormed, IsOfKind, IsPrincipalOrResource, IsPrincipalOrResourceOf, IsTypeIn, IsTypeOfKind, IsUnknownType, IsValidSchema, ListsDescendant, ListsDescendantAction, PlainName, PlainSchema, PlainUid, PositionsFit, Reference, Requests, ResolvesTo, SchemaAction, SchemaEntityType, Text, Ty, TypeNamesFit, action_cycle, action_entity_type, action_shadowing, action_uids, declared_actions, declared_common, declared_entities, declared_types, defined_action, defined_names, definitions, elsewhere, enumerated, enumerated_below, extension_types, external, external_below_enumerated, invalid_action_type, one, record_of, requests, standard, standard_kind, type_shadowing, undeclared_action_descendant, undeclared_entity_types, unknown_extension_type}
 use Rattle.cedar_schema_semantics.proofs.DeclarationLemmas.{entity_declaration, action_declaration}
-use Rattle.cedar_schema_semantics.proofs.OccurrenceLemmas.{Contains-image, Contains-entry}
+use Rattle.cedar_schema_semantics.proofs.OccurrenceLemmas.{Contains-entry}
 use Rattle.cedar_schema_semantics.proofs.ResolutionLemmas.{first_defined, names_no_common}
 use Rattle.cedar_schema_semantics.proofs.TogetherLemmas.{definition_declared, said_is_declared, said_action_is_declared, said_definition, said_action_definition, entity_counted, requests_counted, request_placed}
 
@@ -16,11 +18,6 @@ itself_pairwise : {A : Type 0} (R : A → A → Type 0) (xs : List A) → ((x : 
 itself_pairwise R [] each = tt
 itself_pairwise R (x ∷ xs) each =
     (each x (Contains-cons x xs x (inl refl)), itself_pairwise R xs (λ y among. each y (Contains-cons x xs y (inr among))))
-
--- some list isn't none
-pub some_first : {A : Type 0} (items : List A) → items ≢ [] → (item : A) × Contains items item
-some_first [] some = absurd (some refl)
-some_first (first ∷ rest) some = (first, Contains-cons first rest first (inl refl))
 
 module _ (bag : Bag) (extensions : Extensions) (schema : PlainSchema) (declared : IsDeclaredSchema bag extensions schema) where
   -- what is listed as a descendant is one

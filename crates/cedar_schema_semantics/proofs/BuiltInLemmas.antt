@@ -2,25 +2,21 @@
 use Rattle.std.proofs.Common.{◌≡◌, ◌≢◌, ◌⊎◌, zero, suc, Bool, true, false, List, [], ◌∷◌, ◌++◌, map, ap, sym, subst, ◌∙◌, refl, inl, inr, arith, Contains, All, AllPairs, codes, not}
 use Rattle.std.proofs.lemmas.Bool.{false≢true}
 use Rattle.std.proofs.lemmas.List.Elements.{All-contains, All-tail, Contains-append_left, Contains-append_cases}
-use Rattle.std.proofs.lemmas.Slice.Eq.{bytes_eq-Decides}
 use Rattle.std.specs.List.{filter}
 use Rattle.std.specs.Ordering.{is_eq}
-use Rattle.std.specs.Str.{bytes_eq}
+use Rattle.cedar_ast.proofs.Basics.{Contains-image}
 use Rattle.cedar_ast.proofs.Lists.{Contains-preimage}
-use Rattle.cedar_schema_semantics.proofs.OccurrenceLemmas.{Twice-distinct, Twice-append, value_once, Contains-filter, Contains-image, any_of, name_test}
+use Rattle.cedar_schema_semantics.proofs.OccurrenceLemmas.{Twice-distinct, Twice-append, value_once, Contains-filter, any_of, name_test}
 use Rattle.cedar_schema_semantics.proofs.ResolutionLemmas.{HasOneDefinition}
 use Rattle.cedar_schema_semantics.specs.Words.{Bag, Expr, Extensions, IsUnqualified, PlainName, Reference, Refers, Text, Twice, TypeNamesFit, alias_name, aliases, built_in_name, built_in_types, built_ins, declared_common, declared_entities, declared_types, definitions, extension_expr, extension_types, is_declared_here, name_cmp, primitive_words, reserved_word}
-
--- texts that are compared as unequal aren't the same
-pub unlike_texts : (a b : Text) → bytes_eq a b ≡ false → ¬ (a ≡ b)
-unlike_texts a b differ same = false≢true (sym differ ∙ (bytes_eq-Decides a b).1 same)
+use Rattle.cedar_type_rules.proofs.ApartLemmas.{texts_differ}
 
 -- the words of the primitive types are distinct
 words_once : (word : Text) → ¬ Twice primitive_words word
-words_once word (inl (same, (zero, below, is))) = unlike_texts (codes "Bool") (codes "Long") refl (same ∙ sym is)
-words_once word (inl (same, (suc zero, below, is))) = unlike_texts (codes "Bool") (codes "String") refl (same ∙ sym is)
+words_once word (inl (same, (zero, below, is))) = texts_differ (codes "Bool") (codes "Long") refl (same ∙ sym is)
+words_once word (inl (same, (suc zero, below, is))) = texts_differ (codes "Bool") (codes "String") refl (same ∙ sym is)
 words_once word (inl (same, (suc (suc k), below, is))) = omega (arith, below)
-words_once word (inr (inl (same, (zero, below, is)))) = unlike_texts (codes "Long") (codes "String") refl (same ∙ sym is)
+words_once word (inr (inl (same, (zero, below, is)))) = texts_differ (codes "Long") (codes "String") refl (same ∙ sym is)
 words_once word (inr (inl (same, (suc k, below, is)))) = omega (arith, below)
 words_once word (inr (inr (inl (same, (k, below, is))))) = omega (arith, below)
 words_once word (inr (inr (inr none))) = none

@@ -1,7 +1,8 @@
 -- What a bag declares is so by one of its declarations.
 use Rattle.std.proofs.Common.{sym, subst, ◌≡◌, List, ◌∷◌, [], ap, refl, arith, Contains}
 use Rattle.std.specs.List.{flat_map}
-use Rattle.cedar_schema_semantics.proofs.OccurrenceLemmas.{Contains-flat_map, Contains-given, Contains-single}
+use Rattle.cedar_ast.proofs.Basics.{Contains-single}
+use Rattle.cedar_schema_semantics.proofs.OccurrenceLemmas.{Contains-flat_map, Contains-given}
 use Rattle.cedar_schema_semantics.specs.Words.{ActionBody, Bag, Body, Declaration, EntityBody, Expr, PlainName, PlainUid, action, action_in, common_in, common_type, declared_actions, declared_common, declared_entities, declared_name, declared_uid, entity_in, entity_type}
 
 -- a kind of declarations: one of the kind gives what it declares under its key, and any other

@@ -1,7 +1,7 @@
 -- Where the same names are defined, references and expressions mean the same.
 use Rattle.std.proofs.Common.{inl, inr, Contains}
+use Rattle.cedar_ast.proofs.Basics.{Contains-image}
 use Rattle.cedar_ast.proofs.Lists.{Contains-preimage}
-use Rattle.cedar_schema_semantics.proofs.OccurrenceLemmas.{Contains-image}
 use Rattle.cedar_schema_semantics.proofs.ResolutionLemmas.{IsFirst-like}
 use Rattle.cedar_schema_semantics.specs.Words.{Defined, ElaboratesTo, Expr, Fields, IsDefined, IsNoRecord, IsUnresolved, Members, MembersElaborateTo, PlainName, Reference, ReferenceType, ResolvesTo, Ty, as_common, as_entity, as_extension, as_long, as_member, as_no_member, as_record, as_set, as_text, as_truth, names_of}
 

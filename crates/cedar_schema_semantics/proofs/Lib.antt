@@ -2,7 +2,9 @@ pub mod BuiltInLemmas
 pub mod DeclarationLemmas
 pub mod DefinedLemmas
 pub mod Definitions
+pub mod NamedActions
 pub mod OccurrenceLemmas
 pub mod ResolutionLemmas
+pub mod SameActions
 pub mod TogetherLemmas
 pub mod TurnLemmas

@@ -10,6 +10,7 @@ use Rattle.std.specs.List.Sorted.{IsStrictlySortedBy}
 use Rattle.std.specs.Ordering.{is_eq}
 use Rattle.std.specs.declared.cmp.Ordering.{Ordering}
 use Rattle.std.specs.declared.cmp.Ordering.TheVariants.{Less, Equal, Greater}
+use Rattle.cedar_ast.proofs.Basics.{Contains-image}
 use Rattle.cedar_ast.proofs.Lists.{Contains-cons, Contains-cons_cases, Contains-preimage}
 use Rattle.cedar_ast.proofs.Ordered.{not_itself}
 use Rattle.cedar_ast.proofs.PlainNames.{name_cmp-Equal, uid_cmp-Equal}
@@ -43,13 +44,6 @@ Twice-append (first ∷ rest) ys x twice =
           ]
     ]
 
--- the image of an item that stands in a list stands in the mapped list
-pub Contains-image : {X Y : Type 0} (f : X → Y) (xs : List X) (x : X) → Contains xs x → Contains (map f xs) (f x)
-Contains-image f [] x among = absurd (omega (arith, among.1))
-Contains-image f (first ∷ rest) x among =
-    Contains-cons (f first) (map f rest) (f x)
-    (elim (Contains-cons_cases first rest x among) [ inl here ↦ inl (ap f here) | inr later ↦ inr (Contains-image f rest x later) ])
-
 -- a key of some entries has a value among them
 pub Contains-entry : {K V : Type 0} (entries : List (K × V)) (key : K) → Contains (map (λ (it : K × V). it.0) entries) key
     → (value : V) × Contains entries (key, value)
@@ -77,10 +71,6 @@ Contains-given {A = A} f (first ∷ rest) x y among given =
       | inl here ↦ Contains-append_left (f first) (flat_map f rest) y (rw here given)
       | inr later ↦ Contains-append_right (f first) (flat_map f rest) y (Contains-given f rest x y later given)
     ]
-
--- in a list of one item stands that item
-pub Contains-single : {A : Type 0} (x y : A) → Contains (x ∷ []) y → x ≡ y
-Contains-single x y among = elim (Contains-cons_cases x [] y among) [ inl same ↦ same | inr none ↦ absurd (omega (arith, none.1)) ]
 
 -- an item passes a test where some does
 pub any_of : {A : Type 0} (p : A → Bool) (xs : List A) (x : A) → Contains xs x → p x ≡ true → list_any p xs ≡ true

@@ -1,10 +1,11 @@
 -- What the declarations of one name say together.
 use Rattle.std.proofs.Common.{◌≡◌, ◌⊎◌, ◌↔◌, List, [], ◌∷◌, ◌++◌, map, ap, ◌∙◌, refl, inl, inr, arith, Contains}
 use Rattle.std.specs.List.{flat_map}
+use Rattle.cedar_ast.proofs.Basics.{Contains-image, Contains-single}
 use Rattle.cedar_ast.proofs.Lists.{Contains-preimage}
 use Rattle.cedar_schema_semantics.proofs.Definitions as any
 use Rattle.cedar_schema_semantics.proofs.Definitions.{Definitions}
-use Rattle.cedar_schema_semantics.proofs.OccurrenceLemmas.{Contains-flat_map, Contains-given, Contains-image, Contains-single, value_once}
+use Rattle.cedar_schema_semantics.proofs.OccurrenceLemmas.{Contains-flat_map, Contains-given, value_once}
 use Rattle.cedar_schema_semantics.specs.Words.{ActionBody, ActionSays, Bag, CountsInEntity, CountsInRequests, EntitiesSay, EntityBody, EntitySays, Expr, IsPrincipalOrResource, PlainName, PlainUid, Reference, Requests, SameEntityBody, SameRequests, Twice, action_definition_in, action_uids, declared_actions, declared_entities, defined_actions, defined_entities, elsewhere, entity_definition_in, entity_definitions, enumerated, external, requests, standard}
 
 -- what is declared of an entity type is a definition

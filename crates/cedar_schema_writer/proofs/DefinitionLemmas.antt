@@ -178,8 +178,3 @@ module _ (old taken new : Definitions) (namespace : Option Name) (definition cha
   was_declared it among =
       Contains-permutation _ _ it was
       (Contains-append_left (raw_declarations (plain_namespace namespace) definition) (definitions_bag taken) it among)
-
--- what ties is equal
-pub tied : (order : Ordering) → is_eq order ≡ true → order ≡ Equal
-tied Equal tie = refl
-tied _ tie = absurd (false≢true tie)

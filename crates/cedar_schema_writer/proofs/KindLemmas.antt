@@ -1,9 +1,9 @@
 -- Kinds of entity types and actions that are written, and whether they can be.
-use Rattle.std.proofs.Common.{◌≡◌, ◌↔◌, List, [], ◌∷◌, Option, None, Some, map, ap, sym, subst, ◌∙◌, refl, inl, inr, arith, string_bytes, Contains}
+use Rattle.std.proofs.Common.{◌≡◌, ◌↔◌, List, [], ◌∷◌, Option, None, Some, map, ap, sym, subst, ◌∙◌, refl, inl, inr, string_bytes, Contains}
 use Rattle.std.proofs.lemmas.Simd.{map-map}
+use Rattle.cedar_ast.proofs.Basics.{Contains-image}
 use Rattle.cedar_ast.proofs.Lists.{Contains-cons, Contains-preimage}
-use Rattle.cedar_schema_semantics.proofs.OccurrenceLemmas.{Contains-image}
-use Rattle.cedar_schema_writer.specs.Words.{ActionEntityUID, ActionKind, AreFullNames, AreRequestsWritten, Entity, EntityBody, EntityTypeKind, Expr, Fields, IsKindWritten, IsPrincipalOrResourceOf, IsSoundAction, IsSoundKind, IsSoundType, Names, NamesNoOther, OpenTag, PlainName, RawName, Reference, Text, Ty, defined_action, elsewhere, enumerated, enumerated_kind, external, external_action, external_kind, full_name, full_uid, kind_context, kind_fields, kind_openness, kind_principals, kind_resources, kind_tags, parent_action, parent_type, raw_name, raw_reference, record_of, requests, standard, standard_kind, type_written, written_action_type, written_uid}
+use Rattle.cedar_schema_writer.specs.Words.{ActionEntityUID, ActionKind, AreFullNames, AreRequestsWritten, Entity, EntityBody, EntityTypeKind, Expr, Fields, IsKindWritten, IsSoundAction, IsSoundKind, IsSoundType, Names, NamesNoOther, OpenTag, PlainName, RawName, Reference, Text, Ty, defined_action, elsewhere, enumerated, enumerated_kind, external, external_action, external_kind, full_name, full_uid, kind_context, kind_fields, kind_openness, kind_principals, kind_resources, kind_tags, parent_action, parent_type, raw_name, raw_reference, record_of, requests, standard, standard_kind, type_written, written_action_type, written_uid}
 
 module _ {A B : Type 0} (f : A → B) where
   -- images are just those of the items
@@ -131,13 +131,3 @@ module _ (namespace : Option PlainName) where
         no_other = λ name. elim [ inl here ↦ these name here | inr there ↦ those name there ];
       }
   sound_action names external_action context is sound these those = cc
-
--- a principal is one of the kind
-pub principal_of : (kind : ActionKind) (name : PlainName) → Contains (kind_principals kind) name → IsPrincipalOrResourceOf kind name
-principal_of (defined_action principals resources context) name among = inl among
-principal_of external_action name among = absurd (omega (arith, among.1))
-
--- so is a resource
-pub resource_of : (kind : ActionKind) (name : PlainName) → Contains (kind_resources kind) name → IsPrincipalOrResourceOf kind name
-resource_of (defined_action principals resources context) name among = inr among
-resource_of external_action name among = absurd (omega (arith, among.1))

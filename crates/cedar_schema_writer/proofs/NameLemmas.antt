@@ -4,8 +4,8 @@ use Rattle.std.proofs.Math.Seq.{take-length}
 use Rattle.std.proofs.lemmas.Bool.{false≢true}
 use Rattle.std.proofs.lemmas.List.{map_more}
 use Rattle.std.proofs.lemmas.List.Elements.{Contains-append_cases, Contains-append_left, Contains-append_right}
+use Rattle.cedar_ast.proofs.Basics.{Contains-single}
 use Rattle.cedar_ast.proofs.Lists.{Contains-cons}
-use Rattle.cedar_schema_semantics.proofs.OccurrenceLemmas.{Contains-single}
 use Rattle.cedar_schema_writer.specs.Words.{Id, IsPathOf, IsReserved, Name, Names, NamesNoOther, NamesNoOtherAction, PlainName, PlainUid, Text, id_text, name_within, path_within, plain_name, plain_namespace, reserved_word}
 
 -- a list with an item at its end isn't empty

@@ -4,8 +4,9 @@ use Rattle.std.proofs.lemmas.List.{append-nil, map-append}
 use Rattle.std.proofs.lemmas.List.Elements.{Contains-append_cases, Contains-append_right}
 use Rattle.std.proofs.lemmas.List.Sorted.{Contains-permutation, IsPermutation-append_left, IsPermutation-refl, IsPermutation-sym, IsPermutation-trans}
 use Rattle.std.specs.List.Sorted.{IsPermutation}
+use Rattle.cedar_ast.proofs.Basics.{Contains-image, Contains-single}
 use Rattle.cedar_ast.proofs.Lists.{Contains-cons}
-use Rattle.cedar_schema_semantics.proofs.OccurrenceLemmas.{Contains-image, Contains-single, Twice-both}
+use Rattle.cedar_schema_semantics.proofs.OccurrenceLemmas.{Twice-both}
 use Rattle.cedar_schema_semantics.proofs.TurnLemmas.{turn_back, turn_forth}
 use Rattle.cedar_schema_writer.specs.Words.{ArePut, Bag, Declaration, HoldsPairwise, Twice}
 

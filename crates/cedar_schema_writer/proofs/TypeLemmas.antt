@@ -9,10 +9,10 @@ use Rattle.std.specs.String.{string_cmp}
 use Rattle.std.specs.declared.alloc.Global.{Global}
 use Rattle.std.specs.declared.cmp.Ordering.TheVariants.{Greater}
 use Rattle.std.specs.declared.string.String.{String}
+use Rattle.cedar_ast.proofs.Basics.{Contains-single}
 use Rattle.cedar_ast.proofs.Lists.{Contains-cons}
 use Rattle.cedar_ast.proofs.Ordered.{above_front, insert_entry-end}
 use Rattle.cedar_ast.proofs.Texts.{text_cmp-total}
-use Rattle.cedar_schema_semantics.proofs.OccurrenceLemmas.{Contains-single}
 use Rattle.cedar_schema_writer.specs.Words.{ClosedAttributes, Expr, Fields, IsSortedByName, IsSoundType, Members, Names, NamesNoOther, PlainName, RawName, Text, Ty, TypeOfAttribute, end, extension_of, field, field_names, fields_written, member, members_from, no_member, only_name, plain_members, raw_attribute, record_expr, record_of, set_of, text_cmp, type_written, union_of}
 
 abbrev mutual

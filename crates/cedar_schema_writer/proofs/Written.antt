@@ -2,8 +2,8 @@
 use Rattle.std.proofs.Common.{◌≡◌, ◌++◌, List, [], ◌∷◌, ap, sym, ◌∙◌, refl, inl, append_assoc, arith, Contains, inr}
 use Rattle.std.proofs.lemmas.List.{append-nil}
 use Rattle.std.proofs.lemmas.List.Elements.{Contains-append_cases, Contains-append_right}
+use Rattle.cedar_ast.proofs.Basics.{Contains-single}
 use Rattle.cedar_ast.proofs.Lists.{Contains-cons}
-use Rattle.cedar_schema_semantics.proofs.OccurrenceLemmas.{Contains-single}
 
 -- some items are written, of each of which a fact holds, and others are left
 pub record WrittenSoFar {A : Type 0} (P : A → Type 0) (all written left : List A) : Type 0 where

@@ -6,6 +6,7 @@ use Rattle.std.specs.Hash.{le_bytes}
 use Rattle.std.specs.Ordering.{is_eq}
 use Rattle.std.specs.declared.cmp.Ordering.{Ordering}
 use Rattle.std.specs.declared.cmp.Ordering.TheVariants.{Equal}
+use Rattle.cedar_ast.proofs.Basics.{is_eq-Equal}
 use Rattle.cedar_type_rules.specs.Words.{AnyBool, BoolType, ClosedAttributes, ComparesBy, False, FeedsVariantFirst, OpenAttributes, OpenTag, True, is_open, openness_cmp, truth_cmp}
 use Rattle.cedar_type_rules.specs.contracts.bool_type.BoolTypeHash.TheImpl as bool_hash
 use Rattle.cedar_type_rules.specs.contracts.bool_type.BoolTypeOrd.TheImpl as bool_ord
@@ -13,11 +14,6 @@ use Rattle.cedar_type_rules.specs.contracts.bool_type.BoolTypePartialEq.TheImpl 
 use Rattle.cedar_type_rules.specs.contracts.open_tag.OpenTagHash.TheImpl as open_tag_hash
 use Rattle.cedar_type_rules.specs.contracts.open_tag.OpenTagOrd.TheImpl as open_tag_ord
 use Rattle.cedar_type_rules.specs.contracts.open_tag.OpenTagPartialEq.TheImpl as open_tag_eq
-
--- an order that is answered as equal is equal
-is_eq-Equal : (o : Ordering) → is_eq o ≡ true → o ≡ Equal
-is_eq-Equal Equal e = refl
-is_eq-Equal _ e = absurd cc
 
 -- an order that agrees with equality ties exactly where two stand for the same
 pub ties_from : {A P : Type 0} (stands_for : A → P) (eq : A → A → Bool) (cmp : A → A → Ordering)

@@ -29,7 +29,3 @@ pub found-Decides : {A : Type 0} (f : A → Bool × Ty) (found : Option (Bor A))
     → option_map f (option_copied found) ≡ field_at name fields → Decides (is_some found) (Contains (field_names fields) name)
 found-Decides f found name fields e =
     subst (λ there. Decides there (Contains (field_names fields) name)) (sym (ap is_some e) ∙ is_some-read f found) (field_at-Decides name fields)
-
--- the only member of a list is the member
-pub Contains-only : {A : Type 0} (x y : A) → Contains (x ∷ []) y → x ≡ y
-Contains-only x y among = elim (Contains-cons_cases x [] y among) [ inl same ↦ same | inr there ↦ absurd (omega (arith, there.1)) ]

@@ -8,7 +8,7 @@ use Rattle.std.specs.declared.rc.Rc.{Rc}
 use Rattle.std.specs.declared.string.String.{String}
 use Rattle.cedar_ast.proofs.TreeLemmas.{drop-at, entry_at-entries, not-Decides}
 use Rattle.cedar_types.proofs.MembershipLemmas.{IsBoth, IsMembershipSoFar, IsMembershipSoFar-more, IsMembership-test}
-use Rattle.cedar_types.specs.Words.{Answer, AttributeType, Attributes, EachTree, EntityKind, Entries, EntryFits, Extensions, Fields, FieldsMeet, Gives, Has, HasFieldsBy, HasUid, IsMembership, MayGive, MayHave, Meets, Name, NamesListed, OpenTag, PlainUid, RestrictedExpr, SomeEntry, SomeTree, Text, Tree, Trees, Ty, «Type», attribute_of, attribute_step, attributes_step, entries_of, entry_at, entry_names, extension_of, field, field_names, fields_of, fold-roll-Type, fold_out-AttributeType, is_open, kind_ty, map_value, out-AttributeType, plain_name, record_of, roll-Type, set_of, tree_of, trees_of, ty_of, type_step, uid_value}
+use Rattle.cedar_types.specs.Words.{Answer, Attributes, EachTree, EntityKind, Entries, EntryFits, Extensions, Fields, FieldsMeet, Gives, Has, HasFieldsBy, HasUid, IsMembership, MayGive, MayHave, Meets, Name, NamesListed, OpenTag, PlainUid, RestrictedExpr, SomeEntry, SomeTree, Text, Tree, Trees, Ty, «Type», attribute_step, attributes_step, entries_of, entry_at, entry_names, extension_of, field, field_names, fields_of, fold-roll-Type, is_open, kind_ty, map_value, plain_name, record_of, roll-Type, set_of, tree_of, trees_of, ty_of, type_step, uid_value}
 use Rattle.cedar_types.specs.declared.types.Type.TheOpen as layer
 use Rattle.cedar_types.specs.declared.types.Type.TheVariants as type
 
@@ -78,11 +78,6 @@ pub IsMembershipForEntry-None : (extensions : Extensions) (name : Text)
     → IsMembershipForEntry extensions (entry_at name (entries_of values)) attribute answer
 IsMembershipForEntry-None extensions name values attribute got answer found is missing =
     rw (entry_at-entries name values.entries ∙ ap (option_map tree_of) (sym found ∙ ap option_copied is), missing) (IsMembership-test (not attribute.0) _ _ (not-Decides attribute.0 (not attribute.0) refl))
-
--- an attribute stands for its flag and what its type stands for
-pub attribute_of-parts : (attribute : AttributeType) → attribute_of attribute
-    ≡ ((out-AttributeType attribute).is_required, ty_of (out-AttributeType attribute).attr_type.value)
-attribute_of-parts attribute = fold_out-AttributeType Ty (Bool × Ty) Fields type_step attribute_step attributes_step attribute
 
 -- a set type stands for the set of what its element type stands for
 pub ty_of-set : (element : Rc «Type» Global) → ty_of (type.Set (Some element)) ≡ set_of (ty_of element.value)

@@ -7,8 +7,7 @@ use Rattle.std.proofs.lemmas.List.Kept.{IsStrictlySortedBy-filter}
 use Rattle.std.specs.Bool.{Decides}
 use Rattle.std.specs.List.{filter, flat_map, list_any}
 use Rattle.std.specs.Ordering.{is_eq}
-use Rattle.std.specs.declared.cmp.Ordering.{Ordering}
-use Rattle.std.specs.declared.cmp.Ordering.TheVariants.{Less, Equal, Greater}
+use Rattle.cedar_ast.proofs.Basics.{is_eq-Equal}
 use Rattle.cedar_ast.proofs.Lists.{Contains-cons, Contains-cons_cases, list_any-Contains}
 use Rattle.cedar_ast.proofs.PlainNames.{name_cmp-total, name_cmp-Equal}
 use Rattle.cedar_type_rules.proofs.AntisymmetryLaws.{Included-same}
@@ -16,12 +15,6 @@ use Rattle.cedar_type_rules.proofs.JoinLemmas.{upper_is_join}
 use Rattle.cedar_types.proofs.KindJoins.{unions_join}
 use Rattle.cedar_types.proofs.MergedLemmas.{nonempty_above}
 use Rattle.cedar_types.specs.Words.{Included, IsReduceAnswer, IsUnionOf, IsWellFormed, Permissive, PlainName, name_cmp, never, union_of}
-
--- what is level is `Equal`
-level_is_Equal : (order : Ordering) → is_eq order ≡ true → order ≡ Equal
-level_is_Equal Less e = absurd cc
-level_is_Equal Equal e = refl
-level_is_Equal Greater e = absurd cc
 
 -- whether a name is one of some
 abbrev is_one_of : List PlainName → PlainName → Bool
@@ -31,7 +24,7 @@ is_one_of names name = list_any (λ other. is_eq (name_cmp other name)) names
 is_one_of-Decides : (names : List PlainName) (name : PlainName) → Decides (is_one_of names name) (Contains names name)
 is_one_of-Decides names name =
     rw map-id at (list_any-Contains (λ (other : PlainName). other) name (λ other. is_eq (name_cmp other name)) (λ other. (
-      λ e. (name_cmp-Equal other name).0 (level_is_Equal (name_cmp other name) e),
+      λ e. (name_cmp-Equal other name).0 (is_eq-Equal (name_cmp other name) e),
       λ same. ap is_eq ((name_cmp-Equal other name).1 same),
     )) names)
 

@@ -1,9 +1,9 @@
 -- A schema, and the same with its descendants closed: the faults of the one are those of the other.
 use Rattle.std.proofs.Common.{◌≡◌, ◌↔◌, ◌∙◌, List, map, inl, inr, subst, sym, Contains}
+use Rattle.cedar_ast.proofs.Basics.{Contains-image}
 use Rattle.cedar_ast.proofs.Chains.{first_step, last_step, refined}
 use Rattle.cedar_ast.proofs.Lists.{Contains-preimage}
 use Rattle.cedar_ast.proofs.TurnLemmas.{turn_weaker}
-use Rattle.cedar_schema_semantics.proofs.OccurrenceLemmas.{Contains-image}
 use Rattle.cedar_schema_semantics.proofs.TurnLemmas.{turn_back, turn_forth}
 use Rattle.cedar_validation.proofs.Pairwise.{pairwise_back}
 use Rattle.cedar_validation.specs.Words.{ActionKind, Chain, ClosesAction, ClosesType, EntityTypeKind, Extensions, Fault, HoldsPairwise, IsContextOf, IsEnumerated, IsExternal, IsPrincipalOrResourceOf, IsSchemaFault, IsTypeIn, IsTypeOfKind, IsUnknownType, ListsDescendant, ListsDescendantAction, PlainName, PlainSchema, PlainUid, SameItems, SchemaAction, SchemaEntityType, Ty, action_cycle, action_entity_type, action_shadowing, enumerated_below, external_below_enumerated, invalid_action_type, one, type_shadowing, undeclared_action_descendant, undeclared_entity_types, unknown_extension_type}

@@ -8,12 +8,12 @@ use Rattle.std.specs.Cmp.{Equal-is}
 use Rattle.std.specs.Map.{keys_of, lookup}
 use Rattle.std.specs.declared.cmp.Ordering.{Ordering}
 use Rattle.std.specs.declared.cmp.Ordering.TheVariants.{Equal}
+use Rattle.cedar_ast.proofs.Basics.{Contains-image}
 use Rattle.cedar_ast.proofs.Lists.{Contains-preimage, list_any-Contains}
 use Rattle.cedar_ast.proofs.Names.{entity_type_ord-Equal}
 use Rattle.cedar_ast.proofs.Uids.{entity_uid_ord-Equal}
 use Rattle.cedar_ast.specs.contracts.entity_type.EntityTypeOrd.TheImpl as entity_type_ord
 use Rattle.cedar_ast.specs.contracts.entity_uid.EntityUIDOrd.TheImpl as entity_uid_ord
-use Rattle.cedar_schema_semantics.proofs.OccurrenceLemmas.{Contains-image}
 use Rattle.cedar_validation.specs.Words.{EntityType, EntityUID, PlainName, PlainUid, ValidatorActionId, ValidatorEntityType, plain_action_entry, plain_entry, type_name, uid_of}
 
 module _ {K V P Q : Type 0} (f : K → P) (plain : K × V → P × Q) (keyed : (e : K × V) → (plain e).0 ≡ f e.0) where

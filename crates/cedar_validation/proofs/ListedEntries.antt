@@ -1,9 +1,9 @@
 -- What entries of a map list, and what they list as plain data.
 use Rattle.std.proofs.Common.{◌≡◌, ◌↔◌, List, map, ap, sym, ◌∙◌, Contains}
+use Rattle.cedar_ast.proofs.Basics.{Contains-image}
 use Rattle.cedar_ast.proofs.Chains.{refined}
 use Rattle.cedar_ast.proofs.Lists.{Contains-preimage}
 use Rattle.cedar_ast.proofs.TurnLemmas.{turn_weaker}
-use Rattle.cedar_schema_semantics.proofs.OccurrenceLemmas.{Contains-image}
 use Rattle.cedar_validation.proofs.Pairwise.{pairwise_map}
 use Rattle.cedar_validation.specs.Words.{Chain, HoldsPairwise, IsClosedOf, DescendsTo, ListsIn, one}
 

@@ -1,6 +1,6 @@
 -- Principals, resources and descendants of actions that aren't of the schema.
-use Rattle.std.proofs.Common.{◌⊎◌, [], ◌∷◌, subst, sym, inl, inr, arith, Contains}
-use Rattle.cedar_schema_semantics.proofs.OccurrenceLemmas.{Contains-single}
+use Rattle.std.proofs.Common.{◌⊎◌, [], ◌∷◌, subst, sym, inl, inr, Contains}
+use Rattle.cedar_ast.proofs.Basics.{Contains-single}
 use Rattle.cedar_validation.specs.Words.{ActionKind, Extensions, Fault, IsMisplaced, IsPrincipalOrResourceOf, IsValidationFault, IsSchemaFault, IsUnknownType, PlainName, PlainSchema, PlainUid, SchemaAction, defined_action, external_action, kind_principals, kind_resources, undeclared_action_descendant, undeclared_entity_types}
 
 -- one entity type that isn't known is a fault
@@ -25,15 +25,6 @@ misplaced_fault schema entry among fault misplaced =
                 subst P (sym of.1) descendant
           ])
     ]
-
--- the principals of a kind, and its resources, are what it is for
-pub principal_of : (kind : ActionKind) (name : PlainName) → Contains (kind_principals kind) name → IsPrincipalOrResourceOf kind name
-principal_of (defined_action principals resources context) name among = inl among
-principal_of external_action name among = omega (arith, among.1)
-
-pub resource_of : (kind : ActionKind) (name : PlainName) → Contains (kind_resources kind) name → IsPrincipalOrResourceOf kind name
-resource_of (defined_action principals resources context) name among = inr among
-resource_of external_action name among = omega (arith, among.1)
 
 -- and nothing else is
 pub for_cases : (kind : ActionKind) (name : PlainName) → IsPrincipalOrResourceOf kind name

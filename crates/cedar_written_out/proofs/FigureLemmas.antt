@@ -5,9 +5,9 @@ use Rattle.std.proofs.lemmas.List.Elements.{Contains-append_cases, Contains-get_
 use Rattle.std.proofs.lemmas.Option.{slice_get-map, slice_get_within}
 use Rattle.std.specs.Option.{option_map}
 use Rattle.std.specs.Prelude.{slice_get}
+use Rattle.cedar_ast.proofs.Basics.{Contains-single}
 use Rattle.cedar_ast.specs.declared.internal_name.InternalName.{InternalName}
 use Rattle.cedar_schema_ast.specs.declared.json_schema.type_of.Type.{«Type»}
-use Rattle.cedar_schema_semantics.proofs.OccurrenceLemmas.{Contains-single}
 use Rattle.cedar_written_out.proofs.CycleLemmas.{AreTargets, as_many, no_type_on_cycle, same_length, targets_at}
 use Rattle.cedar_written_out.proofs.IndexLemmas.{Contains-at, index_once}
 use Rattle.cedar_written_out.proofs.MeasureLemmas.{resolves_alike}

@@ -3,13 +3,14 @@
 use Rattle.std.proofs.Common.{◌≡◌, ◌⊎◌, ◌+◌, ◌<◌, ℕ, length, get_or, take, not, Bool, true, false, List, [], ◌∷◌, ◌++◌, map, ap, sym, subst, ◌∙◌, inl, inr, Contains, cond}
 use Rattle.std.proofs.lemmas.List.{map-append, take_more}
 use Rattle.std.specs.List.{filter}
+use Rattle.cedar_ast.proofs.Basics.{Contains-image}
 use Rattle.cedar_ast.proofs.Lists.{Contains-preimage}
 use Rattle.cedar_ast.specs.Words.{PlainName, Text, Twice, TypeNamesFit, extension_types}
 use Rattle.cedar_fragments.proofs.FragmentLemmas.{flat_map-included, refusal_included}
 use Rattle.cedar_fragments.specs.Words.{IsDefinitionFault, written_fragment}
 use Rattle.cedar_fragments.specs.declared.namespace.fragment.ValidatorSchemaFragment.{ValidatorSchemaFragment}
 use Rattle.cedar_schema_semantics.proofs.BuiltInLemmas.{alias_apart, built_in_once}
-use Rattle.cedar_schema_semantics.proofs.OccurrenceLemmas.{Contains-filter, Contains-image, Twice-append}
+use Rattle.cedar_schema_semantics.proofs.OccurrenceLemmas.{Contains-filter, Twice-append}
 use Rattle.cedar_schema_semantics.specs.Words.{alias_name, aliases, built_in_types, built_ins, declared_common, definitions, is_declared_here}
 use Rattle.cedar_written_out.specs.Words.{Bag, Expr, Extensions, Fault, Fragment, IsFault, RawName, out_of_memory, raw_bag, raw_fragment, raw_reference}
 

@@ -5,8 +5,9 @@ use Rattle.std.proofs.lemmas.List.{append-nil}
 use Rattle.std.specs.Prelude.{slice_get}
 use Rattle.std.specs.declared.alloc.Global.{Global}
 use Rattle.std.specs.declared.string.String.{String}
+use Rattle.cedar_ast.proofs.Basics.{Contains-image}
 use Rattle.cedar_schema_ast.proofs.ExprLemmas.{record_type_expr-entries}
-use Rattle.cedar_schema_semantics.proofs.OccurrenceLemmas.{Contains-image, value_once}
+use Rattle.cedar_schema_semantics.proofs.OccurrenceLemmas.{value_once}
 use Rattle.cedar_schema_semantics.proofs.ResolutionLemmas.{IsFirst-like, IsFirst-same, first_defined}
 use Rattle.cedar_type_rules.specs.Ty.{Fields, Ty, end, field, record_of, set_of, union_of}
 use Rattle.cedar_type_rules.specs.declared.open_tag.OpenTag.TheVariants.{ClosedAttributes}

@@ -6,7 +6,8 @@ use Rattle.cedar_ast.proofs.TreeLemmas.{drop-at, tree_of-uid, tree_of-set, tree_
 use Rattle.cedar_types.proofs.+member.Goals as goal
 use Rattle.cedar_types.proofs.+member.Goals.{member::fields_have-in-Some, member::fields_have-in-None}
 use Rattle.cedar_types.proofs.EntriesLeftSteps.{Serves-first, Serves-next}
-use Rattle.cedar_types.proofs.MemberParts.{IsMembershipFor, IsMembershipFor-at, IsMembershipFor-uid, IsMembershipFor-listed, IsMembershipFor-unlisted, IsMembershipForEntry, IsMembershipForEntry-Some, IsMembershipForEntry-None, ElementsSoFar-more, FieldsSoFar-more, attribute_of-parts, ty_of-set, ty_of-record, ty_of-entity, ty_of-extension}
+use Rattle.cedar_types.proofs.EqualityLaws.{attribute_of-parts}
+use Rattle.cedar_types.proofs.MemberParts.{IsMembershipFor, IsMembershipFor-at, IsMembershipFor-uid, IsMembershipFor-listed, IsMembershipFor-unlisted, IsMembershipForEntry, IsMembershipForEntry-Some, IsMembershipForEntry-None, ElementsSoFar-more, FieldsSoFar-more, ty_of-set, ty_of-record, ty_of-entity, ty_of-extension}
 use Rattle.cedar_types.proofs.MembershipLemmas.{IsMembershipSoFar-none, IsMembershipSoFar-all, IsMembershipSoFar-stops}
 use Rattle.cedar_types.specs.Words.{Answer, Ty, attribute_of, entries_left, entries_of, entry_at, fields_from, fields_of, fields_of-pairs, out-Attributes, plain_attributes, tree_of, ty_of, uid_of, value_at}
 use Rattle.cedar_types.specs.declared.types.Type.TheVariants as type

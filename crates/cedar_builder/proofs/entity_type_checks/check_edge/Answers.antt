@@ -1,6 +1,7 @@
 use Rattle.std.proofs.Common.{◌≡◌, ◌∷◌, ap, false, inl, inr, is_some, map, sym, ◌∙◌}
 use Rattle.std.proofs.lemmas.Bool.{false≢true}
-use Rattle.cedar_builder.proofs.EntityTypeChecks.{found_at_name, none_there}
+use Rattle.cedar_ast.proofs.Basics.{is_some-none}
+use Rattle.cedar_builder.proofs.EntityTypeChecks.{found_at_name}
 use Rattle.cedar_builder.proofs.entity_type_checks.check_edge.Goals as goal
 use Rattle.cedar_builder.specs.Words.{node_at, type_name, undeclared_entity_types}
 
@@ -13,7 +14,7 @@ returns-then-not-contains_key-clause-fault c =
     ap is_some (sym (found_at_name nodes upper)) ∙ (sym c.contains_key.ensures ∙ c.if-not-contains_key.true) in
     inr (inl (
       λ i. undeclared_entity_types (c.in_ok-clone.ensures.name i ∷ map type_name (c.new.ensures.items i)),
-      none_there (node_at nodes upper) none,
+      is_some-none (node_at nodes upper) none,
     ))
 
 -- it is, and the lower isn't enumerated

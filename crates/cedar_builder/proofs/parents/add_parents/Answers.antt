@@ -1,10 +1,10 @@
 use Rattle.std.proofs.Common.{append-nil, map, take}
 use Rattle.std.proofs.lemmas.List.{take_all}
+use Rattle.cedar_ast.proofs.Basics.{Contains-image}
 use Rattle.cedar_builder.proofs.NodeEdges.{item_among, map_item, parent_fault, pushed_parent}
 use Rattle.cedar_builder.proofs.parents.add_parents.Goals as goal
 use Rattle.cedar_builder.specs.Words.{IsEdgeOf, fault_of, held_names}
 use Rattle.cedar_fragments.proofs.FragmentLemmas.{exit_holds}
-use Rattle.cedar_schema_semantics.proofs.OccurrenceLemmas.{Contains-image}
 
 -- at first there are the edges from before
 pub loop-parent-init : goal.loop-parent-init

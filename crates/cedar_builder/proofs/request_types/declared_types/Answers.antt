@@ -1,12 +1,12 @@
 use Rattle.std.proofs.Common.{◌≡◌, ◌+◌, ◌++◌, [], ◌∷◌, map, take, inr}
 use Rattle.std.proofs.lemmas.List.{map-append, take_all}
+use Rattle.cedar_ast.proofs.Basics.{Contains-image}
 use Rattle.cedar_builder.proofs.ActionsElaborated.{named_by}
 use Rattle.cedar_builder.proofs.NodeEdges.{item_among, map_item}
 use Rattle.cedar_builder.proofs.RequestTypes.{named_more, placed_more}
 use Rattle.cedar_builder.proofs.request_types.declared_types.Goals as goal
 use Rattle.cedar_builder.specs.Words.{Entity, held_names, names_in, namespace_name, set_names, type_name}
 use Rattle.cedar_fragments.proofs.FragmentLemmas.{exit_holds}
-use Rattle.cedar_schema_semantics.proofs.OccurrenceLemmas.{Contains-image}
 
 -- the name at fault is one of all
 pub returns-in_err-declared_type-clause-fault : goal.returns-in_err-declared_type-clause-fault

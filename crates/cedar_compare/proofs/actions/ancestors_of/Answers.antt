@@ -1,9 +1,9 @@
 use Rattle.std.proofs.Common.{◌≡◌, [], Contains, ap, inl, inr, map, subst, sym, ◌∙◌, ⊎_elim}
+use Rattle.cedar_ast.proofs.Basics.{Contains-none}
 use Rattle.cedar_ast.proofs.Lists.{Contains-cons, Contains-cons_cases}
 use Rattle.cedar_ast.proofs.Uids.{entity_uid_ord-Equal}
 use Rattle.cedar_ast.specs.EntityUID.{uid_of}
 use Rattle.cedar_ast.specs.contracts.entity_uid.EntityUIDOrd.TheImpl as uid_ord
-use Rattle.cedar_compare.proofs.ReportedLemmas.{none_there}
 use Rattle.cedar_compare.proofs.actions.ancestors_of.Goals as goal
 use Rattle.cedar_fragments.proofs.SetLemmas.{inserted, only}
 
@@ -13,7 +13,7 @@ loop-uid-init c = λ uid.
     let all = ap (map uid_of) c.into_iter-uid-iterator.ensures.into_iter_gives ∙ c.ancestors-uid-items.ensures.ancestors in
     let none = ap (map uid_of) c.new-ancestors.ensures.empty in (
       λ among. inr (subst (λ xs. Contains xs uid) (sym all) among),
-      λ either. ⊎_elim (λ here. absurd (none_there uid (subst (λ xs. Contains xs uid) none here))) (λ there. subst (λ xs. Contains xs uid) all there) either,
+      λ either. ⊎_elim (λ here. absurd (Contains-none uid (subst (λ xs. Contains xs uid) none here))) (λ there. subst (λ xs. Contains xs uid) all there) either,
     )
 
 -- one more ancestor is copied: it is no longer left, but among the copies
@@ -49,5 +49,5 @@ pub returns : goal.returns
 returns c = λ uid.
     let none = ap (map uid_of) c.in-None.ensures.steps.0 in (
       λ among. (c.loop-uid.invariant uid).1 (inl among),
-      λ among. ⊎_elim (λ here. here) (λ there. absurd (none_there uid (subst (λ xs. Contains xs uid) none there))) ((c.loop-uid.invariant uid).0 among),
+      λ among. ⊎_elim (λ here. here) (λ there. absurd (Contains-none uid (subst (λ xs. Contains xs uid) none there))) ((c.loop-uid.invariant uid).0 among),
     )

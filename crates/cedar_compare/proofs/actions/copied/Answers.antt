@@ -1,7 +1,8 @@
 use Rattle.std.proofs.Common.{List, Contains, ap, subst, sym, ◌∙◌}
-use Rattle.cedar_compare.proofs.EntityLemmas.{no_values, real_entity}
+use Rattle.cedar_compare.proofs.EntityLemmas.{real_entity}
 use Rattle.cedar_compare.proofs.actions.copied.Goals as goal
 use Rattle.cedar_compare.specs.Words.{DefinesAction, ListsDescendantAction, PlainUid, named_values, old_of}
+use Rattle.cedar_schema_elements.proofs.EntityLemmas.{no_values}
 
 pub returns-clause-uid : goal.returns-clause-uid
 returns-clause-uid c = c.new.ensures.uid ∙ (c.in_ok-uid.ensures.uid ∙ c.uid.ensures.uid)

@@ -2,11 +2,11 @@ use Rattle.std.proofs.Common.{All, List, inl, inr, map, refl, subst, sym, ◌∙
 use Rattle.std.proofs.lemmas.Bool.{false≢true}
 use Rattle.std.proofs.lemmas.List.{take_all}
 use Rattle.std.proofs.lemmas.List.Elements.{All-more}
+use Rattle.cedar_ast.proofs.Basics.{Contains-image}
 use Rattle.cedar_ast.proofs.Lists.{Contains-cons}
 use Rattle.cedar_compare.proofs.ChoiceLemmas.{each_image}
 use Rattle.cedar_compare.proofs.choices.other_choice.Goals as goal
 use Rattle.cedar_compare.specs.Words.{Eid, choice_texts, eid_text}
-use Rattle.cedar_schema_semantics.proofs.OccurrenceLemmas.{Contains-image}
 
 -- the head isn't one of the others
 pub returns-then-not-is_among : goal.returns-then-not-is_among

@@ -2,9 +2,9 @@ use Rattle.std.proofs.Common.{◌≡◌, ◌∷◌, [], List, ap, map, subst, sy
 use Rattle.std.specs.BTreeSet.{insert_key}
 use Rattle.cedar_ast.proofs.ValueCopies.{uid_real}
 use Rattle.cedar_ast.specs.contracts.entity_uid.EntityUIDOrd.TheImpl as uid_ord
-use Rattle.cedar_compare.proofs.EntityLemmas.{no_values}
 use Rattle.cedar_compare.proofs.entity_types.entity_below.Goals as goal
 use Rattle.cedar_compare.specs.Words.{EntityUID, IsFreshIn, IsValue, PlainUid, named_values, new_of, type_name, uid_of, uid_value}
+use Rattle.cedar_schema_elements.proofs.EntityLemmas.{no_values}
 
 pub returns : goal.returns
 returns c =

@@ -1,8 +1,8 @@
 use Rattle.std.proofs.Common.{ap, map, subst, sym, ◌∙◌}
 use Rattle.cedar_ast.proofs.ValueCopies.{uid_real}
-use Rattle.cedar_compare.proofs.EntityLemmas.{no_values}
 use Rattle.cedar_compare.proofs.entity_types.entity_with.Goals as goal
 use Rattle.cedar_compare.specs.Words.{IsFreshIn, IsValue, PlainUid, named_values, new_of, type_name, uid_of, uid_value}
+use Rattle.cedar_schema_elements.proofs.EntityLemmas.{no_values}
 
 pub returns : goal.returns
 returns c = record {

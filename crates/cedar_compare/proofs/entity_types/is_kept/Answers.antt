@@ -1,12 +1,10 @@
 use Rattle.std.proofs.Common.{◌≡◌, [], List, Contains, ap, inl, inr, map, refl, subst, sym, ◌∙◌, ⊎_elim}
 use Rattle.std.proofs.lemmas.Bool.{false≢true}
+use Rattle.cedar_ast.proofs.Basics.{Contains-image, Contains-none, no_members}
 use Rattle.cedar_ast.proofs.Lists.{Contains-preimage}
-use Rattle.cedar_compare.proofs.ActionLemmas.{no_members}
 use Rattle.cedar_compare.proofs.EntityLemmas.{entity_found}
-use Rattle.cedar_compare.proofs.ReportedLemmas.{none_there}
 use Rattle.cedar_compare.proofs.entity_types.is_kept.Goals as goal
 use Rattle.cedar_compare.specs.Words.{ActionEntity, DefinesAction, ListsDescendantAction, PlainUid, entities_of, entity_uid, new_of, plain_action_entity}
-use Rattle.cedar_schema_semantics.proofs.OccurrenceLemmas.{Contains-image}
 
 -- an entity of one of the entity types of the new version is one of the new version
 pub returns-then-is_bare_of_type : goal.returns-then-is_bare_of_type
@@ -33,15 +31,15 @@ returns-in-Some c =
         attributes = ap (λ (e : ActionEntity). e.attributes) c.requires.bare;
         tags = ap (λ (e : ActionEntity). e.tags) c.requires.bare;
         ancestors = λ upper. (
-          λ among. absurd (none_there upper (subst (λ xs. Contains xs upper) none among)),
-          λ listed. absurd (none_there upper (subst (λ (xs : List PlainUid). Contains xs upper) (c.is_without_ancestors.ensures.0 met)
+          λ among. absurd (Contains-none upper (subst (λ xs. Contains xs upper) none among)),
+          λ listed. absurd (Contains-none upper (subst (λ (xs : List PlainUid). Contains xs upper) (c.is_without_ancestors.ensures.0 met)
               ((of.ancestors upper).1 (subst (λ u. ListsDescendantAction new u upper) same listed)))),
         );
       }),
       λ in_new. ⊎_elim
           (λ typed. absurd (false≢true (sym c.if-is_bare_of_type.false ∙ (c.is_bare_of_type.ensures extensions).1 typed)))
           (λ also. c.is_without_ancestors.ensures.1 (no_members (plain_action_entity action).ancestors
-          (λ upper among. none_there upper (subst (λ xs. Contains xs upper) none
+          (λ upper among. Contains-none upper (subst (λ xs. Contains xs upper) none
           ((also.ancestors upper).1 (subst (λ u. ListsDescendantAction new u upper) (sym same) ((of.ancestors upper).0 among)))))))
           in_new,
     )

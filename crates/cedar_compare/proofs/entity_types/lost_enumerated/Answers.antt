@@ -2,12 +2,12 @@ use Rattle.std.proofs.Common.{◌≡◌, All, List, Contains, Option, arith, inr
 use Rattle.std.proofs.lemmas.List.{take_all}
 use Rattle.std.proofs.lemmas.List.Elements.{All-more}
 use Rattle.std.specs.Option.{option_map}
+use Rattle.cedar_ast.proofs.Basics.{Contains-image}
 use Rattle.cedar_ast.proofs.Lists.{Contains-cons}
 use Rattle.cedar_compare.proofs.BareLemmas.{of_its_kind}
 use Rattle.cedar_compare.proofs.ChoiceLemmas.{each_image}
 use Rattle.cedar_compare.proofs.entity_types.lost_enumerated.Goals as goal
 use Rattle.cedar_compare.specs.Words.{Difference, Eid, EntityTypeKind, IsChoiceAnswer, IsEntityIn, IsEntityOfKind, bare_entity, choice_texts, eid_text, new_of, old_of, plain_difference, type_name}
-use Rattle.cedar_schema_semantics.proofs.OccurrenceLemmas.{Contains-image}
 
 -- an id of the tail is one of the choices of the type
 pub lost_choice-requires-in-loop-eid-clause-old : goal.lost_choice-requires-in-loop-eid-clause-old

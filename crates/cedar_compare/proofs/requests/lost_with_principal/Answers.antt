@@ -1,9 +1,9 @@
 use Rattle.std.proofs.Common.{◌≡◌, ◌+◌, ◌++◌, [], ◌∷◌, Bor, List, Option, Vec, Global, ap, drop, map, subst, sym, ◌∙◌}
-use Rattle.std.proofs.lemmas.List.{drop_all}
+use Rattle.std.proofs.lemmas.List.{drop_all, map-append}
 use Rattle.std.specs.Option.{option_map}
 use Rattle.cedar_ast.proofs.TreeLemmas.{drop-at}
 use Rattle.cedar_compare.proofs.AllLemmas.{subjects_sorted}
-use Rattle.cedar_compare.proofs.ReportedLemmas.{AnswersSoFar, map_append, reported_all, reported_kept, reported_none}
+use Rattle.cedar_compare.proofs.ReportedLemmas.{AnswersSoFar, reported_all, reported_kept, reported_none}
 use Rattle.cedar_compare.proofs.RequestSteps.{kept_none, reported_found}
 use Rattle.cedar_compare.proofs.requests.lost_with_principal.Goals as goal
 use Rattle.cedar_compare.proofs.requests.lost_with_principal.Goals.{in-Some+in_ok-push, in_default}
@@ -56,7 +56,7 @@ loop-resource-preserved c =
           let it = w.in-Some.difference in
           let is : map plain_difference c.match-branch-2.lost.items ≡ reported ++ plain_difference it ∷ [] =
           ap (λ (lost : Vec Difference Global). map plain_difference lost.items) w.lost-is
-          ∙ (ap (map plain_difference) w.in_ok-push.ensures.items ∙ map_append plain_difference c.loop-resource.lost.items (it ∷ [])) in
+          ∙ (ap (map plain_difference) w.in_ok-push.ensures.items ∙ map-append plain_difference c.loop-resource.lost.items (it ∷ [])) in
           subst R (sym is) (reported_found extensions old new all rest reported first (plain_difference it)
           (subst Q w.in-Some.is c.in_ok-difference.ensures) so_far)
       | in_default w ↦

@@ -1,9 +1,9 @@
 use Rattle.std.proofs.Common.{◌≡◌, ◌+◌, ◌++◌, [], ◌∷◌, All, Bor, List, ap, drop, map, subst, sym, take, ◌∙◌}
-use Rattle.std.proofs.lemmas.List.{take-append-drop, take_all, take_more}
+use Rattle.std.proofs.lemmas.List.{map-append, take-append-drop, take_all, take_more}
 use Rattle.std.specs.List.{flat_map}
 use Rattle.std.specs.List.Sorted.{IsStrictlySortedBy}
 use Rattle.cedar_ast.proofs.TreeLemmas.{drop-at}
-use Rattle.cedar_compare.proofs.ReportedLemmas.{answered_none, map_append}
+use Rattle.cedar_compare.proofs.ReportedLemmas.{answered_none}
 use Rattle.cedar_compare.proofs.RequestSteps.{principals_more}
 use Rattle.cedar_compare.proofs.requests.lost_with_principals.Goals as goal
 use Rattle.cedar_compare.specs.Words.{AreAnswers, EntityType, IsEnvironmentOf, PlainDifference, PlainName, environment_with, name_cmp, new_of, old_of, plain_difference, subjects_with, type_name, uid_of}
@@ -40,17 +40,17 @@ loop-principal-preserved c =
     let reported = map plain_difference c.loop-principal.lost.items in
     let more = map plain_difference c.in_ok-more.more.items in
     let parts : front ++ type_name item.now ∷ rest ≡ names principals =
-    sym (map_append (λ (ty : Bor EntityType). type_name ty.now) (take i principals) (item ∷ drop (i + 1) principals))
+    sym (map-append (λ (ty : Bor EntityType). type_name ty.now) (take i principals) (item ∷ drop (i + 1) principals))
     ∙ ap names (ap (λ (types : List (Bor EntityType)). take i principals ++ types)
     (sym (drop-at principals i item c.loop-principal-test.true c.principal-item.is))
     ∙ take-append-drop i principals) in
     let front_more : names (take (i + 1) principals) ≡ front ++ type_name item.now ∷ [] =
     ap names (take_more principals i item c.loop-principal-test.true
     ∙ ap (λ (ty : Bor EntityType). take i principals ++ ty ∷ []) (sym c.principal-item.is))
-    ∙ map_append (λ (ty : Bor EntityType). type_name ty.now) (take i principals) (item ∷ []) in
+    ∙ map-append (λ (ty : Bor EntityType). type_name ty.now) (take i principals) (item ∷ []) in
     let reported_more : map plain_difference c.append.new.self.items ≡ reported ++ more =
     ap (map plain_difference) c.in_ok-append.ensures.items
-    ∙ map_append plain_difference c.loop-principal.lost.items c.in_ok-more.more.items in
+    ∙ map-append plain_difference c.loop-principal.lost.items c.in_ok-more.more.items in
     let P : List PlainName → Type 0 = IsStrictlySortedBy name_cmp in
     let Q : List PlainName → Type 0 = λ ps. AreAnswers extensions old new (flat_map (λ p. subjects_with uid p resources) ps) (reported ++ more) in
     let R : List PlainDifference → Type 0 =

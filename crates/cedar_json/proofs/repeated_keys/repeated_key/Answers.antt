@@ -1,7 +1,8 @@
 use Rattle.std.proofs.Common.{ap, sym, ◌∙◌, Some, length, ◌<◌, arith}
 use Rattle.std.proofs.lemmas.Map.Text.{btree_map_updates_str}
+use Rattle.cedar_ast.proofs.Basics.{is_some-none}
 use Rattle.cedar_json.proofs.FieldLemmas.{nth_member-is}
-use Rattle.cedar_json.proofs.KeyLemmas.{all_seen, held, key_here, nothing, seen_before, seen_more}
+use Rattle.cedar_json.proofs.KeyLemmas.{all_seen, held, key_here, seen_before, seen_more}
 use Rattle.cedar_json.proofs.repeated_keys.repeated_key.Goals as goal
 
 pub returns-then-is_some : goal.returns-then-is_some
@@ -22,7 +23,7 @@ loop-index-preserved c =
     let x = c.member-item.result in
     let within : c.loop-index.index < length all = omega (arith, c.loop-index-test.true, ap length c.deref-member-items.ensures.value) in
     let is = key_here xs all c.loop-index.index x c.deref-member-items.ensures.value c.loop-index-test.true c.member-item.is in
-    let none = nothing c.in_ok-insert.field-0 (sym c.is_some.ensures ∙ c.if-is_some.false) in
+    let none = is_some-none c.in_ok-insert.field-0 (sym c.is_some.ensures ∙ c.if-is_some.false) in
     seen_more all c.loop-index.seen c.insert.new.self c.loop-index.index x within is c.loop-index.invariant
     (sym c.in_ok-insert.ensures.old ∙ none)
     (btree_map_updates_str x.0.now c.loop-index.seen c.insert.new.self (Some c.loop-index.index) c.in_ok-insert.ensures.updates)

@@ -1,6 +1,7 @@
 use Rattle.std.proofs.Common.{None, OnOk, Option, codes, map, option_map, subst, sym}
 use Rattle.std.proofs.lemmas.Result.{err_from_is_err_and}
-use Rattle.cedar_json_writer.proofs.WritingLemmas.{checked, object_by, on_ok}
+use Rattle.cedar_ast.proofs.Basics.{OnOk-map}
+use Rattle.cedar_json_writer.proofs.WritingLemmas.{checked, object_by}
 use Rattle.cedar_json_writer.proofs.WrittenActions.{requests_added, requests_free}
 use Rattle.cedar_json_writer.proofs.actions.write_applies_to_field.Goals as goal
 use Rattle.cedar_json_writer.specs.Words.{AddsField, Entity, IfThere, IsChecked, IsFlawOf, RawName, SoundRequests, flaws_in, raw_expr, raw_reference, reference_array, requests_document, requests_flaws, shape_held, written_requests}
@@ -11,7 +12,7 @@ returns-clause-written c =
     let it = c.in-Some.it in
     subst (λ (o : Option (ApplySpec RawName)). OnOk c.close_object.result (AddsField c.args.out.now c.close_object.new.out (codes "appliesTo")
     (option_map requests_document (option_map written_requests o)))) (sym c.in-Some.is)
-    (on_ok c.close_object.result c.close_object.ensures.written
+    (OnOk-map c.close_object.result c.close_object.ensures.written
     (λ ended. object_by c.args.out.now c.open_object.new.out c.close_object.new.out (codes "appliesTo") (requests_document (written_requests it))
     c.in_ok-open_object.ensures
     (λ begun. requests_added _ c.open_object.new.out c.write_names_field.new.out c.write_names_field-2.new.out c.write_shape_field.new.out

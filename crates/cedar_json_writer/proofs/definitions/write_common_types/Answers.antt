@@ -1,8 +1,9 @@
 use Rattle.std.proofs.Common.{List, refl, subst, sym, ◌∙◌, codes}
 use Rattle.std.proofs.Common.{None as nothing}
 use Rattle.std.proofs.lemmas.Bool.{false≢true}
+use Rattle.cedar_ast.proofs.Basics.{OnOk-map}
 use Rattle.cedar_json.proofs.NameLemmas.{common_key-read}
-use Rattle.cedar_json_writer.proofs.WritingLemmas.{checked_as, field_absent, on_ok}
+use Rattle.cedar_json_writer.proofs.WritingLemmas.{checked_as, field_absent}
 use Rattle.cedar_json_writer.proofs.WrittenDefinitions.{declarations_free, no_common_types, none_free, some_common_types}
 use Rattle.cedar_json_writer.proofs.definitions.write_common_types.Goals as goal
 use Rattle.cedar_json_writer.specs.Words.{AddsField, CommonType, Expr, RawName, SoundType, Text, common_key, common_type_text, common_types_held, raw_expr, type_flaws, written_common_types}
@@ -10,7 +11,7 @@ use Rattle.cedar_json_writer.specs.Words.{AddsField, CommonType, Expr, RawName, 
 -- where there are some, the object holds them all
 pub returns-clause-written : goal.returns-clause-written
 returns-clause-written c =
-    on_ok c.write_field.result c.write_field.ensures.written (some_common_types c.args.out.now c.write_field.new.out c.args.all.now
+    OnOk-map c.write_field.result c.write_field.ensures.written (some_common_types c.args.out.now c.write_field.new.out c.args.all.now
     (λ none. false≢true (sym c.if-is_empty.false ∙ c.is_empty.ensures.1 none)))
 
 -- and they are declarations

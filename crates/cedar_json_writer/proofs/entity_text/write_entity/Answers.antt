@@ -1,7 +1,8 @@
 use Rattle.std.proofs.Common.{◌≡◌, ◌++◌, ◌∷◌, [], Global, Some, String, codes, subst}
 use Rattle.std.proofs.lemmas.Result.{err_from_is_err_and}
 use Rattle.std.specs.BTreeMap.{BTreeMap}
-use Rattle.cedar_json_writer.proofs.WritingLemmas.{flaw_left, flaw_right, flawless_checked, none_both, on_ok}
+use Rattle.cedar_ast.proofs.Basics.{OnOk-map}
+use Rattle.cedar_json_writer.proofs.WritingLemmas.{flaw_left, flaw_right, flawless_checked, none_both}
 use Rattle.cedar_json_writer.proofs.WrittenEntityData.{entity_added}
 use Rattle.cedar_json_writer.proofs.entity_text.write_entity.Goals as goal
 use Rattle.cedar_json_writer.specs.Words.{AddsField, IsFlawOf, PlainUid, Value, entity_ancestors, entity_attrs, entity_flaws, entity_tags, entity_uid, pairs_document, pairs_flaws, tags_held, uid_array, uid_document, written_pairs}
@@ -14,7 +15,7 @@ MaybeShared = BTreeMap (String Global) Value
 pub returns-clause-written : goal.returns-clause-written
 returns-clause-written c =
     let it = c.args.entity.now in
-    on_ok c.close_object.result c.close_object.ensures.written (λ ended. entity_added c.args.out.now c.open_with_uid.new.out c.write_attribute_values.new.out
+    OnOk-map c.close_object.result c.close_object.ensures.written (λ ended. entity_added c.args.out.now c.open_with_uid.new.out c.write_attribute_values.new.out
     c.token.new.self c.write_ancestors.new.out c.write_tags.new.out c.close_object.new.out (uid_document (entity_uid it))
     (pairs_document (written_pairs (entity_attrs it))) (uid_array (entity_ancestors it)) (tags_held (written_pairs (entity_tags it)))
     (subst (λ (uid : PlainUid). AddsField (c.args.out.now ++ begin_object ∷ []) c.open_with_uid.new.out (codes "uid") (Some (uid_document uid)))

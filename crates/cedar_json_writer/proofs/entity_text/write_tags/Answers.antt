@@ -1,6 +1,7 @@
 use Rattle.std.proofs.Common.{refl, sym, ◌∙◌}
 use Rattle.std.proofs.lemmas.Bool.{false≢true}
-use Rattle.cedar_json_writer.proofs.WritingLemmas.{flawless_as, on_ok}
+use Rattle.cedar_ast.proofs.Basics.{OnOk-map}
+use Rattle.cedar_json_writer.proofs.WritingLemmas.{flawless_as}
 use Rattle.cedar_json_writer.proofs.WrittenEntityData.{some_tags, tags_absent, tags_free}
 use Rattle.cedar_json_writer.proofs.entity_text.write_tags.Goals as goal
 use Rattle.cedar_json_writer.specs.Words.{SoundPairs, pairs_flaws, written_pairs}
@@ -14,7 +15,7 @@ returns-then-is_empty-clause-checked c = tags_free c.args.tags.now (c.is_empty.e
 
 pub returns-clause-written : goal.returns-clause-written
 returns-clause-written c =
-    on_ok c.write_attribute_values.result c.write_attribute_values.ensures.written
+    OnOk-map c.write_attribute_values.result c.write_attribute_values.ensures.written
     (some_tags c.args.out.now c.write_attribute_values.new.out c.args.tags.now
     (λ none. false≢true (sym c.if-is_empty.false ∙ c.is_empty.ensures.1 none)))
 

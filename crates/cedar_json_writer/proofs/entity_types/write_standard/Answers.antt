@@ -1,6 +1,7 @@
 use Rattle.std.proofs.Common.{None, codes, map, option_map}
 use Rattle.std.proofs.lemmas.Result.{err_from_is_err_and}
-use Rattle.cedar_json_writer.proofs.WritingLemmas.{checked_as, fields_after, flaw_left, flaw_right, on_ok}
+use Rattle.cedar_ast.proofs.Basics.{OnOk-map}
+use Rattle.cedar_json_writer.proofs.WritingLemmas.{checked_as, fields_after, flaw_left, flaw_right}
 use Rattle.cedar_json_writer.proofs.WrittenEntities.{standard_free}
 use Rattle.cedar_json_writer.proofs.entity_types.write_standard.Goals as goal
 use Rattle.cedar_json_writer.specs.Words.{Entity, flaws_in, optional_member, parents_held, raw_expr, raw_reference, shape_held, type_document, type_flaws}
@@ -11,7 +12,7 @@ returns-clause-written c =
     let p = optional_member (codes "memberOfTypes") (parents_held (map (raw_reference None Entity) it.member_of_types.items)) in
     let s = optional_member (codes "shape") (shape_held (raw_expr None it.shape.0)) in
     let t = optional_member (codes "tags") (option_map type_document (option_map (raw_expr None) it.tags)) in
-    on_ok c.write_tags_field.result c.write_tags_field.ensures.written
+    OnOk-map c.write_tags_field.result c.write_tags_field.ensures.written
     (λ third. fields_after c.args.out.now c.write_shape_field.new.out c.write_tags_field.new.out (λ rest. p (s rest)) t
     (fields_after c.args.out.now c.write_parents_field.new.out c.write_shape_field.new.out p s c.in_ok-write_parents_field.ensures
     c.in_ok-write_shape_field.ensures.written) third)

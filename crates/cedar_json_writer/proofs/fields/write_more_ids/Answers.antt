@@ -1,6 +1,7 @@
 use Rattle.std.proofs.Common.{◌≡◌, ◌+◌, ◌∷◌, List, ℕ, drop, drop_of_length-le, ap, ◌∙◌, ◌++◌, []}
+use Rattle.cedar_ast.proofs.Basics.{OnOk-map}
 use Rattle.cedar_ast.proofs.TreeLemmas.{drop-at}
-use Rattle.cedar_json_writer.proofs.WritingLemmas.{item_turn, items_ended, on_ok}
+use Rattle.cedar_json_writer.proofs.WritingLemmas.{item_turn, items_ended}
 use Rattle.cedar_json_writer.proofs.WrittenNames.{id_item, ids_added}
 use Rattle.cedar_json_writer.proofs.fields.write_more_ids.Goals as goal
 use Rattle.json.specs.Token.{string}
@@ -18,6 +19,6 @@ pub returns : goal.returns
 returns c =
     let l = c.loop-id in
     let xs = c.deref-id-items.result.now in
-    on_ok c.token-2.result c.token-2.ensures.ok (λ ended. ids_added c.args.out.now c.token-2.new.self xs c.args.ids.now.items c.deref-id-items.ensures.value
+    OnOk-map c.token-2.result c.token-2.ensures.ok (λ ended. ids_added c.args.out.now c.token-2.new.self xs c.args.ids.now.items c.deref-id-items.ensures.value
     (items_ended id_item c.args.out.now l.out c.token-2.new.self xs (drop l.id-index xs) l.invariant
     (drop_of_length-le xs c.loop-id-test.false) ended))

@@ -1,6 +1,7 @@
 use Rattle.std.proofs.Common.{Bool, List, None, OnOk, Some, ℕ, ap, refl, subst, sym, ◌∙◌}
 use Rattle.std.proofs.lemmas.Result.{err_from_is_err_and}
-use Rattle.cedar_json_writer.proofs.WritingLemmas.{begun, checked, checked_as, member_flaw, members_ended, members_free, object_added, object_by, on_ok, turn}
+use Rattle.cedar_ast.proofs.Basics.{OnOk-map}
+use Rattle.cedar_json_writer.proofs.WritingLemmas.{begun, checked, checked_as, member_flaw, members_ended, members_free, object_added, object_by, turn}
 use Rattle.cedar_json_writer.proofs.WrittenTypes.{FreeType, attribute_added, attributes_shape, either_fields, either_free, entity_fields, entity_free, extension_free, listed, long_fields, long_free, record_fields, record_flaw, record_free, set_fields, set_flaw, set_free, text_fields, text_free, truth_fields, truth_free}
 use Rattle.cedar_json_writer.proofs.types.+type_writing.Goals as goal
 use Rattle.cedar_json_writer.specs.Words.{AddsField, AddsFields, Expr, IsChecked, IsFlawOf, RawName, SoundType, attribute_document, out-RecordType, raw_attribute, raw_expr, raw_reference, raw_variant, type_flaws, type_members}
@@ -13,7 +14,7 @@ pub write_variant-returns-in-String-clause-written : goal.write_variant-returns-
 write_variant-returns-in-String-clause-written t c =
     subst (λ (ty : Expr). OnOk c.write_word.result (AddsFields c.args.out.now c.write_word.new.out (type_members ty)))
     (sym (ap (raw_variant None) c.in-String.is ∙ raw_variant-String None))
-    (on_ok c.write_word.result c.write_word.ensures.written (text_fields c.args.out.now c.write_word.new.out))
+    (OnOk-map c.write_word.result c.write_word.ensures.written (text_fields c.args.out.now c.write_word.new.out))
 
 -- the string type has no flaws
 pub write_variant-returns-in-String-clause-checked : goal.write_variant-returns-in-String-clause-checked
@@ -26,7 +27,7 @@ pub write_variant-returns-in-Long-clause-written : goal.write_variant-returns-in
 write_variant-returns-in-Long-clause-written t c =
     subst (λ (ty : Expr). OnOk c.write_word-in-Long.result (AddsFields c.args.out.now c.write_word-in-Long.new.out (type_members ty)))
     (sym (ap (raw_variant None) c.in-Long.is ∙ raw_variant-Long None))
-    (on_ok c.write_word-in-Long.result c.write_word-in-Long.ensures.written (long_fields c.args.out.now c.write_word-in-Long.new.out))
+    (OnOk-map c.write_word-in-Long.result c.write_word-in-Long.ensures.written (long_fields c.args.out.now c.write_word-in-Long.new.out))
 
 -- the long type has no flaws
 pub write_variant-returns-in-Long-clause-checked : goal.write_variant-returns-in-Long-clause-checked
@@ -39,7 +40,7 @@ pub write_variant-returns-in-Boolean-clause-written : goal.write_variant-returns
 write_variant-returns-in-Boolean-clause-written t c =
     subst (λ (ty : Expr). OnOk c.write_word-in-Boolean.result (AddsFields c.args.out.now c.write_word-in-Boolean.new.out (type_members ty)))
     (sym (ap (raw_variant None) c.in-Boolean.is ∙ raw_variant-Boolean None))
-    (on_ok c.write_word-in-Boolean.result c.write_word-in-Boolean.ensures.written (truth_fields c.args.out.now c.write_word-in-Boolean.new.out))
+    (OnOk-map c.write_word-in-Boolean.result c.write_word-in-Boolean.ensures.written (truth_fields c.args.out.now c.write_word-in-Boolean.new.out))
 
 -- the boolean type has no flaws
 pub write_variant-returns-in-Boolean-clause-checked : goal.write_variant-returns-in-Boolean-clause-checked
@@ -52,7 +53,7 @@ pub write_variant-returns-in-Entity-clause-written : goal.write_variant-returns-
 write_variant-returns-in-Entity-clause-written t c =
     subst (λ (ty : Expr). OnOk c.write_named.result (AddsFields c.args.out.now c.write_named.new.out (type_members ty)))
     (sym (ap (raw_variant None) c.in-Entity.is ∙ raw_variant-Entity None c.in-Entity.name))
-    (on_ok c.write_named.result c.write_named.ensures.written (entity_fields c.args.out.now c.write_named.new.out c.in-Entity.name))
+    (OnOk-map c.write_named.result c.write_named.ensures.written (entity_fields c.args.out.now c.write_named.new.out c.in-Entity.name))
 
 -- a reference to an entity type has no flaws
 pub write_variant-returns-in-Entity-clause-checked : goal.write_variant-returns-in-Entity-clause-checked
@@ -65,7 +66,7 @@ pub write_variant-returns-in-EntityOrCommon-clause-written : goal.write_variant-
 write_variant-returns-in-EntityOrCommon-clause-written t c =
     subst (λ (ty : Expr). OnOk c.write_named-in-EntityOrCommon.result (AddsFields c.args.out.now c.write_named-in-EntityOrCommon.new.out (type_members ty)))
     (sym (ap (raw_variant None) c.in-EntityOrCommon.is ∙ variant-EntityOrCommon RawName (raw_reference None) c.in-EntityOrCommon.type_name))
-    (on_ok c.write_named-in-EntityOrCommon.result c.write_named-in-EntityOrCommon.ensures.written (either_fields c.args.out.now c.write_named-in-EntityOrCommon.new.out c.in-EntityOrCommon.type_name))
+    (OnOk-map c.write_named-in-EntityOrCommon.result c.write_named-in-EntityOrCommon.ensures.written (either_fields c.args.out.now c.write_named-in-EntityOrCommon.new.out c.in-EntityOrCommon.type_name))
 
 -- a reference to an entity or common type has no flaws
 pub write_variant-returns-in-EntityOrCommon-clause-checked : goal.write_variant-returns-in-EntityOrCommon-clause-checked
@@ -88,7 +89,7 @@ write_variant-returns-in-Extension-clause-checked t c =
 -- a set type is written as the word `Set` and the type of its elements
 pub write_set-returns-clause-written : goal.write_set-returns-clause-written
 write_set-returns-clause-written t c =
-    on_ok c.write_type.result c.write_type.ensures.written
+    OnOk-map c.write_type.result c.write_type.ensures.written
     (set_fields c.args.out.now c.write_form.new.out c.write_type.new.out (raw_expr None c.args.element.now) c.in_ok-write_form.ensures)
 
 -- a record type is written as the word `Record`, the object of its attributes, and its flag if set
@@ -98,7 +99,7 @@ write_record-returns-clause-written t c =
     let entries = (out-RecordType RawName it).attributes.entries in
     subst (λ (ty : Expr). OnOk c.close_attributes.result (AddsFields c.args.out.now c.close_attributes.new.out (type_members ty)))
     (sym (raw_record-entries None it))
-    (on_ok c.close_attributes.result c.close_attributes.ensures.written
+    (OnOk-map c.close_attributes.result c.close_attributes.ensures.written
     (record_fields c.args.out.now c.write_form.new.out c.token.new.self _ c.close_attributes.new.out (listed entries)
     (out-RecordType RawName it).additional_attributes c.in_ok-write_form.ensures c.in_ok-token.ensures.ok
     (members_ended attributes_shape c.token.new.self c.loop-name.out _ entries c.loop-name.name-iterator c.loop-name.invariant
@@ -160,7 +161,7 @@ write_attribute-returns-clause-written t c =
     subst (λ (parts : Bool × Expr). OnOk c.close_with_flag.result (AddsField c.args.out.now c.close_with_flag.new.out c.args.name.now
     (Some (attribute_document parts.0 parts.1))))
     (sym (raw_attribute-parts None c.args.attribute.now))
-    (on_ok c.close_with_flag.result c.close_with_flag.ensures.written
+    (OnOk-map c.close_with_flag.result c.close_with_flag.ensures.written
     (λ ended. object_by c.args.out.now c.open_object.new.out c.close_with_flag.new.out c.args.name.now
     (attribute_document it.required (raw_expr None it.ty)) c.in_ok-open_object.ensures
     (λ begun. attribute_added _ c.open_object.new.out c.write_fields.new.out c.close_with_flag.new.out it.required
@@ -176,7 +177,7 @@ write_attribute-returns-clause-checked t c =
 -- a type is written as the object of its fields
 pub write_type-returns-clause-written : goal.write_type-returns-clause-written
 write_type-returns-clause-written t c =
-    on_ok c.close_object.result c.close_object.ensures.written
+    OnOk-map c.close_object.result c.close_object.ensures.written
     (λ ended. object_added c.args.out.now c.token.new.self c.write_fields.new.out c.close_object.new.out (type_members (raw_expr None c.args.ty.now))
     c.in_ok-token.ensures.ok c.in_ok-write_fields.ensures.written ended)
 

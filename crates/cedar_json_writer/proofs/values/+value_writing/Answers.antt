@@ -1,8 +1,9 @@
 use Rattle.std.proofs.Common.{◌≡◌, ◌+◌, ◌++◌, ◌∷◌, [], List, ℕ, OnOk, string_bytes, ap, drop, drop_of_length-le, arith, refl, subst, sym, ◌∙◌}
 use Rattle.std.proofs.lemmas.Result.{err_from_is_err_and}
+use Rattle.cedar_ast.proofs.Basics.{OnOk-map}
 use Rattle.cedar_ast.proofs.TreeLemmas.{drop-at, tree_of-call, tree_of-record, tree_of-uid}
 use Rattle.cedar_ast.proofs.ValueCopies.{tree_of-text, tree_of-truth}
-use Rattle.cedar_json_writer.proofs.WritingLemmas.{begun, checked, member_flaw, members_added, members_free, on_ok, turn_by}
+use Rattle.cedar_json_writer.proofs.WritingLemmas.{begun, checked, member_flaw, members_added, members_free, turn_by}
 use Rattle.cedar_json_writer.proofs.WrittenValues.{FreeValue, argument_flaw, arity_flaw, call_added, call_free, long_added, long_free, one_item, pairs_free, pairs_shape, record_document, record_free, record_key_flaw, record_value_flaw, text_added, text_free, tree_of-long, truth_added, truth_free, uid_free, values_added, values_flaw, values_free, values_turn}
 use Rattle.cedar_json_writer.proofs.values.+value_writing.Goals as goal
 use Rattle.cedar_json_writer.specs.Words.{AddsValue, IsChecked, IsFlawOf, RestrictedExpr, SoundValue, Tree, call_value, entries_of, plain_name, set_value, tree_of, trees_of, value_document, value_flaws}
@@ -65,7 +66,7 @@ write_record_value-loop-name-preserved t c =
 -- where no value is left, the object has all of them, and is the record's document
 pub write_record_value-returns-clause-written : goal.write_record_value-returns-clause-written
 write_record_value-returns-clause-written t c =
-    on_ok c.close_object.result c.close_object.ensures.written
+    OnOk-map c.close_object.result c.close_object.ensures.written
     (λ ended. subst (AddsValue c.args.out.now c.close_object.new.out) (record_document (entries_of c.args.values.now))
     (members_added (pairs_shape tree_of) c.args.out.now c.token.new.self c.loop-name.out c.close_object.new.out
     c.args.values.now.entries c.loop-name.name-iterator c.loop-name.invariant
@@ -111,7 +112,7 @@ pub write_value-returns-in-Long-clause-written : goal.write_value-returns-in-Lon
 write_value-returns-in-Long-clause-written t c =
     subst (λ (value : Tree). OnOk c.write_number.result (AddsValue c.args.out.now c.write_number.new.out (value_document value)))
     (sym (ap tree_of c.in-Long.is ∙ tree_of-long c.in-Long.number))
-    (on_ok c.write_number.result c.write_number.ensures.written (long_added c.args.out.now c.write_number.new.out c.in-Long.number))
+    (OnOk-map c.write_number.result c.write_number.ensures.written (long_added c.args.out.now c.write_number.new.out c.in-Long.number))
 
 -- a long has no flaws, as it has 64 bits
 pub write_value-returns-in-Long-clause-checked : goal.write_value-returns-in-Long-clause-checked
@@ -178,7 +179,7 @@ write_call-returns-clause-written t c =
     let only : items ≡ argument ∷ [] = one_item items argument (omega (arith, c.args.args.now.ok.0)) c.index.ensures in
     subst (λ (each : List RestrictedExpr). OnOk c.close_call.result (AddsValue c.args.out.now c.close_call.new.out
     (value_document (call_value (plain_name c.args.function.now) (trees_of each))))) (sym only)
-    (on_ok c.close_call.result c.close_call.ensures.written (call_added c.args.out.now c.open_call.new.out c.write_value.new.out
+    (OnOk-map c.close_call.result c.close_call.ensures.written (call_added c.args.out.now c.open_call.new.out c.write_value.new.out
     c.close_call.new.out c.args.function.now argument c.in_ok-open_call.ensures c.in_ok-write_value.ensures.written))
 
 -- where the one argument has no flaws, the call has none

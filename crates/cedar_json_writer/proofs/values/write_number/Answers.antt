@@ -1,5 +1,5 @@
 use Rattle.std.proofs.Common.{rules}
-use Rattle.cedar_json_writer.proofs.WrittenValues.{long_true}
+use Rattle.cedar_json.proofs.NumberLemmas.{long_true}
 use Rattle.cedar_json_writer.proofs.values.write_number.Goals as goal
 use Rattle.json.proofs.Printed.Decimals.{IsNumber-signed_decimal}
 

@@ -1,11 +1,12 @@
 use Rattle.std.proofs.Common.{Contains, subst}
 use Rattle.std.specs.List.{filter}
+use Rattle.cedar_ast.proofs.Basics.{Contains-image}
 use Rattle.cedar_ast.proofs.Lists.{Contains-preimage}
 use Rattle.cedar_queries.proofs.NameLemmas.{has_name-Decides}
 use Rattle.cedar_queries.proofs.SelectedLemmas.{Contains-kept}
 use Rattle.cedar_queries.proofs.theorems.ancestors_are_inverted_descendants.Goals as goal
 use Rattle.cedar_queries.specs.Words.{PlainName, SchemaEntityType, has_name}
-use Rattle.cedar_schema_semantics.proofs.OccurrenceLemmas.{Contains-filter, Contains-image}
+use Rattle.cedar_schema_semantics.proofs.OccurrenceLemmas.{Contains-filter}
 
 pub returns : goal.returns
 returns c schema lower upper = (

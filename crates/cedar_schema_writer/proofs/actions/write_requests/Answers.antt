@@ -1,5 +1,6 @@
 use Rattle.std.proofs.Common.{Some, ap, sym, ◌∙◌}
-use Rattle.cedar_schema_writer.proofs.KindLemmas.{defined_written, principal_of, resource_of, sound_action}
+use Rattle.cedar_schema_elements.proofs.KindLemmas.{principal_of, resource_of}
+use Rattle.cedar_schema_writer.proofs.KindLemmas.{defined_written, sound_action}
 use Rattle.cedar_schema_writer.proofs.Refusals.{refusal_passed}
 use Rattle.cedar_schema_writer.proofs.actions.write_requests.Goals as goal
 use Rattle.cedar_schema_writer.specs.Words.{action_of, known_names, plain_namespace, ty_of}

@@ -6,11 +6,11 @@ use Rattle.std.specs.Map.{lookup}
 use Rattle.std.specs.Option.{option_cmp}
 use Rattle.std.specs.String.{string_cmp}
 use Rattle.std.specs.declared.string.String.{String}
+use Rattle.cedar_ast.proofs.Basics.{Contains-image, is_eq-Equal}
 use Rattle.cedar_ast.proofs.Texts.{text_cmp-Equal}
 use Rattle.cedar_ast.specs.contracts.name.NameOrd.TheImpl as name_ord
-use Rattle.cedar_schema_semantics.proofs.OccurrenceLemmas.{Contains-image}
 use Rattle.cedar_schema_writer.proofs.Answered.{on_to}
-use Rattle.cedar_schema_writer.proofs.DefinitionLemmas.{absent_key, end-some, inserted-some, one_more_end, put_again, shown_inserted, tied, was_declared}
+use Rattle.cedar_schema_writer.proofs.DefinitionLemmas.{absent_key, end-some, inserted-some, one_more_end, put_again, shown_inserted, was_declared}
 use Rattle.cedar_schema_writer.proofs.definitions.put_action.Goals as goal
 use Rattle.cedar_schema_writer.specs.Words.{ActionType, AppliesIfDefined, Declaration, IsProper, NamespaceDefinition, RawName, action_body, action_declared, common_declarations, entity_declarations, plain_namespace, raw_reference}
 
@@ -35,7 +35,7 @@ returns-clause-put c =
     (λ is fresh.
     let absent : lookup (is_at (string_cmp id)) entries ≡ None =
     absent_key (is_at (string_cmp id)) entries (λ key value tie there.
-    let text : string_bytes id ≡ string_bytes key = (text_cmp-Equal (string_bytes id) (string_bytes key)).0 (tied _ tie) in
+    let text : string_bytes id ≡ string_bytes key = (text_cmp-Equal (string_bytes id) (string_bytes key)).0 (is_eq-Equal _ tie) in
     let body = action_body RawName (raw_reference namespace) namespace value in
     fresh body (rw text (was_declared old taken new c.args.namespace definition changed item was (show (key, value))
     (Contains-append_right others (map show entries) (show (key, value)) (Contains-image show entries (key, value) there))))) in

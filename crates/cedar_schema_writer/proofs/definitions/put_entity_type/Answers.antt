@@ -4,13 +4,13 @@ use Rattle.std.proofs.lemmas.Map.Views.{All-values-insert_entry}
 use Rattle.std.specs.BTreeMap.{insert_entry, is_at}
 use Rattle.std.specs.Map.{lookup}
 use Rattle.std.specs.Option.{option_cmp}
+use Rattle.cedar_ast.proofs.Basics.{Contains-image, is_eq-Equal}
 use Rattle.cedar_ast.proofs.Ids.{unreserved_id_ord-text_cmp}
 use Rattle.cedar_ast.proofs.Texts.{text_cmp-Equal}
 use Rattle.cedar_ast.specs.contracts.name.NameOrd.TheImpl as name_ord
 use Rattle.cedar_ast.specs.contracts.unreserved_id.UnreservedIdOrd.TheImpl as id_ord
-use Rattle.cedar_schema_semantics.proofs.OccurrenceLemmas.{Contains-image}
 use Rattle.cedar_schema_writer.proofs.Answered.{on_to}
-use Rattle.cedar_schema_writer.proofs.DefinitionLemmas.{absent_key, inserted-some, middle-some, one_more, put_again, shown_inserted, tied, was_declared}
+use Rattle.cedar_schema_writer.proofs.DefinitionLemmas.{absent_key, inserted-some, middle-some, one_more, put_again, shown_inserted, was_declared}
 use Rattle.cedar_schema_writer.proofs.definitions.put_entity_type.Goals as goal
 use Rattle.cedar_schema_writer.specs.Words.{Declaration, EntityType, IsProper, NamespaceDefinition, RawName, UnreservedId, action_declarations, common_declarations, plain_namespace, raw_entity_body, raw_reference, type_declared, unreserved_id_text}
 
@@ -36,7 +36,7 @@ returns-clause-put c =
     let absent : lookup (is_at ((id_ord.ghosts).cmp id)) entries ≡ None =
     absent_key (is_at ((id_ord.ghosts).cmp id)) entries (λ key value tie there.
     let text : unreserved_id_text id ≡ unreserved_id_text key =
-    (text_cmp-Equal (unreserved_id_text id) (unreserved_id_text key)).0 (tied _ (cc (unreserved_id_ord-text_cmp id key, tie))) in
+    (text_cmp-Equal (unreserved_id_text id) (unreserved_id_text key)).0 (is_eq-Equal _ (cc (unreserved_id_ord-text_cmp id key, tie))) in
     fresh (raw_entity_body namespace value) (rw text (was_declared old taken new c.args.namespace definition changed item was (show (key, value))
     (Contains-append_left (common ++ map show entries) actions (show (key, value))
     (Contains-append_right common (map show entries) (show (key, value)) (Contains-image show entries (key, value) there)))))) in

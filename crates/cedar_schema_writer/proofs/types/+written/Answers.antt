@@ -7,7 +7,8 @@ use Rattle.cedar_schema_writer.proofs.Refusals.{refusal_passed, refusal_weaker}
 use Rattle.cedar_schema_writer.proofs.TypeLemmas.{attributes_all, attributes_more, attributes_none, attributes_sound, next_above, next_sound, put-behind, sound-extension, unsound-none}
 use Rattle.cedar_schema_writer.proofs.types.+written.Goals as goal
 use Rattle.cedar_schema_writer.specs.Words.{RawName, Ty, attribute_of, extension_of, fields_from, fields_of, known_names, plain_attributes, plain_members, plain_name, plain_namespace, raw_reference, raw_variant, record_expr, ty_of, type_written}
-use Rattle.cedar_types.proofs.MemberParts.{attribute_of-parts, ty_of-extension}
+use Rattle.cedar_types.proofs.EqualityLaws.{attribute_of-parts}
+use Rattle.cedar_types.proofs.MemberParts.{ty_of-extension}
 
 -- at first no attribute is written
 pub write_record-loop-name-init : goal.write_record-loop-name-init

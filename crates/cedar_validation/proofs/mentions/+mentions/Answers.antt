@@ -1,8 +1,10 @@
 use Rattle.std.proofs.Common.{◌≡◌, Bool, ap, inl, inr, string_bytes, sym, ◌∙◌}
 use Rattle.std.proofs.lemmas.Result.{err_from_is_err_and}
-use Rattle.cedar_types.proofs.MemberParts.{attribute_of-parts, ty_of-entity, ty_of-extension}
+use Rattle.cedar_ast.proofs.Basics.{OnOk-map}
+use Rattle.cedar_types.proofs.EqualityLaws.{attribute_of-parts}
+use Rattle.cedar_types.proofs.MemberParts.{ty_of-entity, ty_of-extension}
 use Rattle.cedar_validation.proofs.MentionLemmas.{extension_fault}
-use Rattle.cedar_validation.proofs.Results.{on_err, on_ok}
+use Rattle.cedar_validation.proofs.Results.{on_err}
 use Rattle.cedar_validation.proofs.Walk.{walked_all, walked_entity, walked_extension, walked_more}
 use Rattle.cedar_validation.proofs.mentions.+mentions.Goals as goal
 use Rattle.cedar_validation.specs.Words.{ClosedAttributes, IsUnknownIn, Knows, KnowsExtension, Ty, attribute_of, extension_of, fault_of, fields_from, fields_of, plain_attributes, plain_name, record_of, ty_of}
@@ -63,7 +65,7 @@ check_attributes-returns-clause-sound t c =
 pub check_type-returns-in-Entity-clause-sound : goal.check_type-returns-in-Entity-clause-sound
 check_type-returns-in-Entity-clause-sound t c =
     let kind = c.in-Entity.kind in
-    on_ok c.check_kind.result c.check_kind.ensures.sound (λ sound. rw (sym (ap ty_of c.in-Entity.is ∙ ty_of-entity kind)) at sound)
+    OnOk-map c.check_kind.result c.check_kind.ensures.sound (λ sound. rw (sym (ap ty_of c.in-Entity.is ∙ ty_of-entity kind)) at sound)
 
 -- an entity type that is unknown in the kind of entities is unknown in the type
 pub check_type-returns-in-Entity-clause-fault : goal.check_type-returns-in-Entity-clause-fault

@@ -1,15 +1,15 @@
 use Rattle.std.proofs.Common.{◌≡◌, ◌⊎◌, subst, sym, inl, inr, ⊎_elim}
 use Rattle.std.proofs.lemmas.Result.{err_from_is_err_and}
+use Rattle.cedar_ast.proofs.Basics.{Contains-image, OnOk-map}
 use Rattle.cedar_ast.proofs.Lists.{Contains-preimage}
-use Rattle.cedar_schema_semantics.proofs.OccurrenceLemmas.{Contains-image}
-use Rattle.cedar_validation.proofs.Results.{on_err, on_ok}
+use Rattle.cedar_validation.proofs.Results.{on_err}
 use Rattle.cedar_validation.proofs.mentions.check_mentions.Goals as goal
 use Rattle.cedar_validation.specs.Words.{IsTypeIn, IsTypeOfKind, IsUnknownIn, PlainName, SchemaEntityType, Ty, fault_of, out_of_memory, plain_action_entry, plain_entry, plain_parts}
 
 pub returns-clause-sound : goal.returns-clause-sound
 returns-clause-sound c =
     let parts = c.args.known.now.parts.now in
-    on_ok c.check_each-2.result c.check_each-2.ensures.sound
+    OnOk-map c.check_each-2.result c.check_each-2.ensures.sound
     (λ sound of. ⊎_elim
     (λ in_type.
     let entry = Contains-preimage plain_entry parts.entity_types.entries in_type.0 in_type.1 in

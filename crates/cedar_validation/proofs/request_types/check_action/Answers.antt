@@ -1,7 +1,8 @@
 use Rattle.std.proofs.Common.{sym, inl, inr}
 use Rattle.std.proofs.lemmas.Result.{err_from_is_err_and}
-use Rattle.cedar_validation.proofs.RequestTypeLemmas.{for_cases, principal_of, resource_of}
-use Rattle.cedar_validation.proofs.Results.{on_ok}
+use Rattle.cedar_ast.proofs.Basics.{OnOk-map}
+use Rattle.cedar_schema_elements.proofs.KindLemmas.{principal_of, resource_of}
+use Rattle.cedar_validation.proofs.RequestTypeLemmas.{for_cases}
 use Rattle.cedar_validation.proofs.request_types.check_action.Goals as goal
 use Rattle.cedar_validation.specs.Words.{IsMisplaced, action_of, fault_of, plain_parts}
 
@@ -36,7 +37,7 @@ returns-in_err-check_requests-2-clause-fault c =
 pub returns-clause-sound : goal.returns-clause-sound
 returns-clause-sound c =
     let it = action_of c.args.action.now in
-    on_ok c.check_descendants.result c.check_descendants.ensures.sound
+    OnOk-map c.check_descendants.result c.check_descendants.ensures.sound
     (λ descendants. record {
       types = λ name of.
           elim (for_cases it.kind name of) [ inl among ↦ c.in_ok-check_requests.ensures.sound name (rw (sym c.principals.ensures.names) at among) | inr among ↦ c.in_ok-check_requests-2.ensures.sound name (rw (sym c.resources.ensures.names) at among) ];

@@ -1,7 +1,7 @@
 use Rattle.std.proofs.Common.{inr}
+use Rattle.cedar_ast.proofs.Basics.{Contains-image}
 use Rattle.cedar_ast.proofs.Lists.{Contains-preimage}
 use Rattle.cedar_ast.specs.EntityType.{type_name}
-use Rattle.cedar_schema_semantics.proofs.OccurrenceLemmas.{Contains-image}
 use Rattle.cedar_validation.proofs.Keyed.{type_stands}
 use Rattle.cedar_validation.proofs.request_types.check_declared.Goals as goal
 

@@ -1,6 +1,6 @@
 use Rattle.std.proofs.Common.{ap, inr, sym}
+use Rattle.cedar_ast.proofs.Basics.{Contains-image}
 use Rattle.cedar_ast.proofs.Lists.{Contains-preimage}
-use Rattle.cedar_schema_semantics.proofs.OccurrenceLemmas.{Contains-image}
 use Rattle.cedar_validation.proofs.Keyed.{action_stands}
 use Rattle.cedar_validation.proofs.request_types.check_descendants.Goals as goal
 use Rattle.cedar_validation.specs.Words.{uid_of, undeclared_action_descendant}

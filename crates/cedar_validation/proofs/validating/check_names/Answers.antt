@@ -1,9 +1,9 @@
-use Rattle.cedar_validation.proofs.Results.{on_ok}
+use Rattle.cedar_ast.proofs.Basics.{OnOk-map}
 use Rattle.cedar_validation.proofs.validating.check_names.Goals as goal
 
 pub returns-clause-sound : goal.returns-clause-sound
 returns-clause-sound c =
-    on_ok c.check_shadowed_actions.result c.check_shadowed_actions.ensures.sound
+    OnOk-map c.check_shadowed_actions.result c.check_shadowed_actions.ensures.sound
     (λ shadowed. record {
       types = c.in_ok-check_type_names.ensures.sound;
       actions = c.in_ok-check_action_types.ensures.sound;

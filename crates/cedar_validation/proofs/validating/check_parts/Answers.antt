@@ -1,13 +1,14 @@
 use Rattle.std.proofs.Common.{◌≡◌, ◌⊎◌, inl, inr}
 use Rattle.std.proofs.lemmas.Result.{err_from_is_err_and}
-use Rattle.cedar_validation.proofs.Results.{on_err, on_ok}
+use Rattle.cedar_ast.proofs.Basics.{OnOk-map}
+use Rattle.cedar_validation.proofs.Results.{on_err}
 use Rattle.cedar_validation.proofs.Valid.{no_fault}
 use Rattle.cedar_validation.proofs.validating.check_parts.Goals as goal
 use Rattle.cedar_validation.specs.Words.{IsSchemaFault, fault_of, out_of_memory, plain_parts}
 
 pub returns-clause-valid : goal.returns-clause-valid
 returns-clause-valid c =
-    on_ok c.check_actions.result c.check_actions.ensures.sound
+    OnOk-map c.check_actions.result c.check_actions.ensures.sound
     (no_fault c.args.extensions.now (plain_parts c.args.parts.now) c.in_ok-check_names.ensures.sound c.in_ok-check_types.ensures.sound
     c.in_ok-check_hierarchy.ensures.sound)
 

@@ -1,7 +1,7 @@
-use Rattle.std.proofs.Common.{◌≡◌, ◌⊎◌, ◌++◌, List, [], ◌∷◌, None, Some, ap, codes, length, refl, inl, inr, subst, sym, ◌∙◌, arith, Contains}
+use Rattle.std.proofs.Common.{◌≡◌, ◌⊎◌, ◌++◌, [], ◌∷◌, None, Some, ap, codes, length, refl, inl, inr, subst, sym, ◌∙◌, arith, Contains}
 use Rattle.std.proofs.lemmas.List.Sorted.{IsPermutation-refl}
+use Rattle.cedar_ast.proofs.Basics.{Contains-single}
 use Rattle.cedar_ast.proofs.Lists.{Contains-cons, Contains-cons_cases}
-use Rattle.cedar_schema_semantics.proofs.OccurrenceLemmas.{Contains-single}
 use Rattle.declaration_examples.proofs.converted_back.schemas_are_converted_back.Goals as goal
 use Rattle.declaration_examples.specs.Words.{ClosedAttributes, ListsDescendant, PlainName, PlainUid, Reference, SchemaAction, SchemaEntityType, action_named, alias_name, defined_action, end, full_name, plain_kind, record_of, sample_bag, sample_fields, sample_namespace, sample_schema, standard_kind, type_entry, within_sample}
 

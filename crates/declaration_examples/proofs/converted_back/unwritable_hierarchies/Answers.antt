@@ -1,5 +1,5 @@
 use Rattle.std.proofs.Common.{◌≡◌, [], ◌∷◌, ap, codes, refl, get_or, length, arith}
-use Rattle.cedar_schema_semantics.proofs.OccurrenceLemmas.{Contains-single}
+use Rattle.cedar_ast.proofs.Basics.{Contains-single}
 use Rattle.declaration_examples.proofs.converted_back.unwritable_hierarchies.Goals as goal
 use Rattle.declaration_examples.specs.Words.{PlainName, PlainUid, action_named, alias_name, enumerated_kind, external_action, plain_kind}
 

@@ -1,6 +1,7 @@
 use Rattle.std.proofs.Common.{◌≡◌, zero, suc, ap, refl, inl, arith, Contains, codes}
 use Rattle.cedar_ast.proofs.Chains.{first_step}
-use Rattle.cedar_schema_semantics.proofs.BuiltInLemmas.{refers_declared, unlike_texts}
+use Rattle.cedar_schema_semantics.proofs.BuiltInLemmas.{refers_declared}
+use Rattle.cedar_type_rules.proofs.ApartLemmas.{texts_differ}
 use Rattle.declaration_examples.proofs.examples.cycles_name_their_members.Goals as goal
 use Rattle.declaration_examples.specs.Words.{Chain, CommonOrEntity, Expr, Extensions, PlainName, RefersToCommon, alias_name, built_in_name, cycle_bag, cycle_first, cycle_second, declared_common, definitions, more, one, refer_here}
 
@@ -55,14 +56,14 @@ pub returns-clause-built_in : goal.returns-clause-built_in
 returns-clause-built_in c extensions chain =
     let found = in_cycle extensions (built_in_name (codes "Long")) chain in
     not_declared (built_in_name (codes "Long")) found.0
-    (λ same. unlike_texts (codes "A") (codes "Long") refl (ap (λ name. name.base) same))
-    (λ same. unlike_texts (codes "B") (codes "Long") refl (ap (λ name. name.base) same))
+    (λ same. texts_differ (codes "A") (codes "Long") refl (ap (λ name. name.base) same))
+    (λ same. texts_differ (codes "B") (codes "Long") refl (ap (λ name. name.base) same))
     found.1
 
 pub returns-clause-alias : goal.returns-clause-alias
 returns-clause-alias c extensions chain =
     let found = in_cycle extensions (alias_name (codes "Long")) chain in
     not_declared (alias_name (codes "Long")) found.0
-    (λ same. unlike_texts (codes "A") (codes "Long") refl (ap (λ name. name.base) same))
-    (λ same. unlike_texts (codes "B") (codes "Long") refl (ap (λ name. name.base) same))
+    (λ same. texts_differ (codes "A") (codes "Long") refl (ap (λ name. name.base) same))
+    (λ same. texts_differ (codes "B") (codes "Long") refl (ap (λ name. name.base) same))
     found.1

@@ -1,19 +1,19 @@
 use Rattle.std.proofs.Common.{None, false, zero, suc, [], ◌∷◌, ap, refl, inl, inr, arith, codes, Contains}
-use Rattle.cedar_schema_semantics.proofs.BuiltInLemmas.{unlike_texts}
+use Rattle.cedar_type_rules.proofs.ApartLemmas.{texts_differ}
 use Rattle.declaration_examples.proofs.examples.definitions_fulfil_external_declarations.Goals as goal
 use Rattle.declaration_examples.specs.Words.{Entity, Twice, alias_name, external, no_member, one, record_expr, refer_here, standard}
 
 -- no other definition is of the type
 no_other : ¬ Contains (alias_name (codes "Group") ∷ alias_name (codes "Team") ∷ []) (alias_name (codes "User"))
-no_other (zero, below, is) = unlike_texts (codes "Group") (codes "User") refl (ap (λ name. name.base) is)
-no_other (suc zero, below, is) = unlike_texts (codes "Team") (codes "User") refl (ap (λ name. name.base) is)
+no_other (zero, below, is) = texts_differ (codes "Group") (codes "User") refl (ap (λ name. name.base) is)
+no_other (suc zero, below, is) = texts_differ (codes "Team") (codes "User") refl (ap (λ name. name.base) is)
 no_other (suc (suc k), below, is) = omega (arith, below)
 
 -- among the definitions it stands once
 not_twice : ¬ Twice (alias_name (codes "User") ∷ alias_name (codes "Group") ∷ alias_name (codes "Team") ∷ []) (alias_name (codes "User"))
 not_twice (inl here) = no_other here.1
-not_twice (inr (inl here)) = unlike_texts (codes "Group") (codes "User") refl (ap (λ name. name.base) here.0)
-not_twice (inr (inr (inl here))) = unlike_texts (codes "Team") (codes "User") refl (ap (λ name. name.base) here.0)
+not_twice (inr (inl here)) = texts_differ (codes "Group") (codes "User") refl (ap (λ name. name.base) here.0)
+not_twice (inr (inr (inl here))) = texts_differ (codes "Team") (codes "User") refl (ap (λ name. name.base) here.0)
 not_twice (inr (inr (inr none))) = none
 
 pub returns-clause-says : goal.returns-clause-says

@@ -1,8 +1,8 @@
 use Rattle.std.proofs.Common.{◌++◌, sym, None, refl, inl, inr, arith, codes}
 use Rattle.std.proofs.lemmas.Bool.{false≢true}
 use Rattle.std.proofs.lemmas.List.Elements.{Contains-append_right, Contains-append_cases}
+use Rattle.cedar_ast.proofs.Basics.{Contains-image}
 use Rattle.cedar_schema_semantics.proofs.BuiltInLemmas.{alias_of, built_in_path, common_cases}
-use Rattle.cedar_schema_semantics.proofs.OccurrenceLemmas.{Contains-image}
 use Rattle.declaration_examples.proofs.examples.entity_types_take_aliases_away.Goals as goal
 use Rattle.declaration_examples.specs.Words.{CommonOrEntity, Expr, Extensions, IsCommon, PlainName, alias_bag, alias_name, aliases, as_common, as_entity, as_long, as_text, built_in_name, built_ins, declared_common, definitions, long_expr, refer_here, reference_to, text_expr}
 

@@ -1,5 +1,5 @@
 use Rattle.std.proofs.Common.{None, false, zero, suc, [], ◌∷◌, ap, refl, inl, inr, arith, codes, Contains}
-use Rattle.cedar_schema_semantics.proofs.BuiltInLemmas.{unlike_texts}
+use Rattle.cedar_type_rules.proofs.ApartLemmas.{texts_differ}
 use Rattle.declaration_examples.proofs.examples.external_types_below_enumerated_ones.Goals as goal
 use Rattle.declaration_examples.specs.Words.{Entity, Extensions, HasParent, IsExternalType, alias_name, external, more, no_member, one, record_expr, refer_here, standard, tint_bag}
 
@@ -7,8 +7,8 @@ use Rattle.declaration_examples.specs.Words.{Entity, Extensions, HasParent, IsEx
 tint_is_external : IsExternalType tint_bag (alias_name (codes "Tint"))
 tint_is_external = ((2, omega arith, refl), none) where
   none : ¬ Contains (alias_name (codes "Color") ∷ alias_name (codes "Shade") ∷ []) (alias_name (codes "Tint"))
-  none (zero, below, is) = unlike_texts (codes "Color") (codes "Tint") refl (ap (λ name. name.base) is)
-  none (suc zero, below, is) = unlike_texts (codes "Shade") (codes "Tint") refl (ap (λ name. name.base) is)
+  none (zero, below, is) = texts_differ (codes "Color") (codes "Tint") refl (ap (λ name. name.base) is)
+  none (suc zero, below, is) = texts_differ (codes "Shade") (codes "Tint") refl (ap (λ name. name.base) is)
   none (suc (suc k), below, is) = omega (arith, below)
 
 -- it is below the standard type

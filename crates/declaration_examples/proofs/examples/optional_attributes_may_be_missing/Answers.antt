@@ -1,11 +1,11 @@
 use Rattle.std.proofs.Common.{zero, suc, [], ◌∷◌, refl, arith, Contains, codes}
-use Rattle.cedar_schema_semantics.proofs.BuiltInLemmas.{unlike_texts}
+use Rattle.cedar_type_rules.proofs.ApartLemmas.{texts_differ}
 use Rattle.declaration_examples.proofs.examples.optional_attributes_may_be_missing.Goals as goal
 use Rattle.declaration_examples.specs.Words.{admits_long, admits_missing, admits_no_member, admits_record, admits_there, number_value}
 
 -- another name isn't listed
 not_listed : ¬ Contains (codes "a" ∷ []) (codes "b")
-not_listed (zero, below, is) = unlike_texts (codes "a") (codes "b") refl is
+not_listed (zero, below, is) = texts_differ (codes "a") (codes "b") refl is
 not_listed (suc k, below, is) = omega (arith, below)
 
 pub returns-clause-missing : goal.returns-clause-missing

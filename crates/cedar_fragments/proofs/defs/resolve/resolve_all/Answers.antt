@@ -1,11 +1,11 @@
 use Rattle.std.proofs.Common.{map, Contains, arith}
 use Rattle.std.proofs.lemmas.List.{nil_from_length}
+use Rattle.cedar_ast.proofs.Basics.{Contains-image}
 use Rattle.cedar_fragments.proofs.FragmentLemmas.{exit_holds}
 use Rattle.cedar_fragments.proofs.Pairwise.{turn_none, turn_more, turn_all, turn_next}
 use Rattle.cedar_fragments.proofs.QualifiedLemmas.{refused_one}
 use Rattle.cedar_fragments.proofs.defs.resolve.resolve_all.Goals as goal
 use Rattle.cedar_fragments.specs.HeldNames.{held_names}
-use Rattle.cedar_schema_semantics.proofs.OccurrenceLemmas.{Contains-image}
 
 pub loop-name-init : goal.loop-name-init
 loop-name-init g c = turn_none _ _ _ _ _ _ c.into_iter-name-iterator.ensures.into_iter_gives.0 c.new-resolved.ensures.items

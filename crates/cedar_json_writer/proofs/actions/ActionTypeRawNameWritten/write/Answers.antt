@@ -1,7 +1,8 @@
 use Rattle.std.proofs.Common.{false, option_map}
 use Rattle.std.proofs.lemmas.Result.{err_from_is_err_and}
+use Rattle.cedar_ast.proofs.Basics.{OnOk-map}
 use Rattle.cedar_json.specs.ActionFormat.{written_action}
-use Rattle.cedar_json_writer.proofs.WritingLemmas.{checked, on_ok}
+use Rattle.cedar_json_writer.proofs.WritingLemmas.{checked}
 use Rattle.cedar_json_writer.proofs.WrittenActions.{action_added, action_free, attributes_flaw, groups_sound, requests_flaw}
 use Rattle.cedar_json_writer.proofs.actions.ActionTypeRawNameWritten.write.Goals as goal
 use Rattle.cedar_json_writer.specs.Words.{flag_held, pairs_document, parent_array, requests_document}
@@ -9,7 +10,7 @@ use Rattle.cedar_json_writer.specs.Words.{flag_held, pairs_document, parent_arra
 pub returns-clause-written : goal.returns-clause-written
 returns-clause-written c =
     let it = written_action c.args.self.now in
-    on_ok c.close_with_flag.result c.close_with_flag.ensures.written
+    OnOk-map c.close_with_flag.result c.close_with_flag.ensures.written
     (λ ended. action_added c.args.out.now c.token.new.self c.write_applies_to_field.new.out c.write_member_of_field.new.out
     c.write_attributes_field.new.out c.close_with_flag.new.out (option_map requests_document it.applies_to)
     (option_map parent_array it.member_of) (option_map pairs_document it.attributes) (flag_held false it.external) c.in_ok-token.ensures.ok

@@ -1,6 +1,7 @@
 use Rattle.std.proofs.Common.{Global, Some, String, refl, string_bytes}
 use Rattle.std.proofs.lemmas.Result.{err_from_is_err_and}
-use Rattle.cedar_json_writer.proofs.WritingLemmas.{checked, on_ok}
+use Rattle.cedar_ast.proofs.Basics.{OnOk-map}
+use Rattle.cedar_json_writer.proofs.WritingLemmas.{checked}
 use Rattle.cedar_json_writer.proofs.WrittenDefinitions.{action_flaw, common_type_flaw, declarations_free, definition_added, definition_free, entity_type_flaw}
 use Rattle.cedar_json_writer.proofs.WrittenTypes.{id_key-read}
 use Rattle.cedar_json_writer.proofs.definitions.NamespaceDefinitionRawNameWritten.write.Goals as goal
@@ -30,7 +31,7 @@ returns-in_err-write_common_types-clause-checked c =
 pub returns-clause-written : goal.returns-clause-written
 returns-clause-written c =
     let it = c.args.self.now in
-    on_ok c.close_object.result c.close_object.ensures.written
+    OnOk-map c.close_object.result c.close_object.ensures.written
     (λ ended. definition_added c.args.out.now c.token.new.self c.write_field.new.out c.write_field-2.new.out c.write_common_types.new.out
     c.close_object.new.out (object (declared_members entity_type_document (written_entity_types it.entity_types)))
     (object (declared_members action_document (written_actions it.actions))) (common_types_held (written_common_types it.common_types))

@@ -1,6 +1,7 @@
 use Rattle.std.proofs.Common.{refl}
 use Rattle.std.proofs.lemmas.Result.{err_from_is_err_and}
-use Rattle.cedar_json_writer.proofs.WritingLemmas.{begun, checked, member_flaw, members_added, members_free, on_ok, turn_by}
+use Rattle.cedar_ast.proofs.Basics.{OnOk-map}
+use Rattle.cedar_json_writer.proofs.WritingLemmas.{begun, checked, member_flaw, members_added, members_free, turn_by}
 use Rattle.cedar_json_writer.proofs.WrittenDefinitions.{declared_shape, keyed_free}
 use Rattle.cedar_json_writer.proofs.written.BTreeMapWritten.write.Goals as goal
 
@@ -23,7 +24,7 @@ loop-key-preserved g c =
 pub returns-clause-written : goal.returns-clause-written
 returns-clause-written g c =
     let held = g.T.Written in
-    on_ok c.close_object.result c.close_object.ensures.written
+    OnOk-map c.close_object.result c.close_object.ensures.written
     (λ ended. members_added (declared_shape g.K.Key.shown_key g.K.Key.text held.shown held.document held.flaws held.Sound) c.args.out.now c.token.new.self
     c.loop-key.out c.close_object.new.out c.args.self.now.entries c.loop-key.key-iterator c.loop-key.invariant c.in-None.ensures.steps.0
     c.in_ok-token.ensures.ok ended)

@@ -1,10 +1,10 @@
 use Rattle.std.proofs.Common.{ap, subst, sym, ◌∙◌}
-use Rattle.cedar_schema_elements.proofs.ActionEquality.{same_kind}
 use Rattle.cedar_schema_elements.proofs.SetLemmas.{equal-uid, SameItems-uids}
 use Rattle.cedar_schema_elements.proofs.action_id.ValidatorActionId.clone.Goals as goal
 use Rattle.cedar_schema_elements.specs.ActionKind.{plain_kind}
 use Rattle.cedar_schema_elements.specs.Words.{SameActionKind}
 use Rattle.cedar_schema_elements.specs.declared.action_id.ActionParts.{ActionParts}
+use Rattle.cedar_schema_semantics.proofs.SameActions.{kind_itself}
 
 pub copied-requires-clause-equal : goal.copied-requires-clause-equal
 copied-requires-clause-equal c item answer ran = equal-uid item ran.shown.now answer ran.shows ran.says.met.0
@@ -13,7 +13,7 @@ pub returns-clause-kind : goal.returns-clause-kind
 returns-clause-kind c =
     let kind = plain_kind c.args.self.now.parts.value.kind in
     rw c.in_ok-new.ensures.ok (subst (λ copy. SameActionKind copy kind)
-    (sym (c.in_ok-clone-2.ensures ∙ ap (λ (parts : ActionParts). plain_kind parts.kind) c.deref-2.ensures)) (same_kind kind))
+    (sym (c.in_ok-clone-2.ensures ∙ ap (λ (parts : ActionParts). plain_kind parts.kind) c.deref-2.ensures)) (kind_itself kind))
 
 pub returns-clause-descendants : goal.returns-clause-descendants
 returns-clause-descendants c =

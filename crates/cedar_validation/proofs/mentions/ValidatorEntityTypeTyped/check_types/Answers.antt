@@ -1,7 +1,8 @@
 use Rattle.std.proofs.Common.{◌≡◌, ◌⊎◌, Some, sym, ◌∙◌, inr}
 use Rattle.std.proofs.lemmas.Result.{err_from_is_err_and}
+use Rattle.cedar_ast.proofs.Basics.{OnOk-map}
 use Rattle.cedar_validation.proofs.MentionLemmas.{attributes_fault, kind_known, tags_of_kind}
-use Rattle.cedar_validation.proofs.Results.{on_err, on_ok}
+use Rattle.cedar_validation.proofs.Results.{on_err}
 use Rattle.cedar_validation.proofs.mentions.ValidatorEntityTypeTyped.check_types.Goals as goal
 use Rattle.cedar_validation.specs.Words.{IsTypeOfKind, IsUnknownIn, Ty, entity_type_of, fault_of, out_of_memory, ty_of}
 
@@ -19,7 +20,7 @@ pub returns-in-Some-clause-sound : goal.returns-in-Some-clause-sound
 returns-in-Some-clause-sound c =
     let known = c.args.known.now in
     let kind = (entity_type_of c.args.self.now).kind in
-    on_ok c.check_type.result c.check_type.ensures.sound
+    OnOk-map c.check_type.result c.check_type.ensures.sound
     (λ sound. kind_known known kind (rw c.attributes.ensures.fields at c.in_ok-check_attributes.ensures.sound)
     (λ tags is. let both : Some (ty_of c.in-Some.tags.now) ≡ Some tags = c.in-Some.ensures.ty ∙ is in
     let same : ty_of c.in-Some.tags.now ≡ tags = cc in rw same at sound))
