@@ -1,10 +1,11 @@
 //! Lists that are not empty.
 
-ghost use Rattle.std.specs.Prelude.{◌≡◌, IfOk, map};
+ghost use Rattle.std.specs.Prelude.{◌≡◌, IfOk, length, map, min};
 ghost use Rattle.cedar_ast.specs.Words.{eid_text, items_of};
 
 use crate::eid::Eid;
 use crate::memory::M;
+use crate::non_empty_iter::Iter;
 
 /// A list with at least one item.
 #[derive(Debug, Drop, PartialEq, Eq, Hash)]
@@ -13,6 +14,22 @@ pub struct NonEmpty<T> {
     pub head: T,
     /// The other items, in order.
     pub tail: Vec<T>,
+}
+
+impl<T> NonEmpty<T> {
+    /// The items, in order.
+    pub fn iter(&self) -> Iter<'_, T>
+        ensures { result ≡ items_of self.now }
+    {
+        Iter::new(&self.head, self.tail.as_slice())
+    }
+
+    /// How many items there are, or `usize::MAX` where there are more.
+    pub fn len(&self) -> usize
+        ensures { result ≡ min (length (items_of self.now)) 18_446_744_073_709_551_615 }
+    {
+        self.tail.len().saturating_add(1)
+    }
 }
 
 /// Equal ids in the same order.

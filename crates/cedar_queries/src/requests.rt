@@ -33,7 +33,7 @@ enum Role {
 pub struct ApplicableTypes<'a> {
     role: Role,
     current: Option<RequestTypes<'a>>,
-    rest: Values<'a, EntityUID, ValidatorActionId>,
+    rest: Values<'a, ValidatorActionId>,
 }
 
 impl<'a> Model for ApplicableTypes<'a> {

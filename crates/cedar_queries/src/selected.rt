@@ -73,12 +73,12 @@ impl<'a, K, V, T: Test<V>> FusedIterator for Selected<'a, K, V, T> {}
 
 /// The values that are left of those of a map that pass a test, in the order of their keys.
 #[derive(Drop)]
-pub struct SelectedValues<'a, K, V, T: Test<V>> {
-    rest: Values<'a, K, V>,
+pub struct SelectedValues<'a, V, T: Test<V>> {
+    rest: Values<'a, V>,
     test: T,
 }
 
-impl<'a, K, V, T: Test<V>> Model for SelectedValues<'a, K, V, T> {
+impl<'a, V, T: Test<V>> Model for SelectedValues<'a, V, T> {
     ghost use Rattle.std.specs.Prelude.{List};
     ghost use Rattle.std.specs.List.{filter};
 
@@ -87,11 +87,11 @@ impl<'a, K, V, T: Test<V>> Model for SelectedValues<'a, K, V, T> {
     ghost view = { λ a. filter (T.holds a.test) a.rest };
 }
 
-impl<'a, K: Ord + QuickHash, V, T: Test<V>> SelectedValues<'a, K, V, T> {
+impl<'a, V, T: Test<V>> SelectedValues<'a, V, T> {
     ghost use Rattle.cedar_queries.specs.Selected.{values_where};
 
     /// All values of the map that pass.
-    pub(crate) fn new(map: &'a Table<K, V>, test: T) -> Self
+    pub(crate) fn new<K: Ord + QuickHash>(map: &'a Table<K, V>, test: T) -> Self
         ensures { result ≡ values_where (T.holds test) map.now.entries }
     {
         SelectedValues {
@@ -101,7 +101,7 @@ impl<'a, K: Ord + QuickHash, V, T: Test<V>> SelectedValues<'a, K, V, T> {
     }
 }
 
-impl<'a, K, V, T: Test<V>> Iterator for SelectedValues<'a, K, V, T> {
+impl<'a, V, T: Test<V>> Iterator for SelectedValues<'a, V, T> {
     type Item = &'a V;
 
     ghost next_gives = { TakesFirst deref };
@@ -122,4 +122,4 @@ impl<'a, K, V, T: Test<V>> Iterator for SelectedValues<'a, K, V, T> {
     }
 }
 
-impl<'a, K, V, T: Test<V>> FusedIterator for SelectedValues<'a, K, V, T> {}
+impl<'a, V, T: Test<V>> FusedIterator for SelectedValues<'a, V, T> {}

@@ -24,8 +24,8 @@ pub enum UnresolvedDeclaration<'a> {
 /// order.
 #[derive(Drop)]
 pub struct UnresolvedDeclarations<'a> {
-    types: SelectedValues<'a, EntityType, ValidatorEntityType, IsExternal>,
-    actions: SelectedValues<'a, EntityUID, ValidatorActionId, IsExternal>,
+    types: SelectedValues<'a, ValidatorEntityType, IsExternal>,
+    actions: SelectedValues<'a, ValidatorActionId, IsExternal>,
 }
 
 impl<'a> Iterator for UnresolvedDeclarations<'a> {

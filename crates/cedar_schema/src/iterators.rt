@@ -13,16 +13,16 @@ use std::iter::FusedIterator;
 use std::marker::Model;
 
 /// The entity types of a schema, in the order of their names.
-pub type EntityTypes<'a> = Values<'a, EntityType, ValidatorEntityType>;
+pub type EntityTypes<'a> = Values<'a, ValidatorEntityType>;
 
 /// The names of the entity types of a schema, in order.
-pub type EntityTypeNames<'a> = Keys<'a, EntityType, ValidatorEntityType>;
+pub type EntityTypeNames<'a> = Keys<'a, EntityType>;
 
 /// The actions of a schema, in the order of their uids.
-pub type ActionIds<'a> = Values<'a, EntityUID, ValidatorActionId>;
+pub type ActionIds<'a> = Values<'a, ValidatorActionId>;
 
 /// The uids of the actions of a schema, in order.
-pub type Actions<'a> = Keys<'a, EntityUID, ValidatorActionId>;
+pub type Actions<'a> = Keys<'a, EntityUID>;
 
 /// The namespaces that a schema shows, in the order of their names.
 #[derive(Drop)]

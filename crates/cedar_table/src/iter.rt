@@ -4,7 +4,7 @@ ghost use Rattle.std.specs.Prelude.{◌≡◌, length};
 ghost use Rattle.cedar_table.specs.Words.{TakesFirst, TakesLast, at_most, deref, deref_pair, zip};
 
 use std::iter::FusedIterator;
-use std::marker::{Model, PhantomData};
+use std::marker::Model;
 use std::slice;
 
 /// The entries that are left, in the order of their keys.
@@ -75,42 +75,38 @@ impl<'a, K, V> ExactSizeIterator for Iter<'a, K, V> {
     }
 }
 
-/// The keys that are left, in their order.
+/// What is left of a column: of the keys, or of the values, in the order of the keys.
 #[derive(Drop)]
-pub struct Keys<'a, K, V> {
-    rest: slice::Iter<'a, K>,
-    of: PhantomData<V>,
+pub struct Column<'a, T> {
+    rest: slice::Iter<'a, T>,
 }
 
-impl<'a, K, V> Model for Keys<'a, K, V> {
+impl<'a, T> Model for Column<'a, T> {
     ghost use Rattle.std.specs.Prelude.{List};
     ghost use Rattle.cedar_table.specs.Words.{iter_rest};
 
-    ghost Value = { List K };
+    ghost Value = { List T };
 
     ghost view = { λ a. iter_rest a.rest };
 }
 
-impl<'a, K, V> Keys<'a, K, V> {
-    /// These keys.
-    pub(crate) fn new(keys: &'a [K]) -> Self
-        ensures { result ≡ keys.now }
+impl<'a, T> Column<'a, T> {
+    /// All of these.
+    pub(crate) fn new(items: &'a [T]) -> Self
+        ensures { result ≡ items.now }
     {
-        Keys {
-            rest: keys.iter(),
-            of: PhantomData,
-        }
+        Column { rest: items.iter() }
     }
 }
 
-impl<'a, K, V> Iterator for Keys<'a, K, V> {
-    type Item = &'a K;
+impl<'a, T> Iterator for Column<'a, T> {
+    type Item = &'a T;
 
     ghost next_gives = { TakesFirst deref };
 
     ghost remaining = { λ s. at_most (length s) };
 
-    fn next(&mut self) -> Option<&'a K> {
+    fn next(&mut self) -> Option<&'a T> {
         self.rest.next()
     }
 
@@ -119,78 +115,24 @@ impl<'a, K, V> Iterator for Keys<'a, K, V> {
     }
 }
 
-impl<'a, K, V> FusedIterator for Keys<'a, K, V> {}
+impl<'a, T> FusedIterator for Column<'a, T> {}
 
-impl<'a, K, V> DoubleEndedIterator for Keys<'a, K, V> {
+impl<'a, T> DoubleEndedIterator for Column<'a, T> {
     ghost next_back_gives = { TakesLast deref };
 
-    fn next_back(&mut self) -> Option<&'a K> {
+    fn next_back(&mut self) -> Option<&'a T> {
         self.rest.next_back()
     }
 }
 
-impl<'a, K, V> ExactSizeIterator for Keys<'a, K, V> {
+impl<'a, T> ExactSizeIterator for Column<'a, T> {
     fn len(&self) -> usize {
         self.rest.len()
     }
 }
+
+/// The keys that are left, in their order.
+pub type Keys<'a, K> = Column<'a, K>;
 
 /// The values that are left, in the order of their keys.
-#[derive(Drop)]
-pub struct Values<'a, K, V> {
-    rest: slice::Iter<'a, V>,
-    of: PhantomData<K>,
-}
-
-impl<'a, K, V> Model for Values<'a, K, V> {
-    ghost use Rattle.std.specs.Prelude.{List};
-    ghost use Rattle.cedar_table.specs.Words.{iter_rest};
-
-    ghost Value = { List V };
-
-    ghost view = { λ a. iter_rest a.rest };
-}
-
-impl<'a, K, V> Values<'a, K, V> {
-    /// These values.
-    pub(crate) fn new(values: &'a [V]) -> Self
-        ensures { result ≡ values.now }
-    {
-        Values {
-            rest: values.iter(),
-            of: PhantomData,
-        }
-    }
-}
-
-impl<'a, K, V> Iterator for Values<'a, K, V> {
-    type Item = &'a V;
-
-    ghost next_gives = { TakesFirst deref };
-
-    ghost remaining = { λ s. at_most (length s) };
-
-    fn next(&mut self) -> Option<&'a V> {
-        self.rest.next()
-    }
-
-    fn size_hint(&self) -> (usize, Option<usize>) {
-        self.rest.size_hint()
-    }
-}
-
-impl<'a, K, V> FusedIterator for Values<'a, K, V> {}
-
-impl<'a, K, V> DoubleEndedIterator for Values<'a, K, V> {
-    ghost next_back_gives = { TakesLast deref };
-
-    fn next_back(&mut self) -> Option<&'a V> {
-        self.rest.next_back()
-    }
-}
-
-impl<'a, K, V> ExactSizeIterator for Values<'a, K, V> {
-    fn len(&self) -> usize {
-        self.rest.len()
-    }
-}
+pub type Values<'a, V> = Column<'a, V>;

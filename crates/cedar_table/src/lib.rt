@@ -5,7 +5,7 @@
 #![tactic(auto)]
 
 pub use copying::copied_table;
-pub use iter::{Iter, Keys, Values};
+pub use iter::{Column, Iter, Keys, Values};
 pub use table::Table;
 pub use table_keys::TableKeys;
 

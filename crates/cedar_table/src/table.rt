@@ -75,7 +75,7 @@ impl<K: Ord + QuickHash, V> Table<K, V> {
     }
 
     /// The keys, in order.
-    pub fn keys(&self) -> Keys<'_, K, V>
+    pub fn keys(&self) -> Keys<'_, K>
         ensures rest { result ≡ keys_of self.now.entries }
         ensures ordered { IsStrictlySortedBy K.cmp (keys_of self.now.entries) }
     {
@@ -83,7 +83,7 @@ impl<K: Ord + QuickHash, V> Table<K, V> {
     }
 
     /// The values, in the order of their keys.
-    pub fn values(&self) -> Values<'_, K, V>
+    pub fn values(&self) -> Values<'_, V>
         ensures rest { result ≡ values_of self.now.entries }
         ensures ordered { IsStrictlySortedBy K.cmp (keys_of self.now.entries) }
     {
