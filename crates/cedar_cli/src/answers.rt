@@ -156,7 +156,7 @@ pub(crate) fn uid_named(alloc: Global, word: &str) -> Result<EntityUID, Answer> 
 
 /// What environments are asked for.
 #[derive(Drop)]
-pub(crate) struct Expected {
+pub(crate) struct EnvironmentFilter {
     /// The entity type of the principal, if only one is asked for.
     pub(crate) principal: Option<EntityType>,
     /// The action, if only one is asked for.
@@ -166,19 +166,19 @@ pub(crate) struct Expected {
 }
 
 /// Whether nothing else is asked for.
-fn is_wanted<T: PartialEq>(wanted: Option<&T>, given: &T) -> bool {
-    match wanted {
-        Some(wanted) => *wanted == *given,
+fn is_met_by<T: PartialEq>(filter: Option<&T>, given: &T) -> bool {
+    match filter {
+        Some(filter) => *filter == *given,
         None => true,
     }
 }
 
-impl Expected {
+impl EnvironmentFilter {
     /// Whether an environment is asked for.
     fn is_met(&self, env: &RequestEnv<'_>) -> bool {
-        is_wanted(self.principal.as_ref(), env.principal)
-            && is_wanted(self.action.as_ref(), env.action)
-            && is_wanted(self.resource.as_ref(), env.resource)
+        is_met_by(self.principal.as_ref(), env.principal)
+            && is_met_by(self.action.as_ref(), env.action)
+            && is_met_by(self.resource.as_ref(), env.resource)
     }
 }
 
@@ -191,11 +191,11 @@ fn line_of(alloc: Global, env: &RequestEnv<'_>) -> M<String> {
 }
 
 /// The environments that are asked for, a line each.
-fn lines_of(alloc: Global, schema: &ValidatorSchema, wanted: &Expected) -> M<Vec<String>> {
+fn lines_of(alloc: Global, schema: &ValidatorSchema, filter: &EnvironmentFilter) -> M<Vec<String>> {
     let mut lines = Vec::new(alloc);
     for env in schema.unlinked_envs_owned() {
         let env = env.as_request_env();
-        if wanted.is_met(&env) {
+        if filter.is_met(&env) {
             lines.push(line_of(alloc, &env)?)?;
         }
     }
@@ -206,9 +206,9 @@ fn lines_of(alloc: Global, schema: &ValidatorSchema, wanted: &Expected) -> M<Vec
 pub(crate) fn environment_lines(
     alloc: Global,
     schema: &ValidatorSchema,
-    wanted: &Expected,
+    filter: &EnvironmentFilter,
 ) -> M<String> {
-    let mut lines = lines_of(alloc, schema, wanted)?;
+    let mut lines = lines_of(alloc, schema, filter)?;
     lines.sort()?;
     lines.concat(alloc).or(Err(Memory))
 }

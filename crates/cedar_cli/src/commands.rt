@@ -3,7 +3,8 @@
 ghost use Rattle.std.specs.Prelude.{◌≡◌, IfOk};
 
 use crate::answers::{
-    Answer, AnswerKind, Expected, counts, environment_lines, incomplete, type_named, uid_named,
+    Answer, AnswerKind, EnvironmentFilter, counts, environment_lines, incomplete, type_named,
+    uid_named,
 };
 use crate::attribute_types::{action_answer, entity_answer};
 use crate::building::{BuiltFiles, built};
@@ -19,6 +20,7 @@ use crate::reading::well_formed;
 use crate::repeating::Repeated;
 use crate::status::Status;
 use crate::text::Text;
+use crate::words::{Command, FilesCommand, Question};
 use cedar_ast::{EntityType, EntityUID, M, Memory};
 use cedar_schema::ValidatorSchema;
 use clap::ArgMatches;
@@ -134,10 +136,13 @@ fn action_given(alloc: Global, matches: &ArgMatches<'_>) -> Result<Option<Entity
 }
 
 /// What environments are asked for.
-fn wanted(alloc: Global, matches: &ArgMatches<'_>) -> Result<Expected, Answer> {
+fn environment_filter(
+    alloc: Global,
+    matches: &ArgMatches<'_>,
+) -> Result<EnvironmentFilter, Answer> {
     let principal = type_given(alloc, matches, "principal")?;
     let resource = type_given(alloc, matches, "resource")?;
-    Ok(Expected {
+    Ok(EnvironmentFilter {
         principal,
         action: action_given(alloc, matches)?,
         resource,
@@ -146,47 +151,35 @@ fn wanted(alloc: Global, matches: &ArgMatches<'_>) -> Result<Expected, Answer> {
 
 /// The environments that are asked for.
 fn environments(alloc: Global, matches: &ArgMatches<'_>, schema: &ValidatorSchema) -> Answer {
-    match wanted(alloc, matches) {
-        Ok(wanted) => Answer::lines(environment_lines(alloc, schema, &wanted)),
+    match environment_filter(alloc, matches) {
+        Ok(filter) => Answer::lines(environment_lines(alloc, schema, &filter)),
         Err(why) => why,
-    }
-}
-
-/// The answer to the question that a command asks of a schema.
-fn answer_of(
-    alloc: Global,
-    command: &str,
-    matches: &ArgMatches<'_>,
-    schema: &ValidatorSchema,
-) -> Answer {
-    match command {
-        "type" => type_answer(alloc, matches, schema),
-        "envs" => environments(alloc, matches, schema),
-        "graph" => Answer::lines(graph(alloc, schema)),
-        _ => Answer::lines(escaped_lines_of(alloc, schema)),
     }
 }
 
 /// What a command gives over a schema.
 fn over_built(
     alloc: Global,
-    command: &str,
+    question: Question,
     matches: &ArgMatches<'_>,
     it: &BuiltFiles,
 ) -> M<Outcome> {
     let format = output_format(matches);
-    if command == "build" {
-        return build(alloc, format, matches, it);
-    }
-    let answer = answer_of(alloc, command, matches, &it.schema);
+    let answer = match question {
+        Question::Build => return build(alloc, format, matches, it),
+        Question::Show => Answer::lines(escaped_lines_of(alloc, &it.schema)),
+        Question::Type => type_answer(alloc, matches, &it.schema),
+        Question::Envs => environments(alloc, matches, &it.schema),
+        Question::Graph => Answer::lines(graph(alloc, &it.schema)),
+    };
     answered(alloc, format, &it.sources, answer)
 }
 
 /// How a command goes over the types of a schema.
-fn walk_of(command: &str) -> Walk {
-    match command {
-        "build" | "envs" | "graph" => Walk::Shared,
-        _ => Walk::WrittenOut,
+fn walk_of(question: Question) -> Walk {
+    match question {
+        Question::Build | Question::Envs | Question::Graph => Walk::Shared,
+        Question::Show | Question::Type => Walk::WrittenOut,
     }
 }
 
@@ -194,7 +187,7 @@ fn walk_of(command: &str) -> Walk {
 fn over_schema<F: FileAccess>(
     alloc: Global,
     files: &mut F,
-    command: &str,
+    question: Question,
     matches: &ArgMatches<'_>,
     names: &[&str],
 ) -> M<Outcome> {
@@ -203,9 +196,9 @@ fn over_schema<F: FileAccess>(
         files,
         names,
         output_format(matches),
-        walk_of(command),
+        walk_of(question),
     ) {
-        Ok(it) => over_built(alloc, command, matches, &it),
+        Ok(it) => over_built(alloc, question, matches, &it),
         Err(report) => report,
     }
 }
@@ -283,7 +276,7 @@ fn laid_out<F: FileAccess>(alloc: Global, files: &mut F, matches: &ArgMatches<'_
 fn over_files<F: FileAccess>(
     alloc: Global,
     files: &mut F,
-    command: &str,
+    command: FilesCommand,
     matches: &ArgMatches<'_>,
 ) -> M<Outcome> {
     let names = matches.get_strs("FILE").unwrap_or(&[]);
@@ -291,9 +284,9 @@ fn over_files<F: FileAccess>(
         return reads_input_twice(alloc);
     }
     match command {
-        "check" => check(alloc, files, names, output_format(matches)),
-        "link" => linked(alloc, files, matches, names),
-        _ => over_schema(alloc, files, command, matches, names),
+        FilesCommand::Check => check(alloc, files, names, output_format(matches)),
+        FilesCommand::Link => linked(alloc, files, matches, names),
+        FilesCommand::Ask(question) => over_schema(alloc, files, question, matches, names),
     }
 }
 
@@ -301,12 +294,12 @@ fn over_files<F: FileAccess>(
 pub(crate) fn outcome_of<F: FileAccess>(
     alloc: Global,
     files: &mut F,
-    command: &str,
+    command: Command,
     matches: &ArgMatches<'_>,
 ) -> M<Outcome> {
     match command {
-        "format" => laid_out(alloc, files, matches),
-        "compare" => compared(alloc, files, matches),
-        _ => over_files(alloc, files, command, matches),
+        Command::Format => laid_out(alloc, files, matches),
+        Command::Compare => compared(alloc, files, matches),
+        Command::Files(command) => over_files(alloc, files, command, matches),
     }
 }

@@ -22,8 +22,8 @@ pub(crate) fn kind_word(fault: &JsonSchemaFault) -> &'static str {
 }
 
 /// What is asked for, with its article.
-fn wanted_words(wanted: Expected) -> &'static str {
-    match wanted {
+fn expected_words(expected: Expected) -> &'static str {
+    match expected {
         Expected::Text => "a string",
         Expected::Object => "an object",
         Expected::Array => "an array",
@@ -38,7 +38,7 @@ fn shape_words(kind: FaultKind) -> &'static str {
     match kind {
         FaultKind::Missing(_) => "a field is missing",
         FaultKind::UnknownField(_, _) => "the format has no such field here",
-        FaultKind::Wants(wanted) => wanted_words(wanted),
+        FaultKind::Wants(expected) => expected_words(expected),
         FaultKind::NoName => "this is no name",
         FaultKind::NoId => "this is no identifier",
         FaultKind::ReservedId => "`__cedar` is reserved",
@@ -80,8 +80,8 @@ fn push_shape(words: &mut Text, text: &str, place: &Place, kind: FaultKind) {
             words.push_str(name);
             words.push_str("\" is missing ");
         }
-        FaultKind::Wants(wanted) => {
-            words.push_str(wanted_words(wanted));
+        FaultKind::Wants(expected) => {
+            words.push_str(expected_words(expected));
             words.push_str(" has to stand ");
         }
         FaultKind::NoChoices => {

@@ -60,11 +60,23 @@ fn push_hierarchy(text: &mut Text, hierarchy: &Hierarchy, shape: &str) {
     }
 }
 
-/// Adds a dashed edge between an action and each of some names: from it, or else to it.
-fn push_dashed(text: &mut Text, uid: &str, names: &BTreeSet<String>, is_from: bool) {
+/// What entity types are to an action.
+#[derive(Clone, Copy, Drop)]
+enum Role {
+    /// Its principals, from which a line leads to it.
+    Principals,
+    /// Its resources, to which a line leads from it.
+    Resources,
+}
+
+/// Adds a dashed edge between an action and each of some names.
+fn push_dashed(text: &mut Text, uid: &str, names: &BTreeSet<String>, role: Role) {
     for name in names {
         let name = name.as_str();
-        let (from, to) = if is_from { (uid, name) } else { (name, uid) };
+        let (from, to) = match role {
+            Role::Principals => (name, uid),
+            Role::Resources => (uid, name),
+        };
         push_edge(text, from, to, " [style=dashed]");
     }
 }
@@ -79,9 +91,9 @@ fn texts(alloc: Global, types: RequestTypes<'_>) -> M<BTreeSet<String>> {
 }
 
 /// Adds the dashed edges between an action and the entity types of some names.
-fn push_types(text: &mut Text, uid: &str, types: RequestTypes<'_>, is_from: bool) {
+fn push_types(text: &mut Text, uid: &str, types: RequestTypes<'_>, role: Role) {
     match texts(text.alloc(), types) {
-        Ok(names) => push_dashed(text, uid, &names, is_from),
+        Ok(names) => push_dashed(text, uid, &names, role),
         Err(Memory) => text.refuse(),
     }
 }
@@ -90,8 +102,8 @@ fn push_types(text: &mut Text, uid: &str, types: RequestTypes<'_>, is_from: bool
 fn push_action(text: &mut Text, action: &ValidatorActionId) {
     match text_of(text.alloc(), action.name()) {
         Ok(uid) => {
-            push_types(text, uid.as_str(), action.principals(), false);
-            push_types(text, uid.as_str(), action.resources(), true);
+            push_types(text, uid.as_str(), action.principals(), Role::Principals);
+            push_types(text, uid.as_str(), action.resources(), Role::Resources);
         }
         Err(Memory) => text.refuse(),
     }

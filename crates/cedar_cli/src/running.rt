@@ -7,7 +7,7 @@ use crate::files::FileAccess;
 use crate::outcome::Outcome;
 use crate::repeating::Repeated;
 use crate::status::Status;
-use crate::words::program;
+use crate::words::{Command, program};
 use cedar_ast::{M, Memory};
 use clap::ArgMatches;
 use clap::error::{Error, ErrorKind};
@@ -22,11 +22,17 @@ fn matches_of<'a>(alloc: Global, words: &'a [String]) -> Result<ArgMatches<'a>, 
 }
 
 /// What the command gives that the words ask for.
-fn asked<F: FileAccess>(alloc: Global, files: &mut F, matches: &ArgMatches<'_>) -> M<Outcome> {
-    match matches.subcommand() {
-        Some((command, matches)) => outcome_of(alloc, files, command, matches),
-        None => Ok(Outcome::done(alloc, String::new(alloc))),
+fn run_command<F: FileAccess>(
+    alloc: Global,
+    files: &mut F,
+    matches: &ArgMatches<'_>,
+) -> M<Outcome> {
+    if let Some((name, matches)) = matches.subcommand() {
+        if let Some(command) = Command::named(name) {
+            return outcome_of(alloc, files, command, matches);
+        }
     }
+    Ok(Outcome::done(alloc, String::new(alloc)))
 }
 
 /// Whether a message may repeat a word as it is.
@@ -147,7 +153,7 @@ pub fn run<F: FileAccess, O: Write, E: Write>(
     ensures { result < 7 }
 {
     let outcome = match matches_of(alloc, words) {
-        Ok(matches) => asked(alloc, files, &matches),
+        Ok(matches) => run_command(alloc, files, &matches),
         Err(error) => no_command(alloc, words, &error),
     };
     finish(outcome, out, err).code()

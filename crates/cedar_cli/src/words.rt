@@ -1,6 +1,6 @@
 //! The words of the program: which commands there are, and what each of them takes.
 
-use clap::{Arg, ArgAction, Command};
+use clap::{Arg, ArgAction};
 use std::alloc::{AllocError, Global};
 
 /// An option of a command.
@@ -27,26 +27,44 @@ struct Choice {
     is_positional: bool,
 }
 
-/// What a command takes.
+/// What a command asks of the schema that files declare.
 #[derive(Clone, Copy, Drop)]
-enum Taken {
-    /// Files alone, and how refusals are reported.
-    Files,
-    /// What the command that builds does.
+pub(crate) enum Question {
+    /// What it declares, in numbers.
     Build,
-    /// What the command that shows types does.
+    /// What it declares, in lines.
+    Show,
+    /// A type.
     Type,
-    /// What the command that shows environments does.
+    /// The environments of requests.
     Envs,
-    /// What the command that links does.
+    /// The hierarchies, drawn.
+    Graph,
+}
+
+/// A command over files that are read together.
+#[derive(Clone, Copy, Drop)]
+pub(crate) enum FilesCommand {
+    /// Reads them.
+    Check,
+    /// Asks something of the schema that they declare.
+    Ask(Question),
+    /// Writes what they declare as one fragment.
     Link,
-    /// What the command that lays out does.
-    Format,
-    /// What the command that compares does.
-    Compare,
 }
 
 /// A command.
+#[derive(Clone, Copy, Drop)]
+pub(crate) enum Command {
+    /// One over files that are read together.
+    Files(FilesCommand),
+    /// Lays a file out.
+    Format,
+    /// Compares two versions of a schema.
+    Compare,
+}
+
+/// A command, with what is said of it.
 #[derive(Clone, Copy, Drop)]
 struct Row {
     /// Its name.
@@ -55,8 +73,8 @@ struct Row {
     about: &'static str,
     /// An example of its use.
     example: &'static str,
-    /// What it takes.
-    takes: Taken,
+    /// What it does.
+    command: Command,
 }
 
 /// Objects of JSON are asked for.
@@ -292,70 +310,90 @@ const ROWS: &[Row] = &[
         name: "check",
         about: "Reads each file as a fragment, without building",
         example: "Example: cedar_check check photos.json",
-        takes: Taken::Files,
+        command: Command::Files(FilesCommand::Check),
     },
     Row {
         name: "build",
         about: "Builds one schema of all files, and counts what it declares",
         example: "Example: cedar_check build photos.json",
-        takes: Taken::Build,
+        command: Command::Files(FilesCommand::Ask(Question::Build)),
     },
     Row {
         name: "show",
         about: "Shows what the schema declares, in sorted lines",
         example: "Example: cedar_check show photos.json",
-        takes: Taken::Files,
+        command: Command::Files(FilesCommand::Ask(Question::Show)),
     },
     Row {
         name: "type",
         about: "Shows the type of an entity type's attributes or tags, or of an action's context",
         example: "Example: cedar_check type photos.json --entity PhotoApp::Photo --attribute size",
-        takes: Taken::Type,
+        command: Command::Files(FilesCommand::Ask(Question::Type)),
     },
     Row {
         name: "envs",
         about: "Shows the environments of requests: principal, action and resource",
         example: "Example: cedar_check envs photos.json --principal PhotoApp::User",
-        takes: Taken::Envs,
+        command: Command::Files(FilesCommand::Ask(Question::Envs)),
     },
     Row {
         name: "graph",
         about: "Draws the hierarchies as a graph in Graphviz DOT",
         example: "Example: cedar_check graph photos.json | dot -Tsvg > photos.svg",
-        takes: Taken::Files,
+        command: Command::Files(FilesCommand::Ask(Question::Graph)),
     },
     Row {
         name: "link",
         about: "Writes what all files declare together as one fragment",
         example: "Example: cedar_check link photos.json printing.json -o whole.json",
-        takes: Taken::Link,
+        command: Command::Files(FilesCommand::Link),
     },
     Row {
         name: "format",
         about: "Lays a file out in the order of the format, with all that it says",
         example: "Example: cedar_check format photos.json --check",
-        takes: Taken::Format,
+        command: Command::Format,
     },
     Row {
         name: "compare",
         about: "Compares two versions of a schema: what the new one takes away, and what it adds",
         example: "Example: cedar_check compare --old photos.json --new photos_next.json",
-        takes: Taken::Compare,
+        command: Command::Compare,
     },
 ];
 
-impl Taken {
+impl Question {
+    /// The files of which it is asked, and the options.
+    fn choices(self) -> &'static [Choice] {
+        match self {
+            Question::Build => BUILD,
+            Question::Show | Question::Graph => PLAIN,
+            Question::Type => TYPE,
+            Question::Envs => ENVS,
+        }
+    }
+}
+
+impl Command {
     /// The files that are read, unless options name them, and the options.
     fn choices(self) -> &'static [Choice] {
         match self {
-            Taken::Files => PLAIN,
-            Taken::Build => BUILD,
-            Taken::Type => TYPE,
-            Taken::Envs => ENVS,
-            Taken::Link => LINK,
-            Taken::Format => FORMAT,
-            Taken::Compare => COMPARE,
+            Command::Files(FilesCommand::Check) => PLAIN,
+            Command::Files(FilesCommand::Ask(question)) => question.choices(),
+            Command::Files(FilesCommand::Link) => LINK,
+            Command::Format => FORMAT,
+            Command::Compare => COMPARE,
         }
+    }
+
+    /// The command of a name, if it is one.
+    pub(crate) fn named(name: &str) -> Option<Self> {
+        for row in ROWS {
+            if row.name == name {
+                return Some(row.command);
+            }
+        }
+        None
     }
 }
 
@@ -407,22 +445,29 @@ impl<'a> Says<Arg<'a>> for Choice {
 }
 
 /// The command of a row, with what it takes.
-fn command<'a>(alloc: Global, row: &Row, args: Vec<Arg<'a>>) -> Result<Command<'a>, AllocError> {
-    Command::new(alloc, row.name)
+fn command_of<'a>(
+    alloc: Global,
+    row: &Row,
+    args: Vec<Arg<'a>>,
+) -> Result<clap::Command<'a>, AllocError> {
+    clap::Command::new(alloc, row.name)
         .about(row.about)
         .after_help(row.example)
         .args(args)
 }
 
-impl<'a> Says<Command<'a>> for Row {
-    fn said(&self, alloc: Global) -> Result<Command<'a>, AllocError> {
-        command(alloc, self, all(alloc, self.takes.choices())?)
+impl<'a> Says<clap::Command<'a>> for Row {
+    fn said(&self, alloc: Global) -> Result<clap::Command<'a>, AllocError> {
+        command_of(alloc, self, all(alloc, self.command.choices())?)
     }
 }
 
 /// The program, with its commands.
-fn with_commands<'a>(alloc: Global, commands: Vec<Command<'a>>) -> Result<Command<'a>, AllocError> {
-    Command::new(alloc, "cedar_check")
+fn with_commands<'a>(
+    alloc: Global,
+    commands: Vec<clap::Command<'a>>,
+) -> Result<clap::Command<'a>, AllocError> {
+    clap::Command::new(alloc, "cedar_check")
         .version("0.1.0")
         .about("Reads, builds, shows, links and compares schemas of the Cedar policy language")
         .subcommand_required(true)
@@ -430,6 +475,6 @@ fn with_commands<'a>(alloc: Global, commands: Vec<Command<'a>>) -> Result<Comman
 }
 
 /// The program's words.
-pub(crate) fn program<'a>(alloc: Global) -> Result<Command<'a>, AllocError> {
+pub(crate) fn program<'a>(alloc: Global) -> Result<clap::Command<'a>, AllocError> {
     with_commands(alloc, all(alloc, ROWS)?)
 }
