@@ -2,7 +2,7 @@ use Rattle.std.proofs.Common.{◌++◌, map, subst, take}
 use Rattle.cedar_builder.proofs.NodeEdges.{item_among, map_item, parent_fault_wider, parents_more}
 use Rattle.cedar_builder.proofs.parents.parent_edges.Goals as goal
 use Rattle.cedar_builder.specs.Words.{HoldsPairwise, IsEdgeOf, IsParentFault, fault_of, held_names, named, parents_in}
-use Rattle.cedar_fragments.proofs.FragmentLemmas.{exit_holds}
+use Rattle.cedar_name_resolution.proofs.ExitLemmas.{exit_holds}
 use Rattle.cedar_schema_semantics.proofs.OccurrenceLemmas.{Contains-image}
 
 pub returns-in_err-add_parents-clause-fault : goal.returns-in_err-add_parents-clause-fault

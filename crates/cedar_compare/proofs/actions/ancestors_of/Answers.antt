@@ -5,7 +5,7 @@ use Rattle.cedar_ast.specs.EntityUID.{uid_of}
 use Rattle.cedar_ast.specs.contracts.entity_uid.EntityUIDOrd.TheImpl as uid_ord
 use Rattle.cedar_compare.proofs.ReportedLemmas.{none_there}
 use Rattle.cedar_compare.proofs.actions.ancestors_of.Goals as goal
-use Rattle.cedar_fragments.proofs.SetLemmas.{inserted, only}
+use Rattle.cedar_name_resolution.proofs.SetLemmas.{inserted, only}
 
 -- at first none of the ancestors is copied, and all are left
 pub loop-uid-init : goal.loop-uid-init

@@ -1,10 +1,10 @@
 use Rattle.std.proofs.Common.{map, Contains, ap, sym, arith}
 use Rattle.std.proofs.lemmas.List.{nil_from_length}
-use Rattle.cedar_fragments.proofs.FragmentLemmas.{exit_holds}
-use Rattle.cedar_fragments.proofs.Pairwise.{turn_none, turn_more, turn_all, turn_next}
-use Rattle.cedar_fragments.proofs.QualifiedLemmas.{refused_one}
 use Rattle.cedar_fragments.proofs.namespace.qualify_types.qualify_entity_types.Goals as goal
 use Rattle.cedar_fragments.specs.Words.{Entity, held_names, name_of, namespace_name, reference_to_one}
+use Rattle.cedar_name_resolution.proofs.ExitLemmas.{exit_holds}
+use Rattle.cedar_name_resolution.proofs.Pairwise.{turn_none, turn_more, turn_all, turn_next}
+use Rattle.cedar_name_resolution.proofs.RefusedLemmas.{refused_one}
 use Rattle.cedar_schema_semantics.proofs.OccurrenceLemmas.{Contains-image}
 
 pub loop-name-init : goal.loop-name-init
