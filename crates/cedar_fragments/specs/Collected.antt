@@ -3,7 +3,7 @@ use Rattle.std.specs.Prelude.{◌≡◌, ◌++◌, List, Option}
 use Rattle.cedar_ast.specs.Words.{PlainName}
 use Rattle.cedar_ast.specs.declared.entity_type.EntityType.{EntityType}
 use Rattle.cedar_ast.specs.declared.internal_name.InternalName.{InternalName}
-use Rattle.cedar_fragments.specs.Words.{resolved_fragment}
+use Rattle.cedar_fragments.specs.FragmentDeclarations.{resolved_fragment}
 use Rattle.cedar_fragments.specs.WrittenDeclarations.{written_actions, written_entities}
 use Rattle.cedar_fragments.specs.declared.declarations.Declarations.{Declarations}
 use Rattle.cedar_fragments.specs.declared.namespace.fragment.ValidatorSchemaFragment.{ValidatorSchemaFragment}

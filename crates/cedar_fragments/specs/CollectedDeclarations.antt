@@ -1,10 +1,12 @@
 use Rattle.std.specs.Prelude.{◌≡◌, List, Option}
 use Rattle.cedar_ast.specs.Words.{PlainName}
-use Rattle.cedar_fragments.specs.Words.{HoldsJust, declared_names, listed_names, written_bag}
+use Rattle.cedar_fragments.specs.DeclaredNames.{declared_names}
+use Rattle.cedar_fragments.specs.FragmentDeclarations.{written_bag}
 use Rattle.cedar_fragments.specs.WrittenDeclarations.{written_actions, written_entities}
 use Rattle.cedar_fragments.specs.declared.collected_declarations.CollectedDeclarations.{CollectedDeclarations}
 use Rattle.cedar_fragments.specs.declared.declarations.Declarations.{Declarations}
 use Rattle.cedar_fragments.specs.declared.namespace.fragment.ValidatorSchemaFragment.{ValidatorSchemaFragment}
+use Rattle.cedar_name_resolution.specs.HeldNames.{HoldsJust, listed_names}
 use Rattle.cedar_name_resolution.specs.WrittenTypes.{written_common}
 use Rattle.cedar_schema_ast.specs.Words.{Reference}
 use Rattle.cedar_schema_ast.specs.declared.json_schema.reference_type.ReferenceType.{ReferenceType}

@@ -1,4 +1,4 @@
-use Rattle.cedar_name_resolution.specs.Words.{HoldsJust, held_names, names_given}
+use Rattle.cedar_name_resolution.specs.HeldNames.{HoldsJust, held_names, names_given}
 use Rattle.cedar_name_resolution.specs.declared.defs.all_defs.AllDefs.{AllDefs}
 use Rattle.cedar_schema_semantics.specs.Words.{Bag}
 
