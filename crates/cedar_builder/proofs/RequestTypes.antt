@@ -11,7 +11,7 @@ use Rattle.cedar_ast.proofs.Lists.{Contains-cons}
 use Rattle.cedar_ast.proofs.Names.{entity_type_ord-Equal}
 use Rattle.cedar_ast.specs.contracts.entity_type.EntityTypeOrd.TheImpl as order
 use Rattle.cedar_builder.specs.Words.{AreNamed, EntityType, Entries, IsDefined, Names, PlainName, Reference, ResolvesTo, ValidatorEntityType, get_by, names_in, type_name}
-use Rattle.cedar_fragments.proofs.SetLemmas.{found-Decides}
+use Rattle.cedar_name_resolution.proofs.SetLemmas.{found-Decides}
 use Rattle.cedar_schema_semantics.proofs.ResolutionLemmas.{IsFirst-same}
 
 -- a map has an entity type exactly where its name is among those of the map

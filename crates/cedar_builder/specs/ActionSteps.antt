@@ -6,7 +6,7 @@ use Rattle.cedar_ast.specs.Words.{PlainName, PlainUid, type_name}
 use Rattle.cedar_ast.specs.declared.entity_type.EntityType.{EntityType}
 use Rattle.cedar_elaboration.specs.Words.{CoversExtensions, ElaboratesAs, IsElaborationFault, ResolvesEach}
 use Rattle.cedar_elaboration.specs.declared.type_scope.TypeScope.{TypeScope}
-use Rattle.cedar_fragments.specs.Words.{IsUnresolvable, held_names}
+use Rattle.cedar_name_resolution.specs.Words.{IsUnresolvable, held_names}
 use Rattle.cedar_schema_ast.specs.Words.{ActionBody, ActionReference, Expr, Reference, Requests, elsewhere, requests}
 use Rattle.cedar_schema_ast.specs.declared.json_schema.reference_type.ReferenceType.TheVariants.{Entity}
 use Rattle.cedar_schema_elements.specs.declared.entity_type.ValidatorEntityType.{ValidatorEntityType}

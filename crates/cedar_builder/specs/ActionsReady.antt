@@ -6,7 +6,7 @@ use Rattle.cedar_ast.specs.declared.extension.Extensions.{Extensions}
 use Rattle.cedar_builder.specs.ActionSteps.{names_in}
 use Rattle.cedar_elaboration.specs.Scope.{Covers, extensions_in_scope}
 use Rattle.cedar_elaboration.specs.declared.type_scope.TypeScope.{TypeScope}
-use Rattle.cedar_fragments.specs.Words.{HoldsJust, held_names}
+use Rattle.cedar_name_resolution.specs.Words.{HoldsJust, held_names}
 use Rattle.cedar_schema_ast.specs.Words.{ActionBody, Expr}
 use Rattle.cedar_schema_elements.specs.declared.entity_type.ValidatorEntityType.{ValidatorEntityType}
 use Rattle.cedar_schema_semantics.specs.Words.{Bag, IsCounted, declared_actions, declared_entities, defined_names, definitions}

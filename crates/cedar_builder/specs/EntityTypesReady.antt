@@ -4,7 +4,7 @@ use Rattle.cedar_ast.specs.Words.{IsReserved, PlainName, extension_types}
 use Rattle.cedar_ast.specs.declared.extension.Extensions.{Extensions}
 use Rattle.cedar_elaboration.specs.Scope.{Covers, extensions_in_scope}
 use Rattle.cedar_elaboration.specs.declared.type_scope.TypeScope.{TypeScope}
-use Rattle.cedar_fragments.specs.Words.{HoldsJust, held_names}
+use Rattle.cedar_name_resolution.specs.Words.{HoldsJust, held_names}
 use Rattle.cedar_schema_ast.specs.Words.{EntityBody, Expr}
 use Rattle.cedar_schema_semantics.specs.Words.{Bag, IsCounted, declared_entities, defined_names, definitions}
 

@@ -19,12 +19,13 @@ pub use Rattle.cedar_elaboration.specs.Refusals.{IsExprFault}
 pub use Rattle.cedar_elaboration.specs.Scope.{Covers, CoversExtensions, ElaboratesAs, ResolvesEach, extensions_in_scope}
 pub use Rattle.cedar_elaboration.specs.declared.type_scope.TypeScope.{TypeScope}
 pub use Rattle.cedar_fragments.specs.ActionDeclarations.{fragment_parent, fragment_requests}
-pub use Rattle.cedar_fragments.specs.HeldNames.{HoldsJust, held_names}
+pub use Rattle.cedar_name_resolution.specs.HeldNames.{HoldsJust, held_names}
 pub use Rattle.cedar_fragments.specs.TypeDeclarations.{fragment_body}
-pub use Rattle.cedar_fragments.specs.WrittenDeclarations.{written_action_body, written_actions, written_entities, written_entity_body, written_namespace}
+pub use Rattle.cedar_fragments.specs.WrittenDeclarations.{written_action_body, written_actions, written_entities, written_entity_body}
+pub use Rattle.cedar_name_resolution.specs.WrittenTypes.{written_namespace}
 pub use Rattle.cedar_fragments.specs.declared.namespace.actions.ActionFragment.{ActionFragment}
 pub use Rattle.cedar_fragments.specs.declared.namespace.entity_types.EntityTypeFragment.{EntityTypeFragment}
-pub use Rattle.cedar_fragments.specs.declared.namespace.written.Written.{Written}
+pub use Rattle.cedar_name_resolution.specs.declared.written.Written.{Written}
 pub use Rattle.cedar_graph.specs.Edges.{AreAlike, IsEdgeIn}
 pub use Rattle.cedar_graph.specs.Tables.{HasEntry, IsCycle, IsEndIn, IsFaultOf, IsLinkedTo}
 pub use Rattle.cedar_graph.specs.declared.table_fault.TableFault.{TableFault}

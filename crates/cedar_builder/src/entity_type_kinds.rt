@@ -6,8 +6,8 @@ ghost use Rattle.cedar_elaboration.specs.Refusals.{IsElaborationFault};
 
 use cedar_ast::{EntityType, InternalName};
 use cedar_elaboration::{TypeScope, elaborate};
-use cedar_fragments::defs::WrittenName;
 use cedar_fragments::namespace::EntityTypeFragment;
+use cedar_name_resolution::defs::WrittenName;
 use cedar_schema_ast::json_schema;
 use cedar_schema_elements::ValidatorEntityType;
 use cedar_schema_semantics::{ContextOrShape, SchemaError};

@@ -5,7 +5,7 @@ ghost use Rattle.cedar_builder.specs.Words.{Entity, IsTypeFault, NamesType, faul
 
 use cedar_ast::{EntityType, InternalName};
 use cedar_elaboration::undefined_type;
-use cedar_fragments::defs::{AllDefs, WrittenName};
+use cedar_name_resolution::defs::{AllDefs, WrittenName};
 use cedar_schema_ast::json_schema::ReferenceType;
 use cedar_schema_semantics::SchemaError;
 use std::alloc::Global;

@@ -4,7 +4,7 @@ ghost use Rattle.std.specs.Prelude.{◌≡◌, ◌⊎◌, ◌++◌, IfErr, IfOk,
 ghost use Rattle.cedar_builder.specs.Words.{Fault, HoldsPairwise, IsEdgeOf, IsParentFault, Names, fault_of, held_names, named, out_of_memory, parents_in};
 
 use cedar_ast::M;
-use cedar_fragments::defs::AllDefs;
+use cedar_name_resolution::defs::AllDefs;
 use cedar_schema_semantics::SchemaError;
 use std::alloc::Global;
 

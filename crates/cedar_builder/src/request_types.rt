@@ -5,7 +5,7 @@ ghost use Rattle.cedar_builder.specs.Words.{AreNamed, Entity, IsPlaceFault, IsRe
 
 use crate::named_type::named_type;
 use cedar_ast::{EntityType, InternalName, NonEmpty};
-use cedar_fragments::defs::{AllDefs, WrittenName};
+use cedar_name_resolution::defs::{AllDefs, WrittenName};
 use cedar_schema_elements::{TypeSet, ValidatorEntityType};
 use cedar_schema_semantics::SchemaError;
 use cedar_table::Table;

@@ -3,7 +3,7 @@ use Rattle.std.specs.Prelude.{◌≡◌, List, ◌++◌, map, Contains}
 use Rattle.cedar_ast.specs.Words.{IsReserved, PlainName, TypeNamesFit, extension_types}
 use Rattle.cedar_ast.specs.declared.extension.Extensions.{Extensions}
 use Rattle.cedar_elaboration.specs.Scope.{HoldsElaborated}
-use Rattle.cedar_fragments.specs.Words.{HoldsJust}
+use Rattle.cedar_name_resolution.specs.Words.{HoldsJust}
 use Rattle.cedar_schema_ast.specs.Expr.{Expr}
 use Rattle.cedar_schema_semantics.specs.Bag.{Bag, declared_common, defined_names, aliases, built_ins, definitions}
 use Rattle.cedar_schema_semantics.specs.Names.{Names}

@@ -4,7 +4,7 @@ use Rattle.std.specs.Prelude.{List, [], Contains, map}
 use Rattle.cedar_ast.specs.Words.{PlainName, Text, extension_types, name_of}
 use Rattle.cedar_ast.specs.declared.internal_name.InternalName.{InternalName}
 use Rattle.cedar_elaboration.specs.declared.type_scope.TypeScope.{TypeScope}
-use Rattle.cedar_fragments.specs.Words.{HoldsJust, held_names}
+use Rattle.cedar_name_resolution.specs.Words.{HoldsJust, held_names}
 use Rattle.cedar_schema_ast.specs.Words.{Expr, Reference}
 use Rattle.cedar_schema_semantics.specs.Words.{Defined, ElaboratesTo, IsCommon, MentionsExtension, Refers, ResolvesTo, names_of}
 use Rattle.cedar_type_rules.specs.Ty.{Ty}

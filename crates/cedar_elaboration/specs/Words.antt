@@ -10,9 +10,9 @@ pub use Rattle.cedar_ast.specs.TypeNames.{TypeNamesFit}
 pub use Rattle.cedar_ast.specs.UnreservedId.{unreserved_id_text}
 pub use Rattle.cedar_ast.specs.declared.extension.Extensions.{Extensions}
 pub use Rattle.cedar_ast.specs.declared.internal_name.InternalName.{InternalName}
-pub use Rattle.cedar_fragments.specs.HeldNames.{HoldsJust, held_names}
-pub use Rattle.cedar_fragments.specs.WrittenDeclarations.{written_common, written_expr}
-pub use Rattle.cedar_fragments.specs.declared.namespace.written.Written.{Written}
+pub use Rattle.cedar_name_resolution.specs.HeldNames.{HoldsJust, held_names}
+pub use Rattle.cedar_name_resolution.specs.WrittenTypes.{written_common, written_expr}
+pub use Rattle.cedar_name_resolution.specs.declared.written.Written.{Written}
 unfoldable pub use Rattle.cedar_graph.specs.Numbered.{items_at}
 pub use Rattle.cedar_graph.specs.Order.{IsOrder, LeadsTo}
 pub use Rattle.cedar_schema_ast.specs.Expr.{Expr, Members, extension_expr, member, members_from, named, no_member, record_expr, set_expr}

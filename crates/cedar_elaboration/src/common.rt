@@ -9,7 +9,7 @@ use crate::ordering::elaboration_order;
 use crate::shared_types::SharedTypes;
 use crate::type_scope::TypeScope;
 use cedar_ast::{Extensions, InternalName, put};
-use cedar_fragments::defs::{AllDefs, WrittenName};
+use cedar_name_resolution::defs::{AllDefs, WrittenName};
 use cedar_schema_semantics::SchemaError;
 use cedar_types::Type;
 use std::alloc::Global;

@@ -7,7 +7,7 @@ use crate::common::common_types;
 use crate::indices::CommonType;
 use crate::shared_types::SharedTypes;
 use cedar_ast::{Extensions, InternalName};
-use cedar_fragments::defs::{AllDefs, WrittenName};
+use cedar_name_resolution::defs::{AllDefs, WrittenName};
 use cedar_schema_semantics::SchemaError;
 use cedar_types::Type;
 use std::alloc::Global;

@@ -5,7 +5,7 @@ ghost use Rattle.cedar_elaboration.specs.Words.{CoversExtensions, ElaboratesAs, 
 
 use crate::type_scope::{TypeScope, entity_reference};
 use cedar_ast::{InternalName, M, NonEmpty};
-use cedar_fragments::defs::WrittenName;
+use cedar_name_resolution::defs::WrittenName;
 use cedar_schema_ast::json_schema;
 use cedar_schema_ast::json_schema::{RecordType, ReferenceType, TypeNotDefinedError, TypeVariant};
 use cedar_schema_semantics::{SchemaError, UnsupportedFeature};

@@ -4,8 +4,8 @@ ghost use Rattle.std.specs.Prelude.{◌≡◌, ◌⊎◌, IfErr, IfOk, OnOk};
 ghost use Rattle.cedar_elaboration.specs.Words.{AreIndices, PlainName, Twice, duplicate_common_type, fault_of, indexed_names, item_names, out_of_memory, written_common};
 
 use cedar_ast::{InternalName, put};
-use cedar_fragments::defs::WrittenName;
-use cedar_fragments::namespace::Written;
+use cedar_name_resolution::Written;
+use cedar_name_resolution::defs::WrittenName;
 use cedar_schema_ast::json_schema::Type;
 use cedar_schema_semantics::SchemaError;
 use std::alloc::Global;

@@ -6,8 +6,8 @@ ghost use Rattle.cedar_elaboration.specs.Words.{AddsIndices, HasNoCycle, HoldsPa
 use crate::indices::{CommonType, Indices, name_indices};
 use crate::referring::{IndexScope, referred_indices};
 use cedar_ast::M;
-use cedar_fragments::defs::{AllDefs, WrittenName};
 use cedar_graph::{Ordered, topo_sort};
+use cedar_name_resolution::defs::{AllDefs, WrittenName};
 use cedar_schema_semantics::SchemaError;
 use std::alloc::Global;
 

@@ -6,7 +6,7 @@ ghost use Rattle.cedar_elaboration.specs.Words.{AddsIndices, Refers, held_names,
 use crate::indices::Indices;
 use crate::type_scope::may_name_common;
 use cedar_ast::{InternalName, M};
-use cedar_fragments::defs::{AllDefs, WrittenName};
+use cedar_name_resolution::defs::{AllDefs, WrittenName};
 use cedar_schema_ast::json_schema;
 use cedar_schema_ast::json_schema::{RecordType, ReferenceType, TypeVariant};
 use std::alloc::Global;

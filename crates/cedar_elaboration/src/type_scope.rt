@@ -5,7 +5,7 @@ ghost use Rattle.cedar_elaboration.specs.Words.{IsReserved, MayNameCommon, elabo
 
 use crate::shared_types::SharedTypes;
 use cedar_ast::{EntityType, Extensions, InternalName, M, Name, UnreservedId};
-use cedar_fragments::defs::AllDefs;
+use cedar_name_resolution::defs::AllDefs;
 use cedar_schema_ast::json_schema::ReferenceType;
 use cedar_schema_semantics::SchemaError;
 use cedar_types::Type;

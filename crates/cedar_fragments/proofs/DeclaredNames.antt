@@ -4,7 +4,8 @@ use Rattle.std.proofs.lemmas.Grind.{flat_map-append}
 use Rattle.std.proofs.lemmas.List.{map-append, append-nil}
 use Rattle.std.specs.List.{flat_map}
 use Rattle.cedar_fragments.proofs.DeclaredAsLemmas.{path_within-namespace_of}
-use Rattle.cedar_fragments.specs.Words.{AreTheDeclaredNames, Bag, Body, Declaration, IsActionType, PlainName, PlainUid, Reference, ReferenceType, ValidatorNamespaceDef, ValidatorSchemaFragment, action, action_fragment_body, action_fragment_declaration, action_fragment_declarations, action_in, common_in, common_type, common_type_declaration, common_type_declarations, declared_action, declared_as, declared_name, declared_names, declared_uid, definition_declarations, definition_names, definition_namespace, entity_in, entity_type, entity_type_declaration, entity_type_declarations, fragment_body, fragment_declarations, name_of, type_expr, type_name, uid_of, written_bag, written_definition}
+use Rattle.cedar_fragments.specs.Words.{AllDefs, AreTheDeclaredNames, Bag, DeclaresJust, HoldsJust, held_names, Body, Declaration, IsActionType, PlainName, PlainUid, Reference, ReferenceType, ValidatorNamespaceDef, ValidatorSchemaFragment, action, action_fragment_body, action_fragment_declaration, action_fragment_declarations, action_in, common_in, common_type, common_type_declaration, common_type_declarations, declared_action, declared_as, declared_name, declared_names, declared_uid, definition_declarations, definition_names, definition_namespace, entity_in, entity_type, entity_type_declaration, entity_type_declarations, fragment_body, fragment_declarations, name_of, type_expr, type_name, uid_of, written_bag, written_definition}
+use Rattle.cedar_name_resolution.proofs.NamesDefined.{just_declared}
 
 -- what is declared under a name has that name
 pub name_declared : (name : PlainName) (body : Body) → declared_name (declared_as name body) ≡ name
@@ -144,3 +145,11 @@ written_names_are_declared N refer =
     let here : ValidatorNamespaceDef N N → ReferenceType → N → Reference = λ it. refer (definition_namespace N N it) in
     names_in_turn (written_definition N refer) (λ it. common_of N (here it) N (here it) it) (λ it. entities_of N (here it) N (here it) it)
     (λ it. actions_of N (here it) N (here it) it)
+
+-- names that are just those of fragments are just those of the bag that these declare
+pub written_just : (N : Type 0) (refer : Option PlainName → ReferenceType → N → Reference)
+    (fragments : List (ValidatorSchemaFragment N N)) (defs : AllDefs)
+    → HoldsJust (held_names defs) (declared_names N N fragments) → DeclaresJust (written_bag N refer fragments) defs
+written_just N refer fragments defs just =
+    just_declared (held_names defs) (declared_names N N fragments) (written_bag N refer fragments) just
+    (written_names_are_declared N refer fragments)

@@ -1,12 +1,11 @@
 -- Faults of definitions, passed on to the whole, and bags of several definitions.
-use Rattle.std.proofs.Common.{◌≡◌, ◌⊎◌, List, [], ◌∷◌, ◌++◌, map, ap, sym, ◌∙◌, refl, inl, inr, Contains, arith, Result, IfErr}
+use Rattle.std.proofs.Common.{◌≡◌, ◌⊎◌, List, [], ◌∷◌, ◌++◌, map, ap, sym, ◌∙◌, refl, inl, inr, Contains, arith}
 use Rattle.std.proofs.lemmas.List.Elements.{Contains-append_left, Contains-append_right}
-use Rattle.std.proofs.lemmas.Result.{err_from_is_err_and}
 use Rattle.std.specs.List.{AllByRecursion, flat_map}
-use Rattle.std.specs.Result.{IsErrAnd}
 use Rattle.cedar_ast.proofs.Lists.{Contains-cons_cases}
-use Rattle.cedar_fragments.proofs.SoundLemmas.{AllByRecursion-append, fault_included}
+use Rattle.cedar_fragments.proofs.SoundLemmas.{fault_included}
 use Rattle.cedar_fragments.specs.Words.{Bag, Declaration, Fault, Included, IsDefinitionFault, out_of_memory}
+use Rattle.cedar_name_resolution.proofs.EachLemmas.{AllByRecursion-append}
 
 -- the refusal of some declarations is that of all of them
 pub refusal_included : (part whole : Bag) → Included part whole → (fault : Fault)
@@ -46,8 +45,3 @@ module _ {A : Type 0} (f : A → Bag) where
 -- the same lists in turn are the same together
 pub flat_map-same : {A B C : Type 0} (f : A → List C) (g : B → List C) (xs : List A) (ys : List B) → map f xs ≡ map g ys → flat_map f xs ≡ flat_map g ys
 flat_map-same f g xs ys same = flat_map-map f xs ∙ (ap (flat_map (λ bag. bag)) same ∙ sym (flat_map-map g ys))
-
--- what holds of the error that `?` passes on holds of that of the result
-pub exit_holds : {T E : Type 0} (P : E → Type 0) (result : Result T E) (error : E) → IsErrAnd result (λ it. it ≡ error) → P error
-    → IfErr result P
-exit_holds P result error passed holds = let exit = err_from_is_err_and result passed in rw (exit.1, exit.2) holds

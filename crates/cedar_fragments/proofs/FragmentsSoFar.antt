@@ -2,8 +2,8 @@
 use Rattle.std.proofs.Common.{◌≡◌, List, ◌∷◌, ◌++◌, Contains, Option, refl, arith, ap}
 use Rattle.std.proofs.lemmas.List.Elements.{Contains-append_right}
 use Rattle.std.specs.List.{AllByRecursion}
-use Rattle.cedar_fragments.proofs.ListedSoFar.{ListedSoFar}
 use Rattle.cedar_fragments.specs.Words.{Bag, IsSound, Name, NamespaceDefinition, RawName, ValidatorNamespaceDef, entry_declarations}
+use Rattle.cedar_name_resolution.proofs.ListedSoFar.{ListedSoFar}
 
 -- the entries of a fragment
 abbrev pub Written : Type 0

@@ -5,8 +5,8 @@ use Rattle.std.specs.List.{flat_map}
 use Rattle.std.specs.declared.alloc.Global.{Global}
 use Rattle.std.specs.declared.boxed.Box.{Box}
 use Rattle.std.specs.declared.string.String.{String}
-use Rattle.cedar_fragments.proofs.Pairwise.{SameKey}
 use Rattle.cedar_fragments.specs.Words.{Boolean, CommonTypeRef, EntityOrCommon, Extension, HoldsPairwise, InternalName, Loc, Locs, Long, Plain, Record, RecordType, Set, «Type», TypeOfAttribute, TypeVariant, UnreservedId, attribute_locs, attribute_locs_step, fold-roll-RecordType, fold_out-RecordType, fold_out-TypeOfAttribute, no_locs, out-RecordType, out-TypeOfAttribute, record_locs, record_locs_step, roll-RecordType, the_lemmas, type_locs, type_locs_step, variant_locs, variant_locs_step}
+use Rattle.cedar_name_resolution.proofs.Pairwise.{SameKey}
 use Rattle.cedar_schema_ast.specs.declared.json_schema.type_of.Type.TheOpen as layer
 use Rattle.cedar_schema_ast.specs.declared.json_schema.type_of.TypeVariant.{String as text, Entity}
 

@@ -1,7 +1,7 @@
 -- Refusals that name the actions with attributes of a definition.
-use Rattle.std.proofs.Common.{◌≡◌, ◌⊎◌, List, [], ◌∷◌, Option, Contains, arith, inl, inr}
+use Rattle.std.proofs.Common.{◌≡◌, ◌⊎◌, List, [], ◌∷◌, Option, Contains, inl, inr}
 use Rattle.std.specs.Option.{option_map}
-use Rattle.cedar_ast.proofs.Lists.{Contains-cons_cases}
+use Rattle.cedar_ast.proofs.Basics.{Contains-single}
 use Rattle.cedar_fragments.specs.Words.{Bag, Extensions, Fault, Fragment, HasNoDefinitionFault, Included, IsFault, Name, NamesAllOfADefinition, NamesAllWithAttributes, NamespaceDefinition, RawName, action_attributes, entry_declarations, out_of_memory, plain_name}
 
 -- what names all of a definition of one of the fragments names all of a definition
@@ -26,22 +26,18 @@ none_named fragments bag extensions none (action_attributes ids) =
     elim [ inl memory ↦ cc | inr at_fault ↦ absurd (none extensions (action_attributes ids) tt at_fault) ]
 none_named fragments bag extensions none _ = λ either. tt
 
--- an item of a list of one is that one
-the_only : {A : Type 0} (only x : A) → Contains (only ∷ []) x → only ≡ x
-the_only only x among = elim (Contains-cons_cases only [] x among) [ inl same ↦ same | inr none ↦ absurd (omega (arith, none.1)) ]
-
 -- what names all of a definition of one fragment does so of fragments that it is among
 pub named_among : (fragments : List (Fragment RawName)) (fragment : Fragment RawName) → Contains fragments fragment
     → (fault : Fault) → NamesAllOfADefinition (fragment ∷ []) fault → NamesAllOfADefinition fragments fault
 named_among fragments fragment among =
     named_included (fragment ∷ []) fragments
-    (λ other there. rw (the_only fragment other there) at among)
+    (λ other there. rw (Contains-single fragment other there) at among)
 
 -- what names all of a definition of one fragment with a single definition names all of that
 pub named_of_only : (fragment : Fragment RawName) (entry : Option Name × NamespaceDefinition RawName)
     → fragment.0.entries ≡ entry ∷ [] → (fault : Fault) → NamesAllOfADefinition (fragment ∷ []) fault
     → NamesAllWithAttributes (entry_declarations entry) (option_map plain_name entry.0) fault
 named_of_only fragment entry alone (action_attributes ids) named =
-    let within = rw (← the_only fragment named.0 named.2, alone) at named.3 in
-    rw (the_only entry named.1 within) named.4
+    let within = rw (← Contains-single fragment named.0 named.2, alone) at named.3 in
+    rw (Contains-single entry named.1 within) named.4
 named_of_only fragment entry alone _ named = tt

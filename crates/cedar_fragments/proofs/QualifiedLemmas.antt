@@ -1,33 +1,12 @@
 -- Types and references that are resolved one after another.
-use Rattle.std.proofs.Common.{◌≡◌, Bool, List, [], ◌∷◌, ◌++◌, map, ap, sym, subst, refl, inl, inr, Contains, string_bytes, arith}
+use Rattle.std.proofs.Common.{◌≡◌, Bool, List, [], ◌∷◌, ◌++◌, map, ap, sym, subst, refl, inl, inr, string_bytes}
 use Rattle.std.specs.declared.alloc.Global.{Global}
 use Rattle.std.specs.declared.string.String.{String}
-use Rattle.cedar_ast.proofs.Lists.{Contains-cons_cases}
-use Rattle.cedar_fragments.proofs.Pairwise.{SameKey}
-use Rattle.cedar_fragments.specs.Words.{Expr, HoldsPairwise, InternalName, IsRefused, IsRefusedAmong, MembersRefer, Names, QualifyError, RecordType, Reference, ReferenceType, Refers, Resolves, ResolvesMembers, ResolvesTo, «Type», TypeOfAttribute, TypeVariant, flag_and_expr, member, members_from, name_of, named, out-RecordType, out-TypeOfAttribute, record_expr, record_type_expr, resolved_expr, resolved_record, resolved_reference, resolves_member, resolves_named, resolves_no_member, resolves_record, roll-RecordType, type_expr}
+use Rattle.cedar_fragments.specs.Words.{Expr, HoldsPairwise, InternalName, MembersRefer, Names, RecordType, Reference, ReferenceType, Refers, Resolves, ResolvesMembers, ResolvesTo, «Type», TypeOfAttribute, TypeVariant, flag_and_expr, member, members_from, name_of, named, out-RecordType, out-TypeOfAttribute, record_expr, record_type_expr, resolved_expr, resolved_record, resolved_reference, resolves_member, resolves_named, resolves_no_member, resolves_record, roll-RecordType, type_expr}
+use Rattle.cedar_name_resolution.proofs.Pairwise.{SameKey}
 use Rattle.cedar_schema_ast.proofs.ExprLemmas.{record_type_expr-entries, record_type_expr-made, flag_and_expr-parts}
 use Rattle.cedar_schema_ast.specs.declared.json_schema.qualify_error.QualifyError.TheVariants as error
 use Rattle.cedar_schema_ast.specs.declared.json_schema.type_of.Type.TheOpen as layer
-
-module _ (names : Names) where
-  -- references that are refused among some are refused among others that have all of those
-  pub refused_wider : (P Q : Reference → Type 0) → ((reference : Reference) → P reference → Q reference) → (refused : QualifyError)
-      → IsRefusedAmong names P refused → IsRefusedAmong names Q refused
-  refused_wider P Q to (error.TypeNotDefined it) among =
-      λ reference there. let found = among reference there in (to reference found.0, found.1)
-  refused_wider P Q to (error.Memory memory) among = tt
-
-  -- a reference that is refused alone is refused among some in which it stands
-  pub refused_one : (P : Reference → Type 0) (reference : Reference) → P reference → (refused : QualifyError)
-      → IsRefused names reference refused → IsRefusedAmong names P refused
-  refused_one P reference holds (error.TypeNotDefined it) alone =
-      λ other there.
-      let Has : List Reference → Type 0 = λ each. Contains each other in
-      elim (Contains-cons_cases reference [] other (subst Has alone.1 there)) [
-        | inl same ↦ rw (← same) (holds, alone.0)
-        | inr none ↦ absurd (omega (arith, none.1))
-      ]
-  refused_one P reference holds (error.Memory memory) alone = tt
 
 module _ (names : Names) {N : Type 0} (refer : ReferenceType → N → Reference) where
   -- the attribute is the one resolved

@@ -4,9 +4,10 @@ use Rattle.std.proofs.lemmas.List.Elements.{Contains-append_cases}
 use Rattle.std.specs.List.{flat_map}
 use Rattle.cedar_ast.proofs.Lists.{Contains-preimage}
 use Rattle.cedar_ast.proofs.TurnLemmas.{turn_weaker}
-use Rattle.cedar_fragments.proofs.Pairwise.{pairwise_append}
-use Rattle.cedar_fragments.proofs.UnresolvableLemmas.{to_resolve, unresolvable_wider, refused_unresolvable}
+use Rattle.cedar_fragments.proofs.UnresolvableLemmas.{to_resolve}
 use Rattle.cedar_fragments.specs.Words.{Bag, Declaration, Fault, HasToResolve, HasToResolveIn, HoldsPairwise, Included, IsAnyParent, IsParentIn, IsRefusedAmong, IsRequested, IsRequestedIn, IsUnresolvableBag, IsUnresolvableIn, Names, NoneIsReserved, QualifyError, Reference, ResolvesBag, ResolvesDeclaration, qualify_fault}
+use Rattle.cedar_name_resolution.proofs.Pairwise.{pairwise_append}
+use Rattle.cedar_name_resolution.proofs.RefusedLemmas.{unresolvable_wider, refused_unresolvable}
 use Rattle.cedar_schema_semantics.proofs.TurnLemmas.{turn_forth}
 
 module _ (names : Names) where

@@ -4,8 +4,9 @@ use Rattle.std.specs.List.{AllByRecursion, flat_map}
 use Rattle.cedar_ast.proofs.ValueLemmas.{IsName-type_name}
 use Rattle.cedar_fragments.proofs.DeclaredNames.{name_declared, uid_declared}
 use Rattle.cedar_fragments.proofs.FragmentLemmas.{flat_map-each}
-use Rattle.cedar_fragments.proofs.SoundLemmas.{AllByRecursion-append, sound_bag}
+use Rattle.cedar_fragments.proofs.SoundLemmas.{sound_bag}
 use Rattle.cedar_fragments.specs.Words.{ActionDef, EntityTypeDef, HasNoDefinitionFault, IsActionType, IsSound, PlainName, PlainUid, Reference, ReferenceType, ValidatorNamespaceDef, ValidatorSchemaFragment, action, action_fragment_body, action_fragment_declaration, action_fragment_declarations, common_type_declaration, common_type_declarations, definition_declarations, definition_namespace, entity_type, entity_type_declaration, entity_type_declarations, fragment_body, fragment_declarations, reserved_word, type_name, uid_of, written_bag, written_definition, written_fragment}
+use Rattle.cedar_name_resolution.proofs.EachLemmas.{AllByRecursion-append}
 
 -- the name is no type of actions, and isn't reserved
 abbrev IsSoundName : PlainName → Type 0

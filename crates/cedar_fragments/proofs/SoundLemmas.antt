@@ -1,24 +1,11 @@
 -- Declarations that give cause for a refusal whatever else is declared, and those that give none.
-use Rattle.std.proofs.Common.{◌≡◌, ◌≢◌, ◌⊎◌, List, [], ◌∷◌, ◌++◌, sym, ◌∙◌, ap, refl, inl, inr, Contains, Option, arith, subst}
+use Rattle.std.proofs.Common.{◌≡◌, ◌≢◌, ◌⊎◌, List, [], ◌∷◌, sym, ◌∙◌, ap, refl, inl, inr, Contains, Option, arith, subst}
 use Rattle.std.proofs.lemmas.Bool.{false≢true}
 use Rattle.std.specs.List.{AllByRecursion}
 use Rattle.cedar_ast.proofs.Basics.{Contains-image}
-use Rattle.cedar_ast.proofs.Lists.{Contains-cons_cases, Contains-preimage}
+use Rattle.cedar_ast.proofs.Lists.{Contains-preimage}
 use Rattle.cedar_fragments.specs.Words.{ActionBody, Bag, CommonType, CommonTypeId, Declaration, EntityBody, Fault, GivesNoCause, HasAttributes, HasNoDefinitionFault, Included, IsActionType, IsDefinitionFault, IsReserved, IsSound, NamesNoAttributes, PlainName, PlainUid, RawName, Text, action, action_attributes, action_entity_type, action_uids, action_word, common_declarations, declared_actions, declared_entities, declared_name, declared_uid, entity_type, name_within, out_of_memory, path_within, raw_reference, reserved_name, reserved_word}
 use Rattle.cedar_schema_semantics.proofs.DeclarationLemmas.{entity_declaration, action_declaration, declares_entity, declares_action}
-
--- what holds of each item holds of one
-pub AllByRecursion-at : {A : Type 0} (P : A → Type 0) (xs : List A) (x : A) → AllByRecursion P xs → Contains xs x → P x
-AllByRecursion-at P [] x all among = absurd (omega (arith, among.1))
-AllByRecursion-at P (first ∷ rest) x all among = elim (Contains-cons_cases first rest x among) [
-  | inl same ↦ rw same at all.0
-  | inr later ↦ AllByRecursion-at P rest x all.1 later
-]
-
--- what holds of each item of two lists holds of each of both together
-pub AllByRecursion-append : {A : Type 0} (P : A → Type 0) (xs ys : List A) → AllByRecursion P xs → AllByRecursion P ys → AllByRecursion P (xs ++ ys)
-AllByRecursion-append P [] ys all others = others
-AllByRecursion-append P (first ∷ rest) ys all others = (all.0, AllByRecursion-append P rest ys all.1 others)
 
 -- a declared entity type that is sound
 pub sound_entity : (bag : Bag) → AllByRecursion IsSound bag → (name : PlainName) (body : EntityBody)

@@ -1,10 +1,9 @@
 -- What can't be resolved in a part can't be in the whole.
 use Rattle.std.proofs.Common.{◌≡◌, List, [], ◌∷◌, map, ap, ◌∙◌, refl, inl, inr, Contains}
 use Rattle.std.specs.List.{AllByRecursion}
-use Rattle.cedar_ast.proofs.Basics.{Contains-image}
+use Rattle.cedar_ast.proofs.Basics.{AllByRecursion-at, Contains-image}
 use Rattle.cedar_ast.proofs.Lists.{Contains-preimage}
-use Rattle.cedar_fragments.proofs.SoundLemmas.{AllByRecursion-at}
-use Rattle.cedar_fragments.specs.Words.{ActionReference, AllDefs, Bag, Body, Declaration, Entity, EntityUID, Fault, HasToResolve, HasToResolveIn, HoldsPairwise, InternalName, IsDefined, IsRefusedAmong, IsReserved, IsUnresolvable, Names, NoneIsReserved, PlainName, PlainUid, QualifyError, Reference, ReferenceType, ResolvesBody, ResolvesDeclaration, ResolvesReference, ResolvesTo, action_not_defined, declared_action, declared_as, held_names, name_of, out_of_memory, qualify_fault, reference_to_one, reserved_name, resolved_reference, type_not_defined, uid_of}
+use Rattle.cedar_fragments.specs.Words.{AllDefs, Bag, Body, Declaration, Entity, EntityUID, HasToResolve, HasToResolveIn, HoldsPairwise, InternalName, IsDefined, IsReserved, Names, NoneIsReserved, PlainName, PlainUid, Reference, ReferenceType, ResolvesBody, ResolvesDeclaration, ResolvesReference, ResolvesTo, declared_action, declared_as, held_names, name_of, reference_to_one, resolved_reference, uid_of}
 use Rattle.cedar_schema_ast.specs.declared.json_schema.qualify_error.QualifyError.TheVariants as error
 use Rattle.cedar_schema_semantics.proofs.ResolutionLemmas.{IsFirst-same}
 use Rattle.cedar_schema_semantics.proofs.TurnLemmas.{turn_forth, turn_back}
@@ -23,26 +22,6 @@ resolves_declared names name body resolved qualifies = record { namespace = refl
 pub resolves_declared_action : (names : Names) (uid : PlainUid) (body resolved : Body) → ResolvesBody names body resolved
     → ResolvesDeclaration names (declared_action uid body) (declared_action uid resolved)
 resolves_declared_action names uid body resolved qualifies = record { namespace = refl; id = refl; body = qualifies }
-
-module _ (names : Names) where
-  -- what can't be resolved among some can't be among more
-  pub unresolvable_wider : (P P' : Reference → Type 0) (Q Q' : ActionReference → Type 0) (R R' : Reference → Type 0)
-      → ((reference : Reference) → P reference → P' reference) → ((parent : ActionReference) → Q parent → Q' parent)
-      → ((reference : Reference) → R reference → R' reference) → (fault : Fault) → IsUnresolvable names P Q R fault
-      → IsUnresolvable names P' Q' R' fault
-  unresolvable_wider P P' Q Q' R R' p q r (type_not_defined references) unresolvable =
-      (unresolvable.0, λ reference among. let each = unresolvable.1 reference among in (p reference each.0, each.1))
-  unresolvable_wider P P' Q Q' R R' p q r (action_not_defined actions) unresolvable =
-      (unresolvable.0, λ carried among. let each = unresolvable.1 carried among in (each.0, q each.0 each.1, each.2, each.3))
-  unresolvable_wider P P' Q Q' R R' p q r (reserved_name name) unresolvable = (unresolvable.0, r unresolvable.0 unresolvable.1, unresolvable.2, unresolvable.3)
-  unresolvable_wider P P' Q Q' R R' p q r out_of_memory unresolvable = tt
-  unresolvable_wider P P' Q Q' R R' p q r _ unresolvable = absurd unresolvable
-
-  -- references that are refused among some can't be resolved
-  pub refused_unresolvable : (P : Reference → Type 0) (Q : ActionReference → Type 0) (R : Reference → Type 0) (refused : QualifyError)
-      → IsRefusedAmong names P refused → IsUnresolvable names P Q R (qualify_fault refused)
-  refused_unresolvable P Q R (error.TypeNotDefined it) among = ((λ nothing. cc), among)
-  refused_unresolvable P Q R (error.Memory memory) among = tt
 
 -- no held action has a type that is reserved
 pub action_unreserved : (defs : AllDefs) (uid : PlainUid) → Contains (held_names defs).actions uid → ¬ IsReserved uid.ty

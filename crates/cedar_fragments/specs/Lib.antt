@@ -1,6 +1,9 @@
 pub mod ActionDeclarations
 pub mod ActionTypeName
+pub mod Collected
+pub mod CollectedDeclarations
 pub mod DeclaredAs
+pub mod DeclaredNames
 pub mod DefinitionFault
 pub mod DefinitionsPairwise
 pub mod FragmentCopies
@@ -9,11 +12,7 @@ pub mod FragmentFault
 pub mod FragmentLocs
 pub mod FragmentNamespaces
 pub mod GivenCommonTypes
-pub mod HeldNames
 pub mod Located
-pub mod QualifyFault
-pub mod Refused
-pub mod ShadowedNames
 pub mod TypeDeclarations
 pub mod WithAttributes
 pub mod Words

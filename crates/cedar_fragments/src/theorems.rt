@@ -2,7 +2,7 @@
 
 ghost use Rattle.std.specs.Prelude.{◌≡◌, List};
 ghost use Rattle.std.specs.List.{flat_map};
-ghost use Rattle.cedar_fragments.specs.Words.{AreTheDeclaredNames, HasNoDefinitionFault, PositionsFit, Reference, ReferenceType, RefersAlike, SameDeclarations, ValidatorSchemaFragment, conditional_bag, conditional_fragment, declared_names, fragment_declarations, own_reference, positional_reference, resolved_action_type, resolved_fragment, resolved_reference};
+ghost use Rattle.cedar_fragments.specs.Words.{AreTheDeclaredNames, Extensions, HasNoDefinitionFault, IsFault, PlainName, PositionsFit, Reference, ReferenceType, RefersAlike, SameDeclarations, Text, ValidatorSchemaFragment, action_attributes, action_entity_type, conditional_bag, conditional_fragment, declared_names, fragment_declarations, own_reference, positional_reference, reserved_name, resolved_action_type, resolved_bag, resolved_fragment, resolved_reference};
 ghost use Rattle.cedar_ast.specs.declared.entity_type.EntityType.{EntityType as ActionEntityType};
 ghost use Rattle.cedar_ast.specs.declared.internal_name.InternalName.{InternalName as Full};
 ghost use Rattle.cedar_schema_ast.specs.declared.json_schema.conditional_name.ConditionalName.{ConditionalName as Conditional};
@@ -58,4 +58,33 @@ pub fn copies_have_the_same_bag()
         → SameDeclarations ⟦<InternalName as FragmentName>⟧.is_alike
         ⟦<EntityType as FragmentName>⟧.is_alike fragment copy
         → resolved_fragment copy ≡ resolved_fragment fragment }
+{}
+
+/// Fragments over full names declare no action with attributes, no entity type with the base name
+/// of actions' types, and no entity type or action in a reserved namespace.
+pub fn resolved_definitions_have_no_fault()
+    ensures attributes { (fragments : List (ValidatorSchemaFragment Full ActionEntityType))
+        (extensions : Extensions) (ids : List Text)
+        → ¬ IsFault (resolved_bag fragments) extensions (action_attributes ids) }
+    ensures action_types { (fragments : List (ValidatorSchemaFragment Full ActionEntityType))
+        (extensions : Extensions) (name : PlainName)
+        → ¬ IsFault (resolved_bag fragments) extensions (action_entity_type name) }
+    ensures reserved { (fragments : List (ValidatorSchemaFragment Full ActionEntityType))
+        (extensions : Extensions) (name : PlainName)
+        → ¬ IsFault (resolved_bag fragments) extensions (reserved_name name) }
+{}
+
+/// A definition over conditional names is refused for no fault of a bag.
+pub fn conditional_definitions_have_no_fault()
+    ensures attributes { (fragments : List
+        (ValidatorSchemaFragment Conditional Conditional)) (extensions : Extensions)
+        (ids : List Text)
+        → ¬ IsFault (conditional_bag fragments) extensions (action_attributes ids) }
+    ensures action_types { (fragments : List
+        (ValidatorSchemaFragment Conditional Conditional)) (extensions : Extensions)
+        (name : PlainName)
+        → ¬ IsFault (conditional_bag fragments) extensions (action_entity_type name) }
+    ensures reserved { (fragments : List (ValidatorSchemaFragment Conditional Conditional))
+        (extensions : Extensions) (name : PlainName)
+        → ¬ IsFault (conditional_bag fragments) extensions (reserved_name name) }
 {}

@@ -2,8 +2,8 @@
 use Rattle.std.proofs.Common.{◌≡◌, List, ◌∷◌, ◌++◌, Contains, refl, arith, ap}
 use Rattle.std.proofs.lemmas.List.Elements.{Contains-append_right}
 use Rattle.std.specs.List.{AllByRecursion}
-use Rattle.cedar_fragments.proofs.ListedSoFar.{ListedSoFar}
 use Rattle.cedar_fragments.specs.Words.{IsSound, written_fragment}
+use Rattle.cedar_name_resolution.proofs.ListedSoFar.{ListedSoFar}
 use Rattle.cedar_schema.specs.Words.{Fragment, RawName, ValidatorSchemaFragment}
 use Rattle.cedar_schema_ast.specs.Words.{raw_fragment, raw_reference}
 

@@ -1,7 +1,7 @@
 use Rattle.std.specs.Prelude.{List, Option}
 use Rattle.cedar_ast.specs.Words.{PlainName}
+use Rattle.cedar_fragments.specs.Words.{AreCollectedDeclarations}
 use Rattle.cedar_fragments.specs.declared.namespace.fragment.ValidatorSchemaFragment.{ValidatorSchemaFragment}
-use Rattle.cedar_resolution.specs.Words.{AreCollectedDeclarations}
 use Rattle.cedar_schema.specs.Located.{AreShown}
 use Rattle.cedar_schema.specs.declared.collected_fragments.CollectedFragments.{CollectedFragments}
 use Rattle.cedar_schema_ast.specs.Words.{Reference}

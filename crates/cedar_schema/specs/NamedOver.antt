@@ -1,7 +1,7 @@
 use Rattle.std.specs.Prelude.{◌≡◌, ◌++◌, List}
 use Rattle.cedar_ast.specs.Words.{PlainName, PlainUid, TypeNamesFit, extension_types}
 use Rattle.cedar_ast.specs.declared.extension.Extensions.{Extensions}
-use Rattle.cedar_fragments.specs.Words.{HoldsJust}
+use Rattle.cedar_name_resolution.specs.Words.{HoldsJust}
 use Rattle.cedar_schema_ast.specs.Words.{Expr}
 use Rattle.cedar_schema_semantics.specs.Words.{Bag, IsFault, Names, action_shadowing, aliases, built_ins, defined_names, type_shadowing}
 

@@ -1,7 +1,6 @@
 use Rattle.std.specs.List.{filter, flat_map, list_any}
 use Rattle.std.specs.Option.{is_some}
-use Rattle.std.specs.Prelude.{Bool, ◌&&◌, not, List, map, Option}
-use Rattle.std.specs.Prelude.{string_bytes}
+use Rattle.std.specs.Prelude.{Bool, ◌&&◌, not, List, map, Option, string_bytes}
 use Rattle.std.specs.Str.{bytes_eq}
 use Rattle.cedar_ast.specs.Words.{Text, name_of, primitive_words}
 use Rattle.cedar_ast.specs.declared.loc.Loc.{Loc}

@@ -31,15 +31,16 @@ pub use Rattle.cedar_elaboration.specs.declared.type_scope.TypeScope.{TypeScope}
 pub use Rattle.cedar_fragments.specs.DefinitionFault.{HasNoDefinitionFault, NamesAllWithAttributes}
 pub use Rattle.cedar_fragments.specs.FragmentDeclarations.{conditional_bag, written_bag}
 pub use Rattle.cedar_fragments.specs.FragmentFault.{NamesAllOfADefinition}
-pub use Rattle.cedar_fragments.specs.HeldNames.{HoldsJust, held_names}
+pub use Rattle.cedar_name_resolution.specs.HeldNames.{HoldsJust, held_names}
 pub use Rattle.cedar_fragments.specs.Located.{DefinedNamespace, LocatedName, definition_common_types, definition_namespaces, entry_common_names, entry_namespaces, fragment_common_names, fragment_definitions, located_name, named_namespace, named_namespaces, written_common_names}
-pub use Rattle.cedar_fragments.specs.WrittenDeclarations.{written_actions, written_common, written_entities}
+pub use Rattle.cedar_fragments.specs.WrittenDeclarations.{written_actions, written_entities}
+pub use Rattle.cedar_name_resolution.specs.WrittenTypes.{written_common}
 pub use Rattle.cedar_fragments.specs.declared.namespace.actions.ActionFragment.{ActionFragment}
 pub use Rattle.cedar_fragments.specs.declared.namespace.common_types.CommonTypeDef.{CommonTypeDef}
 pub use Rattle.cedar_fragments.specs.declared.namespace.definition.ValidatorNamespaceDef.{ValidatorNamespaceDef}
 pub use Rattle.cedar_fragments.specs.declared.namespace.entity_types.EntityTypeFragment.{EntityTypeFragment}
 pub use Rattle.cedar_fragments.specs.declared.namespace.fragment.ValidatorSchemaFragment.{ValidatorSchemaFragment}
-pub use Rattle.cedar_fragments.specs.declared.namespace.written.Written.{Written}
+pub use Rattle.cedar_name_resolution.specs.declared.written.Written.{Written}
 pub use Rattle.cedar_queries.specs.GivesLeaf.{pending_types}
 pub use Rattle.cedar_queries.specs.Hierarchy.{IsKnownType, MayBeIn, action_descendants, descendants_of, groups, has_name, is_nonempty, types_above}
 pub use Rattle.cedar_queries.specs.Incomplete.{IsIncomplete}
@@ -50,7 +51,7 @@ pub use Rattle.cedar_queries.specs.Possible.{AreDeclaredTypes, IsKnownUid, MayHa
 pub use Rattle.cedar_queries.specs.RequestEnvs.{environments_left}
 pub use Rattle.cedar_queries.specs.RequestTypes.{action_at, actions_for, all_principals, all_resources, context_at}
 pub use Rattle.cedar_queries.specs.Unresolved.{unresolved, unresolved_left}
-pub use Rattle.cedar_resolution.specs.CollectedDeclarations.{Collects}
+pub use Rattle.cedar_fragments.specs.CollectedDeclarations.{Collects}
 pub use Rattle.cedar_schema_ast.specs.ActionBody.{ActionBody}
 pub use Rattle.cedar_schema_ast.specs.Declaration.{raw_bag, raw_declarations, raw_fragment}
 pub use Rattle.cedar_schema_ast.specs.EntityBody.{EntityBody}

@@ -10,11 +10,10 @@ use crate::shared::Shared;
 use cedar_ast::{EntityType, EntityUID, Extensions};
 use cedar_builder::{actions, entity_types};
 use cedar_elaboration::{SharedTypes, TypeScope, defined_common_types};
-use cedar_fragments::defs::{AllDefs, WrittenName};
 use cedar_fragments::namespace::ValidatorSchemaFragment;
-use cedar_resolution::{
-    CollectedDeclarations, Declarations, DeclaredCommonType, DefinedNames, defined_names,
-};
+use cedar_fragments::{CollectedDeclarations, Declarations};
+use cedar_name_resolution::defs::{AllDefs, WrittenName};
+use cedar_name_resolution::{DeclaredCommonType, DefinedNames, defined_names};
 use cedar_schema_elements::{ValidatorActionId, ValidatorEntityType};
 use cedar_schema_semantics::SchemaError;
 use cedar_table::Table;

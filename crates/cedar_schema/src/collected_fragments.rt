@@ -5,9 +5,9 @@ ghost use Rattle.cedar_schema.specs.Words.{AreCollectedFragments, ValidatorSchem
 
 use crate::collecting::Located;
 use cedar_ast::M;
-use cedar_fragments::defs::WrittenName;
+use cedar_fragments::CollectedDeclarations;
 use cedar_fragments::namespace::ValidatorSchemaFragment;
-use cedar_resolution::CollectedDeclarations;
+use cedar_name_resolution::defs::WrittenName;
 use std::alloc::Global;
 
 /// What is taken over of some fragments. All that is wanted of one is taken at once, while it is at

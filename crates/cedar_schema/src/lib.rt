@@ -25,8 +25,9 @@
 #![tactic(auto)]
 
 pub use cedar_counterexample as member;
-pub use cedar_fragments::{defs, namespace};
+pub use cedar_fragments::namespace;
 pub use cedar_graph::{TCNode, TcError, compute_tc, compute_tc_counted};
+pub use cedar_name_resolution::defs;
 pub use cedar_queries::{
     ActionGroups, ActionsFor, Ancestors, ApplicableTypes, CompleteError, IncompleteSchemaError,
     RequestEnvs, TypeIterator, UnresolvedDeclaration, UnresolvedDeclarations,

@@ -28,8 +28,8 @@ pub use Rattle.cedar_ast.specs.declared.entity_type.EntityType.{EntityType}
 pub use Rattle.cedar_ast.specs.declared.entity_uid.EntityUID.{EntityUID}
 pub use Rattle.cedar_ast.specs.declared.memory.Memory.{Memory}
 pub use Rattle.cedar_ast.specs.declared.value.Value.{Value}
-pub use Rattle.cedar_fragments.specs.HeldNames.{held_names}
-pub use Rattle.cedar_fragments.specs.QualifyFault.{IsUnresolvable}
+pub use Rattle.cedar_name_resolution.specs.HeldNames.{held_names}
+pub use Rattle.cedar_name_resolution.specs.QualifyFault.{IsUnresolvable}
 pub use Rattle.cedar_schema_ast.specs.ConditionalName.{conditional_reference, possibilities_of, reference_type_of}
 pub use Rattle.cedar_schema_ast.specs.Reference.{Reference}
 pub use Rattle.cedar_schema_ast.specs.declared.json_schema.conditional_name.ConditionalName.{ConditionalName}

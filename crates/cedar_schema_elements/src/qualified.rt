@@ -6,7 +6,7 @@ ghost use Rattle.cedar_schema_elements.specs.Words.{IsNamedBy, IsReserved, IsUnr
 
 use crate::apply_spec::ValidatorApplySpec;
 use cedar_ast::EntityType;
-use cedar_fragments::defs::{AllDefs, ResolveName};
+use cedar_name_resolution::defs::{AllDefs, ResolveName};
 use cedar_schema_ast::json_schema::ConditionalName;
 use cedar_schema_semantics::SchemaError;
 use std::alloc::Global;

@@ -1,10 +1,10 @@
 -- What is taken over of fragments.
 use Rattle.std.specs.Prelude.{◌≡◌, ◌++◌}
 use Rattle.cedar_ast.specs.declared.extension.Extensions.{Extensions}
-use Rattle.cedar_fragments.specs.Words.{HoldsJust, held_names, listed_names, names_given}
-use Rattle.cedar_fragments.specs.WrittenDeclarations.{written_common}
-use Rattle.cedar_resolution.specs.Words.{Collects}
-use Rattle.cedar_resolution.specs.declared.collected_declarations.CollectedDeclarations.{CollectedDeclarations}
+use Rattle.cedar_fragments.specs.Words.{Collects}
+use Rattle.cedar_fragments.specs.declared.collected_declarations.CollectedDeclarations.{CollectedDeclarations}
+use Rattle.cedar_name_resolution.specs.Words.{HoldsJust, held_names, listed_names, names_given}
+use Rattle.cedar_name_resolution.specs.WrittenTypes.{written_common}
 use Rattle.cedar_schema_ast.specs.Words.{raw_reference}
 use Rattle.cedar_schema_ast.specs.declared.json_schema.raw_name.RawName.{RawName}
 use Rattle.cedar_schema_semantics.specs.Words.{Bag, aliases, built_ins, defined_names}

@@ -10,11 +10,12 @@ pub use Rattle.cedar_ast.specs.Text.{Text}
 pub use Rattle.cedar_ast.specs.TypeNames.{TypeNamesFit}
 pub use Rattle.cedar_ast.specs.declared.extension.Extensions.{Extensions}
 pub use Rattle.cedar_ast.specs.declared.internal_name.InternalName.{InternalName}
-pub use Rattle.cedar_fragments.specs.HeldNames.{HoldsJust, held_names}
-pub use Rattle.cedar_fragments.specs.WrittenDeclarations.{written_action_body, written_actions, written_common, written_entities, written_entity_body, written_expr, written_namespace}
-pub use Rattle.cedar_fragments.specs.declared.namespace.written.Written.{Written}
-pub use Rattle.cedar_resolution.specs.CollectedDeclarations.{AreCollectedDeclarations, Collects}
-pub use Rattle.cedar_resolution.specs.DeclaredJust.{DeclaresJust}
+pub use Rattle.cedar_name_resolution.specs.HeldNames.{HoldsJust, held_names}
+pub use Rattle.cedar_fragments.specs.WrittenDeclarations.{written_action_body, written_actions, written_entities, written_entity_body}
+pub use Rattle.cedar_name_resolution.specs.WrittenTypes.{written_common, written_expr, written_namespace}
+pub use Rattle.cedar_name_resolution.specs.declared.written.Written.{Written}
+pub use Rattle.cedar_fragments.specs.CollectedDeclarations.{AreCollectedDeclarations, Collects}
+pub use Rattle.cedar_name_resolution.specs.DeclaredJust.{DeclaresJust}
 pub use Rattle.cedar_schema_ast.specs.Declaration.{raw_bag, raw_fragment}
 pub use Rattle.cedar_schema_ast.specs.Expr.{Expr, Members, extension_expr, member, members_from, named, no_member, record_expr, set_expr}
 pub use Rattle.cedar_schema_ast.specs.NamespaceName.{namespace_name}

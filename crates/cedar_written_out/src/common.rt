@@ -1,8 +1,7 @@
 //! Common types, each measured once.
 
 ghost use Rattle.std.specs.Prelude.{[], IfOk};
-ghost use Rattle.cedar_written_out.specs.Words.{AddsIndices, AreFigures, AreIndices, Defined, DefinesJust, HoldsPairwise, Refers, held_names, indexed_names, item_names, raw_reference, written_common};
-ghost use Rattle.cedar_written_out.specs.Words.{RawName as Raw};
+ghost use Rattle.cedar_written_out.specs.Words.{AddsIndices, AreFigures, AreIndices, Defined, DefinesJust, HoldsPairwise, Refers, held_names, indexed_names, item_names, raw_reference, written_common, RawName as Raw};
 
 use crate::figure::Figure;
 use crate::indices::Indices;
@@ -10,8 +9,8 @@ use crate::measuring::{FigureScope, measure};
 use crate::ordering::lowest_first;
 use crate::referring::{IndexScope, referred_indices};
 use cedar_ast::M;
-use cedar_fragments::defs::AllDefs;
-use cedar_resolution::DeclaredCommonType;
+use cedar_name_resolution::DeclaredCommonType;
+use cedar_name_resolution::defs::AllDefs;
 use cedar_schema_ast::json_schema::RawName;
 use std::alloc::Global;
 

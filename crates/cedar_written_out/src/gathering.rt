@@ -4,11 +4,10 @@ ghost use Rattle.std.specs.Prelude.{◌≡◌, ◌⊎◌, IfErr, IfOk};
 ghost use Rattle.cedar_written_out.specs.Words.{Extensions as Given, IsFault, IsGathered, IsKnown, fault_of, out_of_memory, raw_bag};
 
 use cedar_ast::Extensions;
-use cedar_fragments::defs::AllDefs;
 use cedar_fragments::namespace::{UnqualifiedActionType, ValidatorSchemaFragment};
-use cedar_resolution::{
-    CollectedDeclarations, Declarations, DeclaredCommonType, DefinedNames, defined_names,
-};
+use cedar_fragments::{CollectedDeclarations, Declarations};
+use cedar_name_resolution::defs::AllDefs;
+use cedar_name_resolution::{DeclaredCommonType, DefinedNames, defined_names};
 use cedar_schema_ast::json_schema::{Fragment, RawName};
 use cedar_schema_semantics::SchemaError;
 use std::alloc::Global;

@@ -1,11 +1,10 @@
 //! The indices of common types.
 
 ghost use Rattle.std.specs.Prelude.{◌≡◌, ◌⊎◌, IfErr, IfOk, OnOk};
-ghost use Rattle.cedar_written_out.specs.Words.{AreIndices, PlainName, Twice, duplicate_common_type, fault_of, indexed_names, item_names, out_of_memory, raw_reference, written_common};
-ghost use Rattle.cedar_written_out.specs.Words.{RawName as Raw};
+ghost use Rattle.cedar_written_out.specs.Words.{AreIndices, PlainName, Twice, duplicate_common_type, fault_of, indexed_names, item_names, out_of_memory, raw_reference, written_common, RawName as Raw};
 
 use cedar_ast::{InternalName, put};
-use cedar_resolution::DeclaredCommonType;
+use cedar_name_resolution::DeclaredCommonType;
 use cedar_schema_ast::json_schema::RawName;
 use cedar_schema_semantics::SchemaError;
 use std::alloc::Global;

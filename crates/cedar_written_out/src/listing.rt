@@ -1,14 +1,14 @@
 //! The types that are declared, listed with their figures.
 
 ghost use Rattle.std.specs.Prelude.{◌≡◌, ◌++◌, List, OnOk, map};
-ghost use Rattle.cedar_written_out.specs.Words.{Defined, Expr, KnowsAll, ListsAlso, PlainName, common_expr, context_exprs, declared_loc, entity_exprs, exprs_of_actions, exprs_of_entities, raw_reference, type_name, uid_of, written_action_body, written_actions, written_common, written_entities, written_entity_body};
-ghost use Rattle.cedar_written_out.specs.Words.{RawName as Raw};
+ghost use Rattle.cedar_written_out.specs.Words.{Defined, Expr, KnowsAll, ListsAlso, PlainName, common_expr, context_exprs, declared_loc, entity_exprs, exprs_of_actions, exprs_of_entities, raw_reference, type_name, uid_of, written_action_body, written_actions, written_common, written_entities, written_entity_body, RawName as Raw};
 
 use crate::figure::Figure;
 use crate::measuring::{FigureScope, measure};
 use cedar_ast::{EntityType, EntityUID, InternalName, Loc, M};
-use cedar_fragments::namespace::{ActionFragment, EntityTypeFragment, Written};
-use cedar_resolution::{DeclaredAction, DeclaredCommonType, DeclaredEntityType};
+use cedar_fragments::namespace::{ActionFragment, EntityTypeFragment};
+use cedar_fragments::{DeclaredAction, DeclaredEntityType};
+use cedar_name_resolution::{DeclaredCommonType, Written};
 use cedar_schema_ast::json_schema::RawName;
 
 /// A type that is declared, by what it is of. The name is located where its declaration was

@@ -7,7 +7,7 @@ use crate::figure::Figure;
 use crate::indices::Indices;
 use crate::referring::may_name_common;
 use cedar_ast::{InternalName, M};
-use cedar_fragments::defs::{AllDefs, WrittenName};
+use cedar_name_resolution::defs::{AllDefs, WrittenName};
 use cedar_schema_ast::json_schema::{RawName, RecordType, ReferenceType, Type, TypeVariant};
 
 /// What is known as types are measured.

@@ -5,7 +5,7 @@ ghost use Rattle.cedar_written_out.specs.Words.{AddsIndices, MayNameCommon, Refe
 
 use crate::indices::Indices;
 use cedar_ast::{InternalName, M};
-use cedar_fragments::defs::{AllDefs, WrittenName};
+use cedar_name_resolution::defs::{AllDefs, WrittenName};
 use cedar_schema_ast::json_schema::{RawName, RecordType, ReferenceType, Type, TypeVariant};
 use std::alloc::Global;
 

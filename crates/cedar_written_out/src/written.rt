@@ -9,7 +9,7 @@ use crate::indices::name_indices;
 use crate::listing::{Measured, list_actions, list_common_types, list_entity_types};
 use crate::measuring::FigureScope;
 use cedar_ast::Extensions;
-use cedar_resolution::Declarations;
+use cedar_fragments::Declarations;
 use cedar_schema_ast::json_schema::{Fragment, RawName};
 use cedar_schema_semantics::SchemaError;
 use std::alloc::Global;

@@ -10,8 +10,8 @@ ghost use Rattle.cedar_schema_ast.specs.declared.json_schema.raw_name.RawName.{R
 
 use crate::namespace::action_def::ActionDef;
 use crate::namespace::entity_types::entity_references;
-use crate::namespace::full_name::full_name;
 use cedar_ast::{Eid, EntityType, EntityUID, Id, InternalName, Loc, M, identifier};
+use cedar_name_resolution::full_name::full_name;
 use cedar_schema_ast::json_schema::{
     ActionEntityUID, ActionType, ApplySpec, ConditionalName, RawName, RecordType, ReferenceType,
     Type, TypeVariant,

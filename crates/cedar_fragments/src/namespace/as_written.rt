@@ -16,8 +16,8 @@ use crate::namespace::definition::{ValidatorNamespaceDef, lend};
 use crate::namespace::entity_type_def::EntityTypeDef;
 use crate::namespace::entity_types::{EntityTypeFragment, EntityTypesDef, entity_type_name};
 use crate::namespace::fragment::{ValidatorSchemaFragment, internal_namespace};
-use crate::namespace::full_name::full_name;
 use cedar_ast::{InternalName, M, UnreservedId};
+use cedar_name_resolution::full_name::full_name;
 use cedar_schema_ast::json_schema;
 use cedar_schema_ast::json_schema::{
     ActionType, CommonType, CommonTypeId, Fragment, NamespaceDefinition, RawName,

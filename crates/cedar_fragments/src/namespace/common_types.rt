@@ -6,8 +6,8 @@ ghost use Rattle.cedar_fragments.specs.Words.{common_declarations, common_type_d
 ghost use Rattle.cedar_schema_ast.specs.declared.json_schema.conditional_name.ConditionalName.{ConditionalName as Conditional};
 ghost use Rattle.cedar_schema_ast.specs.declared.json_schema.raw_name.RawName.{RawName as Raw};
 
-use crate::namespace::full_name::full_name;
 use cedar_ast::{InternalName, Loc, M};
+use cedar_name_resolution::full_name::full_name;
 use cedar_schema_ast::json_schema::{CommonType, CommonTypeId, ConditionalName, RawName, Type};
 use std::alloc::Global;
 use std::collections::BTreeMap;

@@ -10,8 +10,8 @@ ghost use Rattle.cedar_schema_ast.specs.declared.json_schema.conditional_name.Co
 ghost use Rattle.cedar_schema_ast.specs.declared.json_schema.reference_type.ReferenceType.TheVariants.{Entity as entity};
 
 use crate::namespace::entity_type_def::EntityTypeDef;
-use crate::namespace::full_name::full_name;
 use cedar_ast::{Eid, EntityType, InternalName, Loc, M, NonEmpty, UnreservedId};
+use cedar_name_resolution::full_name::full_name;
 use cedar_schema_ast::json_schema;
 use cedar_schema_ast::json_schema::{
     AttributesOrContext, ConditionalName, EntityTypeKind, RawName, ReferenceType, Type,

@@ -3,10 +3,10 @@
 ghost use Rattle.std.specs.Prelude.{◌≡◌, IfErr, IfOk};
 ghost use Rattle.cedar_fragments.specs.Words.{IsUnresolvable, NamesAction, fault_of, fragment_parent, held_names, namespace_name, uid_loc, uid_of};
 
-use crate::defs::{AllDefs, WrittenName};
 use crate::namespace::actions::ActionParent;
 use crate::namespace::qualify_actions::first_action;
 use cedar_ast::{EntityUID, InternalName, NonEmpty};
+use cedar_name_resolution::defs::{AllDefs, WrittenName};
 use cedar_schema_ast::json_schema::{ActionEntityUID, ReferenceType};
 use cedar_schema_semantics::SchemaError;
 

@@ -8,11 +8,11 @@ ghost use Rattle.cedar_ast.specs.declared.internal_name.InternalName.{InternalNa
 ghost use Rattle.cedar_schema_ast.specs.declared.json_schema.conditional_name.ConditionalName.{ConditionalName as Conditional};
 ghost use Rattle.cedar_schema_ast.specs.declared.json_schema.reference_type.ReferenceType.TheVariants.{Entity as entity};
 
-use crate::defs::{AllDefs, WrittenName};
 use crate::namespace::action_def::ActionDef;
 use crate::namespace::actions::{ActionFragment, ActionParent, ActionRequests, ActionsDef};
 use crate::namespace::qualify_types::{qualify_entity_types, qualify_type};
 use cedar_ast::{Eid, EntityType, EntityUID, InternalName, Loc, M, Name, NonEmpty};
+use cedar_name_resolution::defs::{AllDefs, WrittenName};
 use cedar_schema_ast::json_schema::ConditionalName;
 use cedar_schema_semantics::SchemaError;
 

@@ -7,10 +7,10 @@ ghost use Rattle.cedar_ast.specs.declared.internal_name.InternalName.{InternalNa
 ghost use Rattle.cedar_fragments.specs.Words.{HoldsPairwise, IsRequested, IsUnresolvableBag, NoneIsReserved, ResolvesBag, conditional_definition, conditional_fragment, conditional_pairwise, definition_common_names, definition_loc, definition_locs, definition_name, definition_namespace, fault_of, fragment_common_names, held_names, located_namespaces, locs_pairwise, no_locs, resolved_definition, resolved_fragment, resolved_in_turn, written_definition, written_fragment, written_pairwise};
 ghost use Rattle.cedar_schema_ast.specs.declared.json_schema.conditional_name.ConditionalName.{ConditionalName as Conditional};
 
-use crate::defs::{AllDefs, WrittenName};
 use crate::namespace::definition::{ValidatorNamespaceDef, lend};
 use crate::namespace::fragment::ValidatorSchemaFragment;
 use cedar_ast::{EntityType, InternalName};
+use cedar_name_resolution::defs::{AllDefs, WrittenName};
 use cedar_schema_ast::json_schema::ConditionalName;
 use cedar_schema_semantics::SchemaError;
 

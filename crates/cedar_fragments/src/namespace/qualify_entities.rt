@@ -6,12 +6,12 @@ ghost use Rattle.cedar_ast.specs.declared.internal_name.InternalName.{InternalNa
 ghost use Rattle.cedar_fragments.specs.Words.{Expr, HasToResolve, HasToResolveIn, IsRefusedAmong, Refers, ResolvesBag, ResolvesEntityBody, ResolvesTags, common_type_declarations, common_type_defs, common_types_locs, entity_fragment_locs, entity_type, entity_type_declarations, entity_types_locs, fragment_body, held_names, located_common_names, namespace_name, no_locs, positional_reference, resolved_expr, resolved_reference, tags_locs, type_expr};
 ghost use Rattle.cedar_schema_ast.specs.declared.json_schema.conditional_name.ConditionalName.{ConditionalName as Conditional};
 
-use crate::defs::{AllDefs, WrittenName};
 use crate::namespace::common_types::{CommonTypeDef, CommonTypeDefs};
 use crate::namespace::entity_type_def::EntityTypeDef;
 use crate::namespace::entity_types::{EntityTypeFragment, EntityTypesDef};
 use crate::namespace::qualify_types::{qualify_entity_types, qualify_type};
 use cedar_ast::InternalName;
+use cedar_name_resolution::defs::{AllDefs, WrittenName};
 use cedar_schema_ast::json_schema::{AttributesOrContext, ConditionalName, QualifyError, Type};
 
 impl<N: WrittenName + Drop> CommonTypeDefs<N> {

@@ -5,8 +5,9 @@ ghost use Rattle.cedar_fragments.specs.Words.{HoldsPairwise, IsRefusedAmong, Ref
 ghost use Rattle.cedar_ast.specs.declared.internal_name.InternalName.{InternalName as Full};
 ghost use Rattle.cedar_schema_ast.specs.declared.json_schema.reference_type.ReferenceType.TheVariants.{Entity as entity};
 
-use crate::defs::{AllDefs, WrittenName, resolve_within};
 use cedar_ast::{InternalName, put};
+use cedar_name_resolution::defs::{AllDefs, WrittenName};
+use cedar_name_resolution::resolve_within;
 use cedar_schema_ast::json_schema::{
     QualifyError, RecordType, ReferenceType, Type, TypeOfAttribute, TypeVariant,
 };

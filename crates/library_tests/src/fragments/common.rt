@@ -3,9 +3,10 @@
 use crate::fragments::refusals::refusal_text;
 use cedar_ast::{InternalName, M};
 use cedar_elaboration::{SharedTypes, common_types};
-use cedar_fragments::defs::AllDefs;
+use cedar_fragments::CollectedDeclarations;
 use cedar_fragments::namespace::{UnqualifiedActionType, ValidatorSchemaFragment};
-use cedar_resolution::{CollectedDeclarations, DeclaredCommonType};
+use cedar_name_resolution::DeclaredCommonType;
+use cedar_name_resolution::defs::AllDefs;
 use cedar_schema_ast::json_schema::RawName;
 use cedar_types::Type;
 use shorthand::checked::same;

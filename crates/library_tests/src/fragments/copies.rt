@@ -3,8 +3,8 @@
 use crate::fragments::declarations::fragment_of;
 use crate::fragments::shown::is_alike;
 use cedar_ast::{EntityType, InternalName};
-use cedar_fragments::defs::AllDefs;
 use cedar_fragments::namespace::ValidatorSchemaFragment;
+use cedar_name_resolution::defs::AllDefs;
 use shorthand::checked::holds;
 use std::alloc::Global;
 use std::test::Fail;

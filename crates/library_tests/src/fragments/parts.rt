@@ -4,11 +4,11 @@ use crate::fragments::copies::resolved_fragment;
 use crate::fragments::declarations::{definition_of, fragment_of};
 use crate::fragments::shown::{is_alike, shown};
 use cedar_ast::M;
-use cedar_fragments::defs::AllDefs;
 use cedar_fragments::namespace::{
     ActionDef, ActionFragment, ActionParent, ActionRequests, ActionsDef, CommonTypeDef,
     CommonTypeDefs, EntityTypeDef, EntityTypesDef, ValidatorNamespaceDef,
 };
+use cedar_name_resolution::defs::AllDefs;
 use cedar_schema_ast::json_schema::ConditionalName;
 use shorthand::checked::{holds, same};
 use std::alloc::Global;

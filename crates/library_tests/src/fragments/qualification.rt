@@ -3,9 +3,10 @@
 use crate::fragments::declarations::fragments_of;
 use crate::fragments::refusals::refusal_text;
 use cedar_ast::{EntityType, Extensions, InternalName};
-use cedar_fragments::defs::{AllDefs, WrittenName};
+use cedar_fragments::CollectedDeclarations;
 use cedar_fragments::namespace::ValidatorSchemaFragment;
-use cedar_resolution::{CollectedDeclarations, DefinedNames, defined_names};
+use cedar_name_resolution::defs::{AllDefs, WrittenName};
+use cedar_name_resolution::{DefinedNames, defined_names};
 use cedar_schema_ast::json_schema::ConditionalName;
 use cedar_schema_semantics::SchemaError;
 use shorthand::checked::{holds, same};

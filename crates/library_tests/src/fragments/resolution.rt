@@ -3,8 +3,8 @@
 use crate::fragments::declarations::fragments_of;
 use crate::fragments::refusals::refusal_text;
 use cedar_ast::{EntityType, InternalName};
-use cedar_fragments::defs::{AllDefs, ResolveName, WrittenName, resolve_all};
 use cedar_fragments::namespace::ActionParent;
+use cedar_name_resolution::defs::{AllDefs, ResolveName, WrittenName, resolve_all};
 use cedar_schema_ast::json_schema::{ConditionalName, QualifyError, ReferenceType};
 use cedar_schema_elements::ValidatorApplySpec;
 use cedar_schema_semantics::SchemaError;

@@ -2,7 +2,7 @@
 
 use crate::fragments::declarations::fragments_of;
 use crate::fragments::refusals::refusal_text;
-use cedar_fragments::defs::{AllDefs, NameLists};
+use cedar_name_resolution::defs::{AllDefs, NameLists};
 use cedar_schema_semantics::SchemaError;
 use shorthand::checked::{holds, same};
 use shorthand::names::internal_name;

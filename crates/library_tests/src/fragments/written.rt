@@ -3,8 +3,8 @@
 use crate::fragments::copies::resolved_fragment;
 use crate::fragments::qualification::{REFUSED, SETTLED, outcome, resolved, shown_or_refused};
 use crate::fragments::shown::shown;
-use cedar_fragments::defs::AllDefs;
 use cedar_fragments::namespace::{UnqualifiedActionType, ValidatorSchemaFragment};
+use cedar_name_resolution::defs::AllDefs;
 use cedar_schema_ast::json_schema::{Fragment, RawName};
 use cedar_schema_semantics::SchemaError;
 use shorthand::checked::same;

@@ -8,7 +8,7 @@ use Rattle.cedar_builder.proofs.AtKeys.{entry_at_key, has_entry}
 use Rattle.cedar_builder.proofs.ReadyLemmas.{if_ok_both, on_ok_from}
 use Rattle.cedar_builder.proofs.action_building.actions.Goals as goal
 use Rattle.cedar_builder.specs.Words.{fault_of, held_names, uid_of, written_actions}
-use Rattle.cedar_fragments.proofs.FragmentLemmas.{exit_holds}
+use Rattle.cedar_name_resolution.proofs.ExitLemmas.{exit_holds}
 
 -- what is collected and then linked is what the bag declares
 pub returns-clause-declared : goal.returns-clause-declared

@@ -3,7 +3,7 @@ use Rattle.std.proofs.IntoIterSteps.{All-taken}
 use Rattle.cedar_builder.proofs.ActionsElaborated.{SameItems-none, kind_elaborated, principals_fault, resources_fault}
 use Rattle.cedar_builder.proofs.action_requests.elaborated_definition.Goals as goal
 use Rattle.cedar_builder.specs.Words.{Entity, action_of, fault_of, kind_context, names_in, namespace_name, ty_of, type_expr, uid_of}
-use Rattle.cedar_fragments.proofs.FragmentLemmas.{exit_holds}
+use Rattle.cedar_name_resolution.proofs.ExitLemmas.{exit_holds}
 
 -- a context is refused for its types, or as it is no record type
 pub returns-in_err-context-clause-fault : goal.returns-in_err-context-clause-fault

@@ -7,7 +7,7 @@ use Rattle.cedar_builder.proofs.NodesPut.{no_columns, none_above, one_more_colum
 use Rattle.cedar_builder.proofs.declared_node.collected_in_order.Goals as goal
 use Rattle.cedar_builder.proofs.declared_node.collected_in_order.Goals.{After-into_inner-name}
 use Rattle.cedar_builder.specs.Words.{AreInOrder, AreLocated, fault_of, named}
-use Rattle.cedar_fragments.proofs.FragmentLemmas.{exit_holds}
+use Rattle.cedar_name_resolution.proofs.ExitLemmas.{exit_holds}
 
 -- the declaration that is collected is the next one
 next_entry : (g : _) (c : After-into_inner-name g)

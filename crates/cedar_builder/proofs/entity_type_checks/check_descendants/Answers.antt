@@ -8,8 +8,8 @@ use Rattle.cedar_ast.specs.contracts.entity_type.EntityTypeOrd.TheImpl as entity
 use Rattle.cedar_builder.proofs.EntityTypeChecks.{certain_of_all, entry_enumerated, entry_leads, entry_stands, shown_more}
 use Rattle.cedar_builder.proofs.entity_type_checks.check_descendants.Goals as goal
 use Rattle.cedar_builder.specs.Words.{EntityType, IsEnumerated, IsExternalAt, ValidatorEntityType, entity_type_of, keys_of, node_at}
-use Rattle.cedar_fragments.proofs.FragmentLemmas.{exit_holds}
 use Rattle.cedar_graph.proofs.TableClosing.{distinct_keys}
+use Rattle.cedar_name_resolution.proofs.ExitLemmas.{exit_holds}
 
 abbrev Entry : Type 0
 Entry = EntityType × ValidatorEntityType

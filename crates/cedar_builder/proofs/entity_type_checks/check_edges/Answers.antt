@@ -4,7 +4,7 @@ use Rattle.std.proofs.lemmas.List.Elements.{Contains-append_cases}
 use Rattle.cedar_ast.proofs.Basics.{Contains-single}
 use Rattle.cedar_builder.proofs.NodeEdges.{item_among, take_item}
 use Rattle.cedar_builder.proofs.entity_type_checks.check_edges.Goals as goal
-use Rattle.cedar_fragments.proofs.FragmentLemmas.{exit_holds}
+use Rattle.cedar_name_resolution.proofs.ExitLemmas.{exit_holds}
 
 pub returns-in_err-check_edge-clause-fault : goal.returns-in_err-check_edge-clause-fault
 returns-in_err-check_edge-clause-fault c =

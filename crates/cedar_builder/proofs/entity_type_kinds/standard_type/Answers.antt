@@ -1,7 +1,7 @@
 use Rattle.std.proofs.Common.{refl, inl, inr}
 use Rattle.cedar_builder.proofs.entity_type_kinds.standard_type.Goals as goal
 use Rattle.cedar_builder.specs.Words.{fields_of, namespace_name, type_expr}
-use Rattle.cedar_fragments.proofs.FragmentLemmas.{exit_holds}
+use Rattle.cedar_name_resolution.proofs.ExitLemmas.{exit_holds}
 
 -- attributes are refused for their types, or as they are no record type
 pub returns-in_err-attributes-clause-fault : goal.returns-in_err-attributes-clause-fault

@@ -3,8 +3,8 @@ use Rattle.cedar_ast.specs.contracts.entity_type.EntityTypePartialEq.TheImpl as 
 use Rattle.cedar_builder.proofs.EntityTypeLinks.{are_linked, below_fault, upper_stands}
 use Rattle.cedar_builder.proofs.entity_type_links.linked_nodes.Goals as goal
 use Rattle.cedar_builder.specs.Words.{AreReady, AreUnlinked, EntityType, IsEdgeSound, SameType, ValidatorEntityType, fault_of, has_descendant, node_at, plain_kind, type_name}
-use Rattle.cedar_fragments.proofs.FragmentLemmas.{exit_holds}
 use Rattle.cedar_graph.proofs.Growing.{alike_weaker}
+use Rattle.cedar_name_resolution.proofs.ExitLemmas.{exit_holds}
 
 -- each edge is sound
 abbrev AreSound : List (EntityType × EntityType) → List (EntityType × ValidatorEntityType) → Type 0

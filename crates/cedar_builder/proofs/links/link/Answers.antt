@@ -1,8 +1,8 @@
 use Rattle.std.specs.Map.{keys_of}
 use Rattle.cedar_builder.proofs.NodesLinked.{cycle_alone, linked_alike, linked_leads, linked_located}
 use Rattle.cedar_builder.proofs.links.link.Goals as goal
-use Rattle.cedar_fragments.proofs.FragmentLemmas.{exit_holds}
 use Rattle.cedar_graph.proofs.TableClosing.{distinct_keys}
+use Rattle.cedar_name_resolution.proofs.ExitLemmas.{exit_holds}
 
 -- keys in order differ
 pub returns-clause-distinct : goal.returns-clause-distinct

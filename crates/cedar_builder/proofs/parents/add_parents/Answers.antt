@@ -4,7 +4,7 @@ use Rattle.cedar_ast.proofs.Basics.{Contains-image}
 use Rattle.cedar_builder.proofs.NodeEdges.{item_among, map_item, parent_fault, pushed_parent}
 use Rattle.cedar_builder.proofs.parents.add_parents.Goals as goal
 use Rattle.cedar_builder.specs.Words.{IsEdgeOf, fault_of, held_names}
-use Rattle.cedar_fragments.proofs.FragmentLemmas.{exit_holds}
+use Rattle.cedar_name_resolution.proofs.ExitLemmas.{exit_holds}
 
 -- at first there are the edges from before
 pub loop-parent-init : goal.loop-parent-init

@@ -3,7 +3,7 @@ use Rattle.cedar_ast.proofs.Basics.{Contains-image}
 use Rattle.cedar_builder.proofs.NodeEdges.{item_among, map_item, parent_fault_wider, parents_more}
 use Rattle.cedar_builder.proofs.parents.parent_edges.Goals as goal
 use Rattle.cedar_builder.specs.Words.{HoldsPairwise, IsEdgeOf, IsParentFault, fault_of, held_names, named, parents_in}
-use Rattle.cedar_fragments.proofs.FragmentLemmas.{exit_holds}
+use Rattle.cedar_name_resolution.proofs.ExitLemmas.{exit_holds}
 
 pub returns-in_err-add_parents-clause-fault : goal.returns-in_err-add_parents-clause-fault
 returns-in_err-add_parents-clause-fault g c =

@@ -6,7 +6,7 @@ use Rattle.cedar_builder.proofs.NodeEdges.{item_among, map_item}
 use Rattle.cedar_builder.proofs.RequestTypes.{named_more, placed_more}
 use Rattle.cedar_builder.proofs.request_types.declared_types.Goals as goal
 use Rattle.cedar_builder.specs.Words.{Entity, held_names, names_in, namespace_name, set_names, type_name}
-use Rattle.cedar_fragments.proofs.FragmentLemmas.{exit_holds}
+use Rattle.cedar_name_resolution.proofs.ExitLemmas.{exit_holds}
 
 -- the name at fault is one of all
 pub returns-in_err-declared_type-clause-fault : goal.returns-in_err-declared_type-clause-fault

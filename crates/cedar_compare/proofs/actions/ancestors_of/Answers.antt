@@ -1,11 +1,11 @@
 use Rattle.std.proofs.Common.{◌≡◌, [], Contains, ap, inl, inr, map, subst, sym, ◌∙◌, ⊎_elim}
-use Rattle.cedar_ast.proofs.Basics.{Contains-none}
+use Rattle.cedar_ast.proofs.Basics.{Contains-none, Contains-single}
 use Rattle.cedar_ast.proofs.Lists.{Contains-cons, Contains-cons_cases}
 use Rattle.cedar_ast.proofs.Uids.{entity_uid_ord-Equal}
 use Rattle.cedar_ast.specs.EntityUID.{uid_of}
 use Rattle.cedar_ast.specs.contracts.entity_uid.EntityUIDOrd.TheImpl as uid_ord
 use Rattle.cedar_compare.proofs.actions.ancestors_of.Goals as goal
-use Rattle.cedar_fragments.proofs.SetLemmas.{inserted, only}
+use Rattle.cedar_name_resolution.proofs.SetLemmas.{inserted}
 
 -- at first none of the ancestors is copied, and all are left
 pub loop-uid-init : goal.loop-uid-init
@@ -38,7 +38,7 @@ loop-uid-preserved c = λ uid.
       λ either. so_far.1 (⊎_elim
           (λ there. ⊎_elim
           (λ old. inl old)
-          (λ new. inr (subst (λ xs. Contains xs uid) (sym steps) (Contains-cons first rest uid (inl (sym same ∙ only (uid_of copy) uid new)))))
+          (λ new. inr (subst (λ xs. Contains xs uid) (sym steps) (Contains-cons first rest uid (inl (sym same ∙ Contains-single (uid_of copy) uid new)))))
           (also.0 (subst (λ xs. Contains xs uid) keys there)))
           (λ later. inr (subst (λ xs. Contains xs uid) (sym steps) (Contains-cons first rest uid (inr later))))
           either),

@@ -8,7 +8,7 @@ use Rattle.cedar_ast.proofs.Texts.{text_cmp-Equal}
 use Rattle.cedar_ast.specs.contracts.eid.EidOrd.TheImpl as eid_ord
 use Rattle.cedar_compare.proofs.choices.choice_set.Goals as goal
 use Rattle.cedar_compare.specs.Words.{Eid, SameItems, choice_texts, eid_text}
-use Rattle.cedar_fragments.proofs.SetLemmas.{collected}
+use Rattle.cedar_name_resolution.proofs.SetLemmas.{collected}
 
 -- what is collected are the choices, first the head and then the others
 pub returns : goal.returns

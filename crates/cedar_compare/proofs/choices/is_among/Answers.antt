@@ -3,7 +3,7 @@ use Rattle.cedar_ast.proofs.Texts.{text_cmp-Equal}
 use Rattle.cedar_ast.specs.contracts.eid.EidOrd.TheImpl as eid_ord
 use Rattle.cedar_compare.proofs.choices.is_among.Goals as goal
 use Rattle.cedar_compare.specs.Words.{eid_text}
-use Rattle.cedar_fragments.proofs.SetLemmas.{found-Decides}
+use Rattle.cedar_name_resolution.proofs.SetLemmas.{found-Decides}
 
 pub returns : goal.returns
 returns c =

@@ -6,7 +6,7 @@ use Rattle.cedar_elaboration.proofs.ElaborationLemmas.{Covers-next, ElaboratedIn
 use Rattle.cedar_elaboration.proofs.IndexLemmas.{item_at_index, index_of, split_at}
 use Rattle.cedar_elaboration.proofs.common.elaborate_in_order.Goals as goal
 use Rattle.cedar_elaboration.specs.Words.{defined_over, extension_types, held_names, item_names, name_of, written_common, written_expr}
-use Rattle.cedar_fragments.proofs.FragmentLemmas.{exit_holds}
+use Rattle.cedar_name_resolution.proofs.ExitLemmas.{exit_holds}
 
 pub bounds-declared-item_index : goal.bounds-declared-item_index
 bounds-declared-item_index g c =

@@ -1,8 +1,9 @@
 use Rattle.std.proofs.Common.{Err, subst, sym, ◌∙◌}
 use Rattle.std.proofs.lemmas.Result.{err_from_is_err_and, IfErr-weaker, IfOk-weaker, on_ok_weaker}
-use Rattle.cedar_fragments.proofs.NamesSoFar.{HoldsJust-through}
-use Rattle.cedar_fragments.specs.Words.{declared_names, listed_names}
-use Rattle.cedar_resolution.proofs.NamesDefined.{written_just}
+use Rattle.cedar_fragments.proofs.DeclaredNames.{written_just}
+use Rattle.cedar_fragments.specs.Words.{declared_names}
+use Rattle.cedar_name_resolution.proofs.NamesSoFar.{HoldsJust-through}
+use Rattle.cedar_name_resolution.specs.Words.{listed_names}
 use Rattle.cedar_schema.proofs.BuiltOver.{built_over}
 use Rattle.cedar_schema.proofs.building.build_collected.Goals as goal
 use Rattle.cedar_schema.specs.Words.{Located, AreShown, fault_of, held_names, written_bag, written_common}

@@ -1,6 +1,6 @@
 use Rattle.std.proofs.Common.{map, refl}
-use Rattle.cedar_fragments.proofs.FragmentLemmas.{exit_holds}
 use Rattle.cedar_fragments.proofs.SoundFragments.{written_have_no_fault}
+use Rattle.cedar_name_resolution.proofs.ExitLemmas.{exit_holds}
 use Rattle.cedar_schema.proofs.CollectedBags.{collected_unreserved}
 use Rattle.cedar_schema.proofs.DeclaredParts.{declared_parts}
 use Rattle.cedar_schema.proofs.ReadySteps.{actions_of, ready, types_of}

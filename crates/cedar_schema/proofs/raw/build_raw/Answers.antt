@@ -3,12 +3,13 @@ use Rattle.std.proofs.lemmas.List.{nil_from_length}
 use Rattle.std.proofs.lemmas.Result.{err_from_is_err_and, IfErr-weaker, IfOk-weaker}
 use Rattle.std.specs.List.{flat_map}
 use Rattle.std.specs.Result.{result_map_both}
-use Rattle.cedar_fragments.proofs.FragmentLemmas.{exit_holds, flat_map-each, flat_map-included, flat_map-same, refusal_included}
-use Rattle.cedar_fragments.proofs.ListedSoFar.{ListedSoFar-more, ListedSoFar-none, listed_each, listed_same}
+use Rattle.cedar_fragments.proofs.FragmentLemmas.{flat_map-each, flat_map-included, flat_map-same, refusal_included}
 use Rattle.cedar_fragments.proofs.NamedOfDefinition.{named_among, none_named}
-use Rattle.cedar_fragments.proofs.OneMore.{flat_one_more}
 use Rattle.cedar_fragments.proofs.SoundLemmas.{sound_bag}
 use Rattle.cedar_fragments.specs.Words.{IsSound, raw_common_names, raw_namespaces, written_fragment}
+use Rattle.cedar_name_resolution.proofs.ExitLemmas.{exit_holds}
+use Rattle.cedar_name_resolution.proofs.ListedSoFar.{ListedSoFar-more, ListedSoFar-none, listed_each, listed_same}
+use Rattle.cedar_name_resolution.proofs.OneMore.{flat_one_more}
 use Rattle.cedar_schema.proofs.AllYielded.{all_yielded}
 use Rattle.cedar_schema.proofs.Mapped.{IfErr-unmapped}
 use Rattle.cedar_schema.proofs.WrittenSoFar.{next_fragment}

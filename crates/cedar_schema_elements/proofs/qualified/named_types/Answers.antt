@@ -1,8 +1,7 @@
 use Rattle.std.proofs.Common.{Contains, ap, map, subst, sym}
 use Rattle.std.proofs.lemmas.Result.{err_from_is_err_and}
 use Rattle.cedar_ast.proofs.Basics.{Contains-image}
-use Rattle.cedar_fragments.proofs.QualifiedLemmas.{refused_one}
-use Rattle.cedar_fragments.proofs.UnresolvableLemmas.{refused_unresolvable}
+use Rattle.cedar_name_resolution.proofs.RefusedLemmas.{refused_one, refused_unresolvable}
 use Rattle.cedar_schema_elements.proofs.NamedTypes.{all_named, all_resolved, named_here, named_more}
 use Rattle.cedar_schema_elements.proofs.qualified.named_types.Goals as goal
 use Rattle.cedar_schema_elements.specs.Words.{IsReserved, ResolvesTo, conditional_reference, held_names, name_of, type_name}

@@ -1,9 +1,11 @@
 use Rattle.std.proofs.Common.{◌≡◌, [], ◌∷◌, ◌++◌, map, ap, refl, subst, ◌∙◌}
 use Rattle.std.proofs.lemmas.List.{take_all}
 use Rattle.cedar_fragments.proofs.DeclaredNames.{written_names_are_declared}
-use Rattle.cedar_fragments.proofs.FragmentLemmas.{exit_holds, flat_map-same}
-use Rattle.cedar_fragments.specs.Words.{declared_names, listed_names, written_bag, written_fragment}
-use Rattle.cedar_resolution.proofs.NamesDefined.{just_declared}
+use Rattle.cedar_fragments.proofs.FragmentLemmas.{flat_map-same}
+use Rattle.cedar_fragments.specs.Words.{declared_names, written_bag, written_fragment}
+use Rattle.cedar_name_resolution.proofs.ExitLemmas.{exit_holds}
+use Rattle.cedar_name_resolution.proofs.NamesDefined.{just_declared}
+use Rattle.cedar_name_resolution.specs.Words.{listed_names}
 use Rattle.cedar_written_out.proofs.CopiedFragments.{copied_fragment}
 use Rattle.cedar_written_out.proofs.GatheredLemmas.{among_all, fault_of_copy, maps_more}
 use Rattle.cedar_written_out.proofs.gathering.gathered.Goals as goal

@@ -1,7 +1,7 @@
 use Rattle.std.proofs.Common.{inl, inr}
-use Rattle.cedar_fragments.proofs.FragmentLemmas.{exit_holds}
-use Rattle.cedar_fragments.proofs.NamesSoFar.{HoldsJust-through}
-use Rattle.cedar_fragments.specs.Words.{held_names, listed_names, names_given}
+use Rattle.cedar_name_resolution.proofs.ExitLemmas.{exit_holds}
+use Rattle.cedar_name_resolution.proofs.NamesSoFar.{HoldsJust-through}
+use Rattle.cedar_name_resolution.specs.Words.{held_names, listed_names, names_given}
 use Rattle.cedar_written_out.proofs.gathering.what_is_known.Goals as goal
 use Rattle.cedar_written_out.specs.Words.{raw_bag}
 

@@ -1,5 +1,5 @@
 use Rattle.std.proofs.Common.{◌≡◌, ◌++◌, List, [], map, take, drop, length, sym, subst, refl, rules, inl, inr}
-use Rattle.cedar_fragments.proofs.FragmentLemmas.{exit_holds}
+use Rattle.cedar_name_resolution.proofs.ExitLemmas.{exit_holds}
 use Rattle.cedar_written_out.proofs.WholeLemmas.{declared_first, defines_just, fault_of_twice, knows_all, others_after}
 use Rattle.cedar_written_out.proofs.written.written_out.Goals as goal
 use Rattle.cedar_written_out.specs.Words.{AreFigures, AreListed, Expr, Owner, RawName, common_expr, declared_exprs, definitions, exprs_of_actions, exprs_of_entities, raw_bag, raw_reference, written_actions, written_common, written_entities}

@@ -1,7 +1,7 @@
 use Rattle.std.proofs.Common.{ap, map}
-use Rattle.cedar_fragments.proofs.OneMore.{one_more}
 use Rattle.cedar_fragments.proofs.namespace.actions.written_parents.Goals as goal
 use Rattle.cedar_fragments.specs.Words.{RawName, fragment_parent, raw_reference}
+use Rattle.cedar_name_resolution.proofs.OneMore.{one_more}
 
 -- at first no parent is taken
 pub loop-parent-init : goal.loop-parent-init

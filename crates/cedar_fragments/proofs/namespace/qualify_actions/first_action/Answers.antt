@@ -1,8 +1,8 @@
 use Rattle.std.proofs.Common.{◌≡◌, ◌∷◌, Contains, ap, map, string_bytes, sym, arith}
 use Rattle.std.proofs.lemmas.List.{nil_from_length}
-use Rattle.cedar_fragments.proofs.ResolveLemmas.{all_left, next_is_first, nothing_left, one_fewer_left}
 use Rattle.cedar_fragments.proofs.namespace.qualify_actions.first_action.Goals as goal
 use Rattle.cedar_fragments.specs.Words.{PlainName, PlainUid, held_names, name_of, names_of, uid_of}
+use Rattle.cedar_name_resolution.proofs.ResolveLemmas.{all_left, next_is_first, nothing_left, one_fewer_left}
 
 -- behind a head that is the type of no such action, the tail is left
 pub loop-name-init : goal.loop-name-init

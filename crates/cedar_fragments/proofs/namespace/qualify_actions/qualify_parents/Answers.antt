@@ -2,12 +2,12 @@ use Rattle.std.proofs.Common.{◌≡◌, map, Contains, ap, arith}
 use Rattle.std.proofs.lemmas.List.{nil_from_length}
 use Rattle.std.specs.List.{flat_map}
 use Rattle.cedar_ast.proofs.Basics.{Contains-image}
-use Rattle.cedar_fragments.proofs.FragmentLemmas.{exit_holds}
-use Rattle.cedar_fragments.proofs.OneMore.{flat_one_more}
-use Rattle.cedar_fragments.proofs.Pairwise.{turn_none, turn_more, turn_all, turn_next}
-use Rattle.cedar_fragments.proofs.UnresolvableLemmas.{unresolvable_wider}
 use Rattle.cedar_fragments.proofs.namespace.qualify_actions.qualify_parents.Goals as goal
 use Rattle.cedar_fragments.specs.Words.{EntityType, fragment_parent, held_names, namespace_name, no_locs, parent_locs}
+use Rattle.cedar_name_resolution.proofs.ExitLemmas.{exit_holds}
+use Rattle.cedar_name_resolution.proofs.OneMore.{flat_one_more}
+use Rattle.cedar_name_resolution.proofs.Pairwise.{turn_none, turn_more, turn_all, turn_next}
+use Rattle.cedar_name_resolution.proofs.RefusedLemmas.{unresolvable_wider}
 
 -- at first no parent is resolved
 pub loop-parent-init : goal.loop-parent-init

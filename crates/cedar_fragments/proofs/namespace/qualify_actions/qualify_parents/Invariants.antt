@@ -1,9 +1,9 @@
 use Rattle.std.proofs.Common.{◌≡◌}
 use Rattle.std.specs.List.{flat_map}
 use Rattle.std.specs.Vec.Iter.{into_iter_items}
-use Rattle.cedar_fragments.proofs.Pairwise.{TurnSoFar}
 use Rattle.cedar_fragments.proofs.namespace.qualify_actions.qualify_parents.Given as goal
 use Rattle.cedar_fragments.specs.Words.{EntityType, ResolvesParent, fragment_parent, held_names, namespace_name, no_locs, parent_locs, resolved_action_type}
+use Rattle.cedar_name_resolution.proofs.Pairwise.{TurnSoFar}
 
 abbrev pub invariant-loop-parent : goal.invariant-loop-parent
 invariant-loop-parent g l =

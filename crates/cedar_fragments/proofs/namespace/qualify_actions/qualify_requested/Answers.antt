@@ -2,10 +2,10 @@ use Rattle.std.proofs.Common.{◌∙◌, map, sym, subst, Contains}
 use Rattle.std.proofs.lemmas.Bool.{false≢true}
 use Rattle.std.proofs.lemmas.List.{take_all}
 use Rattle.std.proofs.lemmas.List.Elements.{Contains-get_or}
-use Rattle.cedar_fragments.proofs.ResolveLemmas.{none_more}
 use Rattle.cedar_fragments.proofs.UnresolvableLemmas.{resolved_by, none_reserved}
 use Rattle.cedar_fragments.proofs.namespace.qualify_actions.qualify_requested.Goals as goal
 use Rattle.cedar_fragments.specs.Words.{Entity, IsReserved, PlainName, Reference, ResolvesTo, held_names, name_of, namespace_name}
+use Rattle.cedar_name_resolution.proofs.ResolveLemmas.{none_more}
 
 -- a resolved name that is reserved comes from one of the references
 pub returns-then-is_reserved-clause-fault : goal.returns-then-is_reserved-clause-fault

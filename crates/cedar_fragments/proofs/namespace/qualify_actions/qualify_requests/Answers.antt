@@ -1,11 +1,10 @@
 use Rattle.std.proofs.Common.{map, Contains, Some, refl, inl, inr}
 use Rattle.std.proofs.lemmas.Result.{err_from_is_err_and}
-use Rattle.cedar_fragments.proofs.FragmentLemmas.{exit_holds}
 use Rattle.cedar_fragments.proofs.LocLemmas.{kept_beside_names}
-use Rattle.cedar_fragments.proofs.QualifiedLemmas.{refused_wider}
-use Rattle.cedar_fragments.proofs.UnresolvableLemmas.{unresolvable_wider, refused_unresolvable}
 use Rattle.cedar_fragments.proofs.namespace.qualify_actions.qualify_requests.Goals as goal
 use Rattle.cedar_fragments.specs.Words.{Entity, HasToResolveFor, IsPrincipalOrResource, IsUnresolvable, Refers, fragment_requests, held_names, namespace_name, qualify_fault, type_expr}
+use Rattle.cedar_name_resolution.proofs.ExitLemmas.{exit_holds}
+use Rattle.cedar_name_resolution.proofs.RefusedLemmas.{refused_unresolvable, refused_wider, unresolvable_wider}
 
 -- a fault of the principals is one of the requests
 pub returns-in_err-principals-clause-fault : goal.returns-in_err-principals-clause-fault

@@ -1,9 +1,9 @@
 use Rattle.std.proofs.Common.{◌≡◌, Some, ap}
 use Rattle.std.specs.Option.{option_map}
-use Rattle.cedar_fragments.proofs.FragmentLemmas.{exit_holds}
-use Rattle.cedar_fragments.proofs.QualifiedLemmas.{refused_wider}
 use Rattle.cedar_fragments.proofs.namespace.qualify_entities.qualify_tags.Goals as goal
 use Rattle.cedar_fragments.specs.Words.{Expr, Reference, Refers, held_names, namespace_name, type_expr}
+use Rattle.cedar_name_resolution.proofs.ExitLemmas.{exit_holds}
+use Rattle.cedar_name_resolution.proofs.RefusedLemmas.{refused_wider}
 
 pub returns-in_err-ty-in-Some-clause-refused : goal.returns-in_err-ty-in-Some-clause-refused
 returns-in_err-ty-in-Some-clause-refused g c =

@@ -1,11 +1,12 @@
 use Rattle.std.proofs.Common.{sym, ap, ◌∙◌, refl}
 use Rattle.std.specs.String.{string_cmp_total}
-use Rattle.cedar_fragments.proofs.FragmentLemmas.{exit_holds}
 use Rattle.cedar_fragments.proofs.LocLemmas.{KeepsAttribute, keep_attributes, keeps_attribute, keeps_common, keeps_either, keeps_entity, keeps_extension, keeps_long, keeps_plain, keeps_record, keeps_set, keeps_text, keeps_truth}
-use Rattle.cedar_fragments.proofs.Pairwise.{related_none, related_more, related_all}
-use Rattle.cedar_fragments.proofs.QualifiedLemmas.{ResolvesAttribute, Made, refused_wider, refused_one, resolved_record_type, refers_record, resolves_as, resolves_name, refers_name, refers_as}
+use Rattle.cedar_fragments.proofs.QualifiedLemmas.{ResolvesAttribute, Made, resolved_record_type, refers_record, resolves_as, resolves_name, refers_name, refers_as}
 use Rattle.cedar_fragments.proofs.namespace.qualify_types.+qualify.Goals as goal
 use Rattle.cedar_fragments.specs.Words.{Common, CommonOrEntity, Entity, InternalName, Refers, held_names, namespace_name, out-RecordType, out-TypeOfAttribute, record_type_expr, resolved_expr, resolved_reference, resolves_extension, resolves_long, resolves_set, resolves_text, resolves_truth, set_expr, type_expr, variant_expr}
+use Rattle.cedar_name_resolution.proofs.ExitLemmas.{exit_holds}
+use Rattle.cedar_name_resolution.proofs.Pairwise.{related_none, related_more, related_all}
+use Rattle.cedar_name_resolution.proofs.RefusedLemmas.{refused_wider, refused_one}
 use Rattle.cedar_schema_ast.proofs.VariantLemmas.{variant-String, variant-Long, variant-Boolean, variant-Set, variant-Record, variant-Entity, variant-EntityOrCommon, variant-Extension, type-Plain, type-CommonTypeRef}
 
 -- references that an attribute refuses are among those of the record

@@ -1,8 +1,8 @@
 use Rattle.cedar_fragments.proofs.LocLemmas.{KeepsAttribute}
-use Rattle.cedar_fragments.proofs.Pairwise.{RelatedSoFar}
 use Rattle.cedar_fragments.proofs.QualifiedLemmas.{ResolvesAttribute}
 use Rattle.cedar_fragments.proofs.namespace.qualify_types.+qualify.Given as goal
 use Rattle.cedar_fragments.specs.Words.{held_names, namespace_name, out-RecordType}
+use Rattle.cedar_name_resolution.proofs.Pairwise.{RelatedSoFar}
 
 abbrev pub invariant-qualify_record-loop-name : goal.invariant-qualify_record-loop-name
 invariant-qualify_record-loop-name g l =

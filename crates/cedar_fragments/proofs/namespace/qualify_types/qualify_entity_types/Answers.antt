@@ -1,11 +1,11 @@
 use Rattle.std.proofs.Common.{map, Contains, ap, sym, arith}
 use Rattle.std.proofs.lemmas.List.{nil_from_length}
 use Rattle.cedar_ast.proofs.Basics.{Contains-image}
-use Rattle.cedar_fragments.proofs.FragmentLemmas.{exit_holds}
-use Rattle.cedar_fragments.proofs.Pairwise.{turn_none, turn_more, turn_all, turn_next}
-use Rattle.cedar_fragments.proofs.QualifiedLemmas.{refused_one}
 use Rattle.cedar_fragments.proofs.namespace.qualify_types.qualify_entity_types.Goals as goal
 use Rattle.cedar_fragments.specs.Words.{Entity, held_names, name_of, namespace_name, reference_to_one}
+use Rattle.cedar_name_resolution.proofs.ExitLemmas.{exit_holds}
+use Rattle.cedar_name_resolution.proofs.Pairwise.{turn_none, turn_more, turn_all, turn_next}
+use Rattle.cedar_name_resolution.proofs.RefusedLemmas.{refused_one}
 
 pub loop-name-init : goal.loop-name-init
 loop-name-init g c = turn_none _ _ _ _ _ _ c.into_iter-name-iterator.ensures.into_iter_gives.0 c.in_ok-qualified.ensures.items

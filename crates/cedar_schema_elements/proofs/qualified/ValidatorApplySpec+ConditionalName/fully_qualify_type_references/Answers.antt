@@ -1,7 +1,7 @@
 use Rattle.std.proofs.Common.{◌++◌, Contains, inl, inr}
 use Rattle.std.proofs.lemmas.List.Elements.{Contains-append_cases, Contains-append_left, Contains-append_right}
 use Rattle.std.proofs.lemmas.Result.{err_from_is_err_and}
-use Rattle.cedar_fragments.proofs.UnresolvableLemmas.{unresolvable_wider}
+use Rattle.cedar_name_resolution.proofs.RefusedLemmas.{unresolvable_wider}
 use Rattle.cedar_schema_elements.proofs.qualified.ValidatorApplySpec+ConditionalName.fully_qualify_type_references.Goals as goal
 use Rattle.cedar_schema_elements.specs.Words.{held_names, principal_references, resource_references}
 

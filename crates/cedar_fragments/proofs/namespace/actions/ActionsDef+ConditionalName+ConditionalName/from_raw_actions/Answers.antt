@@ -2,11 +2,11 @@ use Rattle.std.proofs.Common.{◌∙◌, sym, ap, string_bytes}
 use Rattle.std.specs.Option.{is_some}
 use Rattle.cedar_fragments.proofs.AttributeLemmas.{next_has_none}
 use Rattle.cedar_fragments.proofs.DeclaredAsLemmas.{declared_action-within}
-use Rattle.cedar_fragments.proofs.FragmentLemmas.{exit_holds}
-use Rattle.cedar_fragments.proofs.ListedSoFar.{ListedSoFar-none, ListedSoFar-more, listed_next}
 use Rattle.cedar_fragments.proofs.SoundLemmas.{fault_of_action, uid_unreserved}
 use Rattle.cedar_fragments.proofs.namespace.actions.ActionsDef+ConditionalName+ConditionalName.from_raw_actions.Goals as goal
 use Rattle.cedar_fragments.specs.Words.{RawName, action, action_body, action_declarations, namespace_name, raw_reference}
+use Rattle.cedar_name_resolution.proofs.ExitLemmas.{exit_holds}
+use Rattle.cedar_name_resolution.proofs.ListedSoFar.{ListedSoFar-none, ListedSoFar-more, listed_next}
 
 -- actions with attributes are a fault
 pub returns-in_err-refuse_attributes-clause-fault : goal.returns-in_err-refuse_attributes-clause-fault

@@ -1,7 +1,7 @@
 use Rattle.std.proofs.Common.{string_bytes}
-use Rattle.cedar_fragments.proofs.ListedSoFar.{ListedSoFar}
 use Rattle.cedar_fragments.proofs.namespace.actions.ActionsDef+ConditionalName+ConditionalName.from_raw_actions.Given as goal
 use Rattle.cedar_fragments.specs.Words.{ConditionalName, IsSound, RawName, action, action_body, action_fragment_body, declared_action, namespace_name, positional_reference, raw_reference, uid_of}
+use Rattle.cedar_name_resolution.proofs.ListedSoFar.{ListedSoFar}
 
 abbrev pub invariant-loop-id : goal.invariant-loop-id
 invariant-loop-id l =

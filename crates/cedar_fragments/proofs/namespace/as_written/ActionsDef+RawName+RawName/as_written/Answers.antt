@@ -3,11 +3,11 @@ use Rattle.std.specs.Option.{is_some}
 use Rattle.cedar_ast.proofs.Basics.{Contains-image}
 use Rattle.cedar_fragments.proofs.AttributeLemmas.{has_none}
 use Rattle.cedar_fragments.proofs.DeclaredAsLemmas.{declared_action-within}
-use Rattle.cedar_fragments.proofs.FragmentLemmas.{exit_holds}
 use Rattle.cedar_fragments.proofs.ListedFromEnd.{ListedFromEnd-more, ListedFromEnd-none, around_next, each_from_end, next_from_end, none_left, same_from_end}
 use Rattle.cedar_fragments.proofs.SoundLemmas.{fault_of_action, uid_unreserved}
 use Rattle.cedar_fragments.proofs.namespace.as_written.ActionsDef+RawName+RawName.as_written.Goals as goal
 use Rattle.cedar_fragments.specs.Words.{RawName, action, action_body, action_declarations, namespace_name, raw_reference}
+use Rattle.cedar_name_resolution.proofs.ExitLemmas.{exit_holds}
 
 -- actions with attributes are a fault
 pub returns-in_err-refuse_attributes-clause-fault : goal.returns-in_err-refuse_attributes-clause-fault

@@ -1,11 +1,11 @@
 use Rattle.std.proofs.Common.{ap}
 use Rattle.cedar_ast.proofs.Basics.{Contains-image}
 use Rattle.cedar_fragments.proofs.DeclaredAsLemmas.{declared_as-within}
-use Rattle.cedar_fragments.proofs.FragmentLemmas.{exit_holds}
 use Rattle.cedar_fragments.proofs.ListedFromEnd.{ListedFromEnd-more, ListedFromEnd-none, each_from_end, next_from_end, none_left, same_from_end}
 use Rattle.cedar_fragments.proofs.SoundLemmas.{fault_of_entity, name_names_none}
 use Rattle.cedar_fragments.proofs.namespace.as_written.EntityTypesDef+RawName.as_written.Goals as goal
 use Rattle.cedar_fragments.specs.Words.{RawName, entity_declarations, entity_type, namespace_name, raw_entity_body, raw_reference, unreserved_id_text}
+use Rattle.cedar_name_resolution.proofs.ExitLemmas.{exit_holds}
 
 -- at first no entity type is converted
 pub loop-id-init : goal.loop-id-init

@@ -1,10 +1,12 @@
 use Rattle.std.proofs.Common.{◌++◌}
 use Rattle.std.specs.Option.{option_map}
 use Rattle.cedar_fragments.proofs.AttributeLemmas.{none_named, named_in_all, no_actions_among}
-use Rattle.cedar_fragments.proofs.FragmentLemmas.{refusal_included, second_included, third_included, exit_holds}
-use Rattle.cedar_fragments.proofs.SoundLemmas.{sound_bag, common_sound, AllByRecursion-append}
+use Rattle.cedar_fragments.proofs.FragmentLemmas.{refusal_included, second_included, third_included}
+use Rattle.cedar_fragments.proofs.SoundLemmas.{sound_bag, common_sound}
 use Rattle.cedar_fragments.proofs.namespace.as_written.ValidatorNamespaceDef+RawName+RawName.as_written.Goals as goal
 use Rattle.cedar_fragments.specs.Words.{IsSound, RawName, action_declarations, common_declarations, entity_declarations, fault_of, name_of, raw_declarations, raw_reference}
+use Rattle.cedar_name_resolution.proofs.EachLemmas.{AllByRecursion-append}
+use Rattle.cedar_name_resolution.proofs.ExitLemmas.{exit_holds}
 
 -- a fault of the entity types is one of the whole definition
 pub returns-in_err-entity_types-clause-fault : goal.returns-in_err-entity_types-clause-fault

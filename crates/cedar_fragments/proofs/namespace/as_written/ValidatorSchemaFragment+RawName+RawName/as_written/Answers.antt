@@ -1,11 +1,12 @@
 use Rattle.std.proofs.Common.{◌≡◌, ◌∙◌, [], ◌∷◌, Option, ap, inl, refl}
 use Rattle.cedar_ast.proofs.Lists.{Contains-cons}
-use Rattle.cedar_fragments.proofs.FragmentLemmas.{refusal_included, flat_map-included, flat_map-each, flat_map-same, exit_holds}
+use Rattle.cedar_fragments.proofs.FragmentLemmas.{refusal_included, flat_map-included, flat_map-each, flat_map-same}
 use Rattle.cedar_fragments.proofs.ListedFromEnd.{ListedFromEnd-more, ListedFromEnd-none, each_from_end, next_from_end, none_left, same_from_end}
 use Rattle.cedar_fragments.proofs.NamedOfDefinition.{named_of_definition}
 use Rattle.cedar_fragments.proofs.SoundLemmas.{sound_bag}
 use Rattle.cedar_fragments.proofs.namespace.as_written.ValidatorSchemaFragment+RawName+RawName.as_written.Goals as goal
 use Rattle.cedar_fragments.specs.Words.{IsSound, Name, NamespaceDefinition, RawName, definition_common_names, definition_namespaces, entry_common_names, entry_declarations, entry_namespaces, fault_of, named_namespace, raw_fragment, raw_reference, written_common_names, written_definition}
+use Rattle.cedar_name_resolution.proofs.ExitLemmas.{exit_holds}
 
 -- at first no definition is converted
 pub loop-name-init : goal.loop-name-init

@@ -1,8 +1,8 @@
 use Rattle.std.proofs.Common.{◌≡◌, ◌∙◌, ap}
 use Rattle.cedar_fragments.proofs.DeclaredAsLemmas.{declared_as-within}
-use Rattle.cedar_fragments.proofs.OneMore.{one_more}
 use Rattle.cedar_fragments.proofs.namespace.common_types.CommonTypeDefs+ConditionalName.from_raw_common_types.Goals as goal
 use Rattle.cedar_fragments.specs.Words.{common_type, common_type_text, located_name, name_within, namespace_name, raw_expr}
+use Rattle.cedar_name_resolution.proofs.OneMore.{one_more}
 
 pub loop-id-preserved : goal.loop-id-preserved
 loop-id-preserved c =

@@ -2,13 +2,13 @@ use Rattle.std.proofs.Common.{◌∷◌, refl, inl, ap, arith}
 use Rattle.std.proofs.lemmas.List.{nil_from_length}
 use Rattle.std.specs.List.{flat_map}
 use Rattle.cedar_ast.proofs.Basics.{Contains-image}
-use Rattle.cedar_fragments.proofs.FragmentLemmas.{exit_holds}
-use Rattle.cedar_fragments.proofs.OneMore.{flat_one_more, one_more}
-use Rattle.cedar_fragments.proofs.Pairwise.{turn_none, turn_more, turn_all, turn_next}
-use Rattle.cedar_fragments.proofs.QualifiedLemmas.{refused_wider}
 use Rattle.cedar_fragments.proofs.UnresolvableLemmas.{to_resolve, resolves_declared}
 use Rattle.cedar_fragments.proofs.namespace.common_types.CommonTypeDefs.qualify_within.Goals as goal
 use Rattle.cedar_fragments.specs.Words.{HasToResolve, InternalName, Refers, common_type, common_type_declarations, common_type_locs, held_names, located_common_names, name_loc, name_of, namespace_name, no_locs, resolved_expr, type_expr}
+use Rattle.cedar_name_resolution.proofs.ExitLemmas.{exit_holds}
+use Rattle.cedar_name_resolution.proofs.OneMore.{flat_one_more, one_more}
+use Rattle.cedar_name_resolution.proofs.Pairwise.{turn_none, turn_more, turn_all, turn_next}
+use Rattle.cedar_name_resolution.proofs.RefusedLemmas.{refused_wider}
 
 -- at first no common type is resolved
 pub loop-def-init : goal.loop-def-init

@@ -1,9 +1,9 @@
 use Rattle.std.proofs.Common.{◌≡◌}
 use Rattle.std.specs.List.{flat_map}
 use Rattle.std.specs.Vec.Iter.{into_iter_items}
-use Rattle.cedar_fragments.proofs.Pairwise.{TurnSoFar}
 use Rattle.cedar_fragments.proofs.namespace.common_types.CommonTypeDefs.qualify_within.Given as goal
 use Rattle.cedar_fragments.specs.Words.{InternalName, ResolvesDeclaration, common_type, common_type_locs, declared_as, held_names, located_common_names, name_of, namespace_name, no_locs, resolved_expr, type_expr}
+use Rattle.cedar_name_resolution.proofs.Pairwise.{TurnSoFar}
 
 abbrev pub invariant-loop-def : goal.invariant-loop-def
 invariant-loop-def g l =

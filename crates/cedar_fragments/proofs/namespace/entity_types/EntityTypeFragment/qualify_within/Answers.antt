@@ -1,10 +1,10 @@
 use Rattle.std.proofs.Common.{ap, sym, refl, inl, inr, map, Contains, Some, ◌≡◌, ◌∙◌, ◌++◌}
 use Rattle.std.specs.Option.{option_map}
-use Rattle.cedar_fragments.proofs.FragmentLemmas.{exit_holds}
 use Rattle.cedar_fragments.proofs.LocLemmas.{none_in_names}
-use Rattle.cedar_fragments.proofs.QualifiedLemmas.{refused_wider}
 use Rattle.cedar_fragments.proofs.namespace.entity_types.EntityTypeFragment.qualify_within.Goals as goal
 use Rattle.cedar_fragments.specs.Words.{Entity, Expr, HasToResolveIn, Reference, Refers, entity_type, external, fragment_body, held_names, namespace_name, standard, type_expr}
+use Rattle.cedar_name_resolution.proofs.ExitLemmas.{exit_holds}
+use Rattle.cedar_name_resolution.proofs.RefusedLemmas.{refused_wider}
 
 -- refused parents are among what the entity type refers to
 pub returns-in_err-parents-in-Standard-clause-refused : goal.returns-in_err-parents-in-Standard-clause-refused

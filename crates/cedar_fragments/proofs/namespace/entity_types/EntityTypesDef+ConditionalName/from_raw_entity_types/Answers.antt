@@ -1,10 +1,10 @@
 use Rattle.std.proofs.Common.{sym, ap}
 use Rattle.cedar_fragments.proofs.DeclaredAsLemmas.{declared_as-within}
-use Rattle.cedar_fragments.proofs.FragmentLemmas.{exit_holds}
-use Rattle.cedar_fragments.proofs.ListedSoFar.{ListedSoFar-none, ListedSoFar-more, listed_next, listed_same, listed_each}
 use Rattle.cedar_fragments.proofs.SoundLemmas.{fault_of_entity, name_names_none}
 use Rattle.cedar_fragments.proofs.namespace.entity_types.EntityTypesDef+ConditionalName.from_raw_entity_types.Goals as goal
 use Rattle.cedar_fragments.specs.Words.{RawName, entity_declarations, entity_type, namespace_name, raw_entity_body, raw_reference, unreserved_id_text}
+use Rattle.cedar_name_resolution.proofs.ExitLemmas.{exit_holds}
+use Rattle.cedar_name_resolution.proofs.ListedSoFar.{ListedSoFar-none, ListedSoFar-more, listed_next, listed_same, listed_each}
 
 -- at first no entity type is converted
 pub loop-id-init : goal.loop-id-init

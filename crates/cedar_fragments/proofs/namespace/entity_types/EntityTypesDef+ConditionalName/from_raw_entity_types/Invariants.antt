@@ -1,6 +1,6 @@
-use Rattle.cedar_fragments.proofs.ListedSoFar.{ListedSoFar}
 use Rattle.cedar_fragments.proofs.namespace.entity_types.EntityTypesDef+ConditionalName.from_raw_entity_types.Given as goal
 use Rattle.cedar_fragments.specs.Words.{ConditionalName, IsSound, declared_as, entity_type, fragment_body, namespace_name, positional_reference, raw_entity_body, type_name, unreserved_id_text}
+use Rattle.cedar_name_resolution.proofs.ListedSoFar.{ListedSoFar}
 
 abbrev pub invariant-loop-id : goal.invariant-loop-id
 invariant-loop-id l =

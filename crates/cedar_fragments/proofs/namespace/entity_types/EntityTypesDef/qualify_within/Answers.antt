@@ -2,13 +2,13 @@ use Rattle.std.proofs.Common.{◌∷◌, ap, arith}
 use Rattle.std.proofs.lemmas.List.{nil_from_length}
 use Rattle.std.specs.List.{flat_map}
 use Rattle.cedar_ast.proofs.Basics.{Contains-image}
-use Rattle.cedar_fragments.proofs.FragmentLemmas.{exit_holds}
-use Rattle.cedar_fragments.proofs.OneMore.{flat_one_more}
-use Rattle.cedar_fragments.proofs.Pairwise.{turn_none, turn_more, turn_all, turn_next}
-use Rattle.cedar_fragments.proofs.QualifiedLemmas.{refused_wider}
 use Rattle.cedar_fragments.proofs.UnresolvableLemmas.{to_resolve, resolves_declared}
 use Rattle.cedar_fragments.proofs.namespace.entity_types.EntityTypesDef.qualify_within.Goals as goal
 use Rattle.cedar_fragments.specs.Words.{HasToResolve, HasToResolveIn, InternalName, entity_type, entity_type_declarations, entity_type_locs, fragment_body, held_names, namespace_name, no_locs, resolved_reference, type_loc, type_name}
+use Rattle.cedar_name_resolution.proofs.ExitLemmas.{exit_holds}
+use Rattle.cedar_name_resolution.proofs.OneMore.{flat_one_more}
+use Rattle.cedar_name_resolution.proofs.Pairwise.{turn_none, turn_more, turn_all, turn_next}
+use Rattle.cedar_name_resolution.proofs.RefusedLemmas.{refused_wider}
 
 -- at first no entity type is resolved
 pub loop-def-init : goal.loop-def-init

@@ -1,9 +1,9 @@
 use Rattle.std.proofs.Common.{◌≡◌}
 use Rattle.std.specs.List.{flat_map}
 use Rattle.std.specs.Vec.Iter.{into_iter_items}
-use Rattle.cedar_fragments.proofs.Pairwise.{TurnSoFar}
 use Rattle.cedar_fragments.proofs.namespace.entity_types.EntityTypesDef.qualify_within.Given as goal
 use Rattle.cedar_fragments.specs.Words.{InternalName, ResolvesDeclaration, declared_as, entity_type, entity_type_locs, fragment_body, held_names, namespace_name, no_locs, resolved_reference, type_name}
+use Rattle.cedar_name_resolution.proofs.Pairwise.{TurnSoFar}
 
 abbrev pub invariant-loop-def : goal.invariant-loop-def
 invariant-loop-def g l =

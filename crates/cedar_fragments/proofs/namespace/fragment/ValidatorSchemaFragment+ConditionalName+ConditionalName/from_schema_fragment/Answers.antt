@@ -1,14 +1,15 @@
 use Rattle.std.proofs.Common.{◌≡◌, ◌∙◌, [], ◌∷◌, Option, ap, inl, map, refl, sym}
 use Rattle.std.specs.List.{flat_map}
 use Rattle.cedar_ast.proofs.Lists.{Contains-cons}
-use Rattle.cedar_fragments.proofs.FragmentLemmas.{refusal_included, flat_map-included, flat_map-each, flat_map-same, exit_holds}
+use Rattle.cedar_fragments.proofs.FragmentLemmas.{refusal_included, flat_map-included, flat_map-each, flat_map-same}
 use Rattle.cedar_fragments.proofs.FragmentsSoFar.{next_entry}
-use Rattle.cedar_fragments.proofs.ListedSoFar.{ListedSoFar-none, ListedSoFar-more, listed_same, listed_each}
 use Rattle.cedar_fragments.proofs.NamedOfDefinition.{named_of_definition}
-use Rattle.cedar_fragments.proofs.OneMore.{flat_one_more, one_more}
 use Rattle.cedar_fragments.proofs.SoundLemmas.{sound_bag}
 use Rattle.cedar_fragments.proofs.namespace.fragment.ValidatorSchemaFragment+ConditionalName+ConditionalName.from_schema_fragment.Goals as goal
 use Rattle.cedar_fragments.specs.Words.{ConditionalName, IsSound, Name, NamespaceDefinition, RawName, conditional_definition, definition_common_names, definition_namespaces, entry_common_names, entry_declarations, entry_namespace, entry_namespaces, fault_of, located_namespace, named_namespace, raw_fragment, written_common_names}
+use Rattle.cedar_name_resolution.proofs.ExitLemmas.{exit_holds}
+use Rattle.cedar_name_resolution.proofs.ListedSoFar.{ListedSoFar-none, ListedSoFar-more, listed_same, listed_each}
+use Rattle.cedar_name_resolution.proofs.OneMore.{flat_one_more, one_more}
 
 -- at first no definition is converted
 pub loop-name-init : goal.loop-name-init

@@ -1,8 +1,8 @@
 use Rattle.std.proofs.Common.{Option, map, Contains}
-use Rattle.cedar_fragments.proofs.FragmentLemmas.{exit_holds}
-use Rattle.cedar_fragments.proofs.UnresolvableLemmas.{unresolvable_wider}
 use Rattle.cedar_fragments.proofs.namespace.qualify_actions.ActionFragment+N+N.qualify_within.Goals as goal
 use Rattle.cedar_fragments.specs.Words.{ActionRequests, HasToResolveFor, HasToResolveIn, IsParentIn, IsPrincipalOrResource, IsRequestedIn, action, action_fragment_body, fault_of, fragment_parent, fragment_requests, held_names, namespace_name}
+use Rattle.cedar_name_resolution.proofs.ExitLemmas.{exit_holds}
+use Rattle.cedar_name_resolution.proofs.RefusedLemmas.{unresolvable_wider}
 
 pub returns-in_err-parents-clause-fault : goal.returns-in_err-parents-clause-fault
 returns-in_err-parents-clause-fault g c =

@@ -2,13 +2,13 @@ use Rattle.std.proofs.Common.{◌∷◌, ap, arith}
 use Rattle.std.proofs.lemmas.List.{nil_from_length}
 use Rattle.std.specs.List.{flat_map}
 use Rattle.cedar_ast.proofs.Basics.{Contains-image}
-use Rattle.cedar_fragments.proofs.FragmentLemmas.{exit_holds}
-use Rattle.cedar_fragments.proofs.OneMore.{flat_one_more}
-use Rattle.cedar_fragments.proofs.Pairwise.{turn_none, turn_more, turn_all, turn_next}
 use Rattle.cedar_fragments.proofs.ResolvedBags.{resolved_turn, unresolvable_declaration}
 use Rattle.cedar_fragments.proofs.UnresolvableLemmas.{resolves_declared_action}
 use Rattle.cedar_fragments.proofs.namespace.qualify_actions.ActionsDef+N+N.qualify_within.Goals as goal
 use Rattle.cedar_fragments.specs.Words.{EntityType, InternalName, action, action_def_locs, action_fragment_body, action_fragment_declarations, held_names, namespace_name, no_locs, resolved_action_type, resolved_reference, uid_loc, uid_of, uid_type_loc}
+use Rattle.cedar_name_resolution.proofs.ExitLemmas.{exit_holds}
+use Rattle.cedar_name_resolution.proofs.OneMore.{flat_one_more}
+use Rattle.cedar_name_resolution.proofs.Pairwise.{turn_none, turn_more, turn_all, turn_next}
 
 -- at first no action is resolved
 pub loop-def-init : goal.loop-def-init

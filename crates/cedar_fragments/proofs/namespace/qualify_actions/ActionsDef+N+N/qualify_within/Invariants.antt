@@ -1,10 +1,10 @@
 use Rattle.std.proofs.Common.{◌≡◌}
 use Rattle.std.specs.List.{flat_map}
 use Rattle.std.specs.Vec.Iter.{into_iter_items}
-use Rattle.cedar_fragments.proofs.Pairwise.{TurnSoFar}
 use Rattle.cedar_fragments.proofs.ResolvedBags.{ResolvesUnreserved}
 use Rattle.cedar_fragments.proofs.namespace.qualify_actions.ActionsDef+N+N.qualify_within.Given as goal
 use Rattle.cedar_fragments.specs.Words.{EntityType, InternalName, action, action_def_locs, action_fragment_body, declared_action, held_names, namespace_name, no_locs, resolved_action_type, resolved_reference, uid_of}
+use Rattle.cedar_name_resolution.proofs.Pairwise.{TurnSoFar}
 
 abbrev pub invariant-loop-def : goal.invariant-loop-def
 invariant-loop-def g l =

@@ -1,10 +1,11 @@
 use Rattle.std.proofs.Common.{◌++◌}
 use Rattle.std.proofs.lemmas.Result.{err_from_is_err_and}
-use Rattle.cedar_fragments.proofs.FragmentLemmas.{first_included, second_included, third_included, exit_holds}
+use Rattle.cedar_fragments.proofs.FragmentLemmas.{first_included, second_included, third_included}
 use Rattle.cedar_fragments.proofs.ResolvedBags.{ResolvesUnreservedBag, unresolvable_included, refused_included, resolved_append, none_requested}
 use Rattle.cedar_fragments.proofs.namespace.qualify_definitions.ValidatorNamespaceDef+N+N.qualify_within.Given as given
 use Rattle.cedar_fragments.proofs.namespace.qualify_definitions.ValidatorNamespaceDef+N+N.qualify_within.Goals as goal
 use Rattle.cedar_fragments.specs.Words.{Bag, EntityType, InternalName, IsUnresolvableBag, Reference, ReferenceType, ValidatorNamespaceDef, action_fragment_declarations, common_type_declarations, definition_namespace, entity_type_declarations, held_names, qualify_fault, resolved_action_type, resolved_definition, resolved_reference, written_definition}
+use Rattle.cedar_name_resolution.proofs.ExitLemmas.{exit_holds}
 
 -- the declarations of a definition, by sort
 module _ (N : Type 0) (refer : ReferenceType → N → Reference) (it : ValidatorNamespaceDef N N) where

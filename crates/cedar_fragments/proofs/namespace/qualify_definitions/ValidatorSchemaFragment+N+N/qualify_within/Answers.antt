@@ -2,12 +2,13 @@ use Rattle.std.proofs.Common.{ap, arith, map}
 use Rattle.std.proofs.lemmas.List.{nil_from_length}
 use Rattle.std.specs.List.{flat_map}
 use Rattle.cedar_ast.proofs.TurnLemmas.{turn_weaker}
-use Rattle.cedar_fragments.proofs.FragmentLemmas.{flat_map-included, exit_holds}
-use Rattle.cedar_fragments.proofs.OneMore.{flat_one_more, one_more}
-use Rattle.cedar_fragments.proofs.Pairwise.{turn_none, turn_more, turn_all, turn_next}
+use Rattle.cedar_fragments.proofs.FragmentLemmas.{flat_map-included}
 use Rattle.cedar_fragments.proofs.ResolvedBags.{ResolvesUnreservedBag, resolved_together, unresolvable_included}
 use Rattle.cedar_fragments.proofs.namespace.qualify_definitions.ValidatorSchemaFragment+N+N.qualify_within.Goals as goal
 use Rattle.cedar_fragments.specs.Words.{EntityType, InternalName, ResolvesBag, definition_common_names, definition_locs, held_names, located_namespace, no_locs, resolved_definition, written_definition, written_fragment, written_pairwise}
+use Rattle.cedar_name_resolution.proofs.ExitLemmas.{exit_holds}
+use Rattle.cedar_name_resolution.proofs.OneMore.{flat_one_more, one_more}
+use Rattle.cedar_name_resolution.proofs.Pairwise.{turn_none, turn_more, turn_all, turn_next}
 
 -- at first no definition is resolved
 pub loop-definition-init : goal.loop-definition-init

@@ -1,10 +1,10 @@
 use Rattle.std.proofs.Common.{◌≡◌, map}
 use Rattle.std.specs.List.{flat_map}
 use Rattle.std.specs.Vec.Iter.{into_iter_items}
-use Rattle.cedar_fragments.proofs.Pairwise.{TurnSoFar}
 use Rattle.cedar_fragments.proofs.ResolvedBags.{ResolvesUnreservedBag}
 use Rattle.cedar_fragments.proofs.namespace.qualify_definitions.ValidatorSchemaFragment+N+N.qualify_within.Given as goal
 use Rattle.cedar_fragments.specs.Words.{EntityType, InternalName, definition_common_names, definition_locs, held_names, located_namespace, no_locs, resolved_definition, written_definition}
+use Rattle.cedar_name_resolution.proofs.Pairwise.{TurnSoFar}
 
 abbrev pub invariant-loop-definition : goal.invariant-loop-definition
 invariant-loop-definition g l =

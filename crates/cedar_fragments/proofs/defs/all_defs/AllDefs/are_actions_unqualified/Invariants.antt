@@ -1,6 +1,0 @@
-use Rattle.cedar_fragments.proofs.ShadowLemmas.{PassedSoFar}
-use Rattle.cedar_fragments.proofs.defs.all_defs.AllDefs.are_actions_unqualified.Given as goal
-use Rattle.cedar_fragments.specs.Words.{IsUnqualified, uid_of}
-
-abbrev pub invariant-loop-uid : goal.invariant-loop-uid
-invariant-loop-uid l = PassedSoFar (λ uid. IsUnqualified uid.ty) uid_of l.self.action_defs.keys l.uid-iterator

@@ -1,0 +1,14 @@
+pub mod EachLemmas
+pub mod ExitLemmas
+pub mod KeptSoFar
+pub mod ListedSoFar
+pub mod NamesDefined
+pub mod NamesSoFar
+pub mod OneMore
+pub mod Pairwise
+pub mod RefusedLemmas
+pub mod ResolveLemmas
+pub mod SetLemmas
+pub mod ShadowLemmas
+pub mod TakenNames
+pub mod WrittenNames
