@@ -1,11 +1,11 @@
 pub mod AliasLemmas
 pub mod CommonFaults
 mod ElaborationLemmas
-mod Entries
-mod IndexLemmas
-mod OrderLemmas
+pub mod Entries
+pub mod IndexLemmas
+pub mod OrderLemmas
 mod PrimitiveLemmas
-mod RecordLemmas
+pub mod RecordLemmas
 mod ReferringLemmas
 pub mod Results
 pub mod ScopeLemmas

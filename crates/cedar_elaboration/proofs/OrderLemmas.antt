@@ -22,7 +22,7 @@ turn_at S (y ∷ xs) (v ∷ vs) turns zero x is =
 turn_at S (y ∷ xs) (v ∷ vs) turns (suc i) x is = turn_at S xs vs turns.1 i x is
 
 -- lists of which something holds pairwise are of one length
-same_length : {A B : Type 0} (R : A → B → Type 0) (xs : List A) (ys : List B) → HoldsPairwise R xs ys → length xs ≡ length ys
+pub same_length : {A B : Type 0} (R : A → B → Type 0) (xs : List A) (ys : List B) → HoldsPairwise R xs ys → length xs ≡ length ys
 same_length R [] [] turns = refl
 same_length R (x ∷ xs) (y ∷ ys) turns = ap suc (same_length R xs ys turns.1)
 same_length R _ _ turns = absurd turns
@@ -33,7 +33,7 @@ pub name_at : (items : List (PlainName × Expr)) (i : ℕ) (item : PlainName × 
 name_at items i item is = slice_get-map (λ it. it.0) items i ∙ ap (option_map (λ it. it.0)) is
 
 -- the item that has the name at an index
-item_at : (items : List (PlainName × Expr)) (i : ℕ) (name : PlainName) → slice_get (item_names items) i ≡ Some name
+pub item_at : (items : List (PlainName × Expr)) (i : ℕ) (name : PlainName) → slice_get (item_names items) i ≡ Some name
     → (item : PlainName × Expr) × (slice_get items i ≡ Some item) × (item.0 ≡ name)
 item_at [] i name is = cc
 item_at (item ∷ items) zero name is = let same : item.0 ≡ name = cc in (item, refl, same)
@@ -71,7 +71,7 @@ module _ {Z : Type 0} (names : Names) (items : List (PlainName × Expr)) (indice
   as_many = same_length (λ it found. AddsIndices names indices (Refers it.1) [] found.items) items targets turns
 
   -- what the item at an index refers to
-  targets_at : (i : ℕ) (item : PlainName × Expr) → slice_get items i ≡ Some item
+  pub targets_at : (i : ℕ) (item : PlainName × Expr) → slice_get items i ≡ Some item
       → AddsIndices names indices (Refers item.1) [] (items_at targets i)
   targets_at i item is = turn_at (λ it found. AddsIndices names indices (Refers it.1) [] found) items targets turns i item is
 

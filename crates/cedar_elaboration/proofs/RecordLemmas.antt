@@ -20,7 +20,7 @@ append_members no_member others = others
 append_members (member name required expr rest) others = member name required expr (append_members rest others)
 
 -- the fields of one record after those of another
-abbrev append_fields : Fields → Fields → Fields
+abbrev pub append_fields : Fields → Fields → Fields
 append_fields end others = others
 append_fields (field name required ty rest) others = field name required ty (append_fields rest others)
 
@@ -37,7 +37,7 @@ fields_from-append [] others = refl
 fields_from-append (item ∷ items) others = ap (field item.0 item.1.0 item.1.1) (fields_from-append items others)
 
 -- what is elaborated after something else is elaborated after it
-MembersElaborateTo-append : (defined : Defined) {members others : Members} {fields fields' : Fields}
+pub MembersElaborateTo-append : (defined : Defined) {members others : Members} {fields fields' : Fields}
     → MembersElaborateTo defined members fields → MembersElaborateTo defined others fields'
     → MembersElaborateTo defined (append_members members others) (append_fields fields fields')
 MembersElaborateTo-append defined as_no_member after = after

@@ -16,10 +16,10 @@ use std::collections::BTreeMap;
 pub type CommonType<N> = (InternalName, Written<Type<N>>);
 
 /// The indices of common types, each under the full name.
-pub(crate) type Indices = BTreeMap<InternalName, usize>;
+pub type Indices = BTreeMap<InternalName, usize>;
 
 /// The index of each common type. A name that stands twice is refused.
-pub(crate) fn name_indices<N: WrittenName>(
+pub fn name_indices<N: WrittenName>(
     alloc: Global,
     declared: &[CommonType<N>],
 ) -> Result<Indices, SchemaError>

@@ -12,7 +12,7 @@ use cedar_schema_semantics::SchemaError;
 use std::alloc::Global;
 
 /// For each common type the indices of those that it refers to.
-fn all_targets<N: WrittenName>(
+pub fn all_targets<N: WrittenName>(
     alloc: Global,
     declared: &[CommonType<N>],
     indices: &Indices,

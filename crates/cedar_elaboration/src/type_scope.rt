@@ -26,7 +26,7 @@ pub struct TypeScope<'a> {
 }
 
 /// Whether a reference of the kind may name a common type.
-pub(crate) fn may_name_common(kind: ReferenceType) -> bool
+pub fn may_name_common(kind: ReferenceType) -> bool
     ensures { IsTrue result ↔ MayNameCommon kind }
 {
     match kind {

@@ -7,10 +7,10 @@ use Rattle.std.proofs.lemmas.List.Elements.{Contains-append_left, Contains-appen
 use Rattle.std.proofs.lemmas.Map.Made.{IsDistinct-from_AllPairs}
 use Rattle.std.proofs.lemmas.Map.Steps.{length-le_from_distinct_below}
 use Rattle.std.proofs.lemmas.Map.Views.{Contains-from_any}
+use Rattle.cedar_ast.proofs.Basics.{Contains-single}
 use Rattle.cedar_ast.proofs.Chains.{held_after, joined}
 use Rattle.cedar_ast.proofs.Lists.{Contains-cons}
 use Rattle.cedar_graph.proofs.OrderProgress.{distinct_snoc}
-use Rattle.cedar_graph.proofs.OrderSteps.{single}
 use Rattle.cedar_graph.specs.Words.{AreGathered, AreReached, Chain, Done, Fresh, GathersMore, IsTarget, Met, mark_of, one}
 use Rattle.cedar_graph.specs.declared.closing.Mark.{Mark}
 
@@ -95,7 +95,7 @@ module _ (mark : Mark) (not_fresh : mark ≢ Fresh) (marks : List Mark) (found :
     has = λ n same. subst (Contains (found ++ number ∷ [])) (sym same) (last_of found number);
     only = λ n among. elim (Contains-append_cases found (number ∷ []) n among) [
       | inl before ↦ inl before
-      | inr last ↦ inr (sym (single number n last))
+      | inr last ↦ inr (sym (Contains-single number n last))
     ];
     stays = λ n done. others n (λ same. fresh_isnt_done (sym done ∙ ap (mark_of marks) same ∙ fresh_before)) ∙ done;
     newly = λ n done. elim (cases_eq n number) [
@@ -109,7 +109,7 @@ module _ (mark : Mark) (not_fresh : mark ≢ Fresh) (marks : List Mark) (found :
       gathered_marked n (inl same) among fresh = not_fresh (sym here ∙ ap (mark_of (set marks number mark)) (sym same) ∙ fresh)
       gathered_marked n (inr apart) among fresh = elim (Contains-append_cases found (number ∷ []) n among) [
         | inl before ↦ (are.marked n).0 before (sym (others n apart) ∙ fresh)
-        | inr last ↦ apart (sym (single number n last))
+        | inr last ↦ apart (sym (Contains-single number n last))
       ]
 
       marked_gathered : (n : ℕ) → (n ≡ number) ⊎ (n ≢ number) → mark_of (set marks number mark) n ≢ Fresh

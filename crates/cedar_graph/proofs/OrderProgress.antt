@@ -1,13 +1,15 @@
 -- How far numbers are ordered, and what each step makes of it.
-use Rattle.std.proofs.Common.{◌≡◌, ◌≢◌, ◌⊎◌, ◌↔◌, ◌<◌, ◌≤◌, ◌+◌, ℕ, zero, suc, List, [], ◌∷◌, ◌++◌, None, Vec, AllPairs, Contains, length, map, get_or, set, ap, sym, subst, ◌∙◌, refl, inl, inr, ⊎_elim, arith}
+use Rattle.std.proofs.Common.{◌≡◌, ◌≢◌, ◌⊎◌, ◌↔◌, ◌<◌, ◌≤◌, ◌+◌, ℕ, zero, suc, List, [], ◌∷◌, ◌++◌, Option, None, Some, Vec, AllPairs, Contains, length, map, get_or, set, ap, sym, subst, ◌∙◌, refl, inl, inr, ⊎_elim, arith, IfSome}
 use Rattle.std.proofs.Math.ListN.{get_or-append}
 use Rattle.std.proofs.Math.Seq.{get_or-append_seam}
 use Rattle.std.proofs.lemmas.List.{append_assoc, map-append, get_or-set_same, get_or-set_other, length-set, length-append}
 use Rattle.std.proofs.lemmas.List.Elements.{Contains-append_left, Contains-append_right, Contains-append_cases}
+use Rattle.std.specs.Option.{option_or}
+use Rattle.cedar_ast.proofs.Basics.{Contains-image, Contains-single}
 use Rattle.cedar_ast.proofs.Chains.{last_step}
 use Rattle.cedar_ast.proofs.Lists.{Contains-cons, Contains-cons_cases}
-use Rattle.cedar_graph.proofs.OrderSteps.{number_of, single, image, enter_or_leave, enters_leave_none, AreSteps, steps_before, steps_opened, left_once, left_covered, left_within, leads_back}
-use Rattle.cedar_graph.specs.Words.{Chain, Enter, IsOrder, IsTarget, LeadsTo, Leave, Mark, Open, Step, items_at, more, one}
+use Rattle.cedar_graph.proofs.OrderSteps.{number_of, enter_or_leave, enters_leave_none, AreSteps, steps_before, steps_opened, left_once, left_covered, left_within, leads_back}
+use Rattle.cedar_graph.specs.Words.{Chain, Enter, IsLowestFirst, IsOrder, IsPast, IsTarget, IsWalked, LeadsTo, Leave, Mark, Open, Step, Walk, items_at, more, one}
 use Rattle.cedar_graph.specs.declared.ordering.Mark.TheVariants.{Fresh, Done}
 
 -- the mark of a number
@@ -105,17 +107,36 @@ distinct_snoc xs x distinct other i j d below within same =
         elim (below_or_last k n (omega (arith, within))) [ inl less ↦ inl (omega (arith, less)) | inr same ↦ inr (ap suc same) ]
 
 module _ {Z : Type 0} (targets : List (Vec ℕ Z)) where
-  -- how far the numbers are ordered: which are done and open, what is to be done, and the order so
-  -- far
-  pub record Progress (marks : List Mark) (steps : List Step) (order : List ℕ) : Type 0 where
+  -- what stands before is past
+  past_there : (on_cycle : Option ℕ) (before : List ℕ) (n : ℕ) → Contains before n → IsPast targets on_cycle before n
+  past_there None before n there = there
+  past_there (Some number) before n there = inl there
+
+  -- what is past stays so as more numbers are ordered
+  past_stays : (on_cycle : Option ℕ) (order : List ℕ) (x n : ℕ) → IsPast targets on_cycle order n
+      → IsPast targets on_cycle (order ++ x ∷ []) n
+  past_stays None order x n there = Contains-append_left order (x ∷ []) n there
+  past_stays (Some number) order x n past =
+      elim past [ inl there ↦ inl (Contains-append_left order (x ∷ []) n there) | inr back ↦ inr back ]
+
+  -- and as a number on a cycle is known
+  past_named : (on_cycle : Option ℕ) (named : ℕ) (order : List ℕ) (n : ℕ) → IsPast targets on_cycle order n
+      → IsPast targets (Some named) order n
+  past_named None named order n there = inl there
+  past_named (Some number) named order n past = past
+
+  -- how far the numbers are ordered: which are done and open, what is to be done, the order so far,
+  -- and a number on a cycle, if one was met
+  pub record Progress (marks : List Mark) (steps : List Step) (order : List ℕ) (on_cycle : Option ℕ) : Type 0 where
     pub len : length marks ≡ length targets
     pub within : (n : ℕ) → Contains order n → n < length targets
     pub done : (n : ℕ) → n < length targets → Contains order n ↔ (mark_at marks n ≡ Done)
     pub open_ : (n : ℕ) → n < length targets → Contains steps (Leave n) ↔ (mark_at marks n ≡ Open)
     pub waits : (n : ℕ) → n < length targets → Contains order n ⊎ Contains (map number_of steps) n
-    pub are_steps : AreSteps targets (Contains order) None steps
-    pub after : (before rest : List ℕ) (n to : ℕ) → order ≡ before ++ n ∷ rest → LeadsTo targets n to → Contains before to
+    pub are_steps : AreSteps targets (IsPast targets on_cycle order) None steps
+    pub after : (before rest : List ℕ) (n to : ℕ) → order ≡ before ++ n ∷ rest → LeadsTo targets n to → IsPast targets on_cycle before to
     pub once : AllPairs (λ a b. a ≢ b) order
+    pub named : IfSome on_cycle (λ number. Chain (LeadsTo targets) number number)
 
   -- a number of the steps but the last is one of all
   number_cases : (rest : List Step) (step : Step) (n : ℕ) → Contains (map number_of (rest ++ step ∷ [])) n
@@ -132,16 +153,17 @@ module _ {Z : Type 0} (targets : List (Vec ℕ Z)) where
   -- at first nothing is done
   pub at_first : (marks : List Mark) (steps : List Step) → length marks ≡ length targets
       → ((n : ℕ) → n < length targets → mark_at marks n ≡ Fresh) → ((n : ℕ) → n < length targets → Contains steps (Enter n))
-      → ((n : ℕ) → ¬ Contains steps (Leave n)) → Progress marks steps []
+      → ((n : ℕ) → ¬ Contains steps (Leave n)) → Progress marks steps [] None
   at_first marks steps len fresh each only = record {
     len = len;
     within = λ n none. absurd (omega (arith, none.1));
     done = λ n within. (λ none. absurd (omega (arith, none.1)), λ is. absurd (fresh_isnt_done (sym (fresh n within) ∙ is)));
     open_ = λ n within. (λ leaves. absurd (only n leaves), λ is. absurd (fresh_isnt_open (sym (fresh n within) ∙ is)));
-    waits = λ n within. inr (image number_of steps (Enter n) (each n within));
+    waits = λ n within. inr (Contains-image number_of steps (Enter n) (each n within));
     are_steps = enters steps only;
     after = λ before rest n to none leads. absurd (no_end before n rest none);
     once = λ i j d below within. absurd (omega (arith, within));
+    named = tt;
   }
     where
       enters : (some : List Step) → ((n : ℕ) → ¬ Contains some (Leave n)) → AreSteps targets (Contains []) None some
@@ -153,17 +175,30 @@ module _ {Z : Type 0} (targets : List (Vec ℕ Z)) where
       no_end [] y after wrong = cc
       no_end (b ∷ before) y after wrong = cc
 
+  -- a step that enters an open number has found a cycle
+  cycle : (marks : List Mark) (rest : List Step) (n : ℕ) (order : List ℕ) (on_cycle : Option ℕ) → n < length targets
+      → mark_at marks n ≡ Open → Progress marks (rest ++ Enter n ∷ []) order on_cycle → Chain (LeadsTo targets) n n
+  cycle marks rest n order on_cycle within is so_far =
+      elim (leave_cases rest (Enter n) n ((so_far.open_ n within).1 is)) [ inl here ↦ leads_back targets (IsPast targets on_cycle order) rest n within so_far.are_steps here | inr wrong ↦ absurd (enter_or_leave n n wrong) ]
+
+  -- without a step that enters a number, open numbers are still to be left
+  still_left : (marks : List Mark) (rest : List Step) (n : ℕ) (order : List ℕ) (on_cycle : Option ℕ)
+      → Progress marks (rest ++ Enter n ∷ []) order on_cycle → (m : ℕ) → m < length targets
+      → Contains rest (Leave m) ↔ (mark_at marks m ≡ Open)
+  still_left marks rest n order on_cycle so_far m within = (
+    λ leaves. (so_far.open_ m within).0 (Contains-append_left rest (Enter n ∷ []) (Leave m) leaves),
+    λ is. elim (leave_cases rest (Enter n) m ((so_far.open_ m within).1 is)) [ inl here ↦ here | inr same ↦ absurd (enter_or_leave n m same) ],
+  )
+
   -- a step that enters a number that is done, or that has no list, is done
-  pub skipped : (marks : List Mark) (rest : List Step) (n : ℕ) (order : List ℕ) → (n < length targets → Contains order n)
-      → Progress marks (rest ++ Enter n ∷ []) order → Progress marks rest order
-  skipped marks rest n order done so_far = record {
+  pub skipped : (marks : List Mark) (rest : List Step) (n : ℕ) (order : List ℕ) (on_cycle : Option ℕ)
+      → (n < length targets → Contains order n)
+      → Progress marks (rest ++ Enter n ∷ []) order on_cycle → Progress marks rest order on_cycle
+  skipped marks rest n order on_cycle done so_far = record {
     len = so_far.len;
     within = so_far.within;
     done = so_far.done;
-    open_ = λ m within. (
-      λ leaves. (so_far.open_ m within).0 (Contains-append_left rest (Enter n ∷ []) (Leave m) leaves),
-      λ is. elim (leave_cases rest (Enter n) m ((so_far.open_ m within).1 is)) [ inl here ↦ here | inr same ↦ absurd (enter_or_leave n m same) ],
-    );
+    open_ = still_left marks rest n order on_cycle so_far;
     waits = λ m within. elim (so_far.waits m within) [
       | inl there ↦ inl there
       | inr waiting ↦ elim (number_cases rest (Enter n) m waiting) [
@@ -171,17 +206,56 @@ module _ {Z : Type 0} (targets : List (Vec ℕ Z)) where
         | inr same ↦ inl (rw same at (done (omega (arith, same, within))))
       ]
     ];
-    are_steps = steps_before targets (Contains order) (Contains order) (λ m there. there) None rest (Enter n) done so_far.are_steps;
+    are_steps = steps_before targets (IsPast targets on_cycle order) (IsPast targets on_cycle order) (λ m past. past) None rest (Enter n)
+        (λ within. past_there on_cycle order n (done within)) so_far.are_steps;
     after = so_far.after;
     once = so_far.once;
+    named = so_far.named;
   }
 
+  -- so is one that enters an open number, where the number on a cycle that was met is known
+  skipped_open : (marks : List Mark) (rest : List Step) (n : ℕ) (order : List ℕ) (on_cycle : Option ℕ) (named : ℕ)
+      → n < length targets → mark_at marks n ≡ Open → Chain (LeadsTo targets) named named
+      → Progress marks (rest ++ Enter n ∷ []) order on_cycle → Progress marks rest order (Some named)
+  skipped_open marks rest n order on_cycle named within_n is is_named so_far = record {
+    len = so_far.len;
+    within = so_far.within;
+    done = so_far.done;
+    open_ = still_left marks rest n order on_cycle so_far;
+    waits = λ m within. elim (so_far.waits m within) [
+      | inl there ↦ inl there
+      | inr waiting ↦ elim (number_cases rest (Enter n) m waiting) [
+        | inl here ↦ inr here
+        | inr same ↦
+            let Waits : ℕ → Type 0 = Contains (map number_of rest) in
+            let leaves = (still_left marks rest n order on_cycle so_far n within_n).1 is in
+            inr (subst Waits same (Contains-image number_of rest (Leave n) leaves))
+      ]
+    ];
+    are_steps = steps_before targets (IsPast targets on_cycle order) (IsPast targets (Some named) order)
+        (past_named on_cycle named order) None rest (Enter n)
+        (λ within. inr (cycle marks rest n order on_cycle within is so_far)) so_far.are_steps;
+    after = λ before others m to same leads. past_named on_cycle named before to (so_far.after before others m to same leads);
+    once = so_far.once;
+    named = is_named;
+  }
+
+  -- a step that enters an open number is done, and the number is known, unless one was known before
+  pub came_back : (marks : List Mark) (rest : List Step) (n : ℕ) (order : List ℕ) (on_cycle : Option ℕ) → n < length targets
+      → mark_at marks n ≡ Open → Progress marks (rest ++ Enter n ∷ []) order on_cycle
+      → Progress marks rest order (option_or on_cycle (Some n))
+  came_back marks rest n order None within is so_far =
+      skipped_open marks rest n order None n within is (cycle marks rest n order None within is so_far) so_far
+  came_back marks rest n order (Some number) within is so_far =
+      skipped_open marks rest n order (Some number) number within is so_far.named so_far
+
   -- a step that leaves a number puts it into the order
-  pub left : (marks : List Mark) (rest : List Step) (n : ℕ) (order : List ℕ) → Progress marks (rest ++ Leave n ∷ []) order
-      → Progress (set marks n Done) rest (order ++ n ∷ [])
-  left marks rest n order so_far =
-      let within_n = left_within targets (Contains order) None rest n so_far.are_steps in
-      let not_again = left_once targets (Contains order) None rest n so_far.are_steps in
+  pub left : (marks : List Mark) (rest : List Step) (n : ℕ) (order : List ℕ) (on_cycle : Option ℕ)
+      → Progress marks (rest ++ Leave n ∷ []) order on_cycle
+      → Progress (set marks n Done) rest (order ++ n ∷ []) on_cycle
+  left marks rest n order on_cycle so_far =
+      let within_n = left_within targets (IsPast targets on_cycle order) None rest n so_far.are_steps in
+      let not_again = left_once targets (IsPast targets on_cycle order) None rest n so_far.are_steps in
       let last = Contains-append_right rest (Leave n ∷ []) (Leave n) (Contains-cons (Leave n) [] (Leave n) (inl refl)) in
       let is_open = (so_far.open_ n within_n).0 last in
       let not_done : ¬ Contains order n = λ there. open_isnt_done (sym is_open ∙ (so_far.done n within_n).0 there) in
@@ -190,12 +264,12 @@ module _ {Z : Type 0} (targets : List (Vec ℕ Z)) where
       record {
         len = length-set marks n Done ∙ so_far.len;
         within = λ m there. ⊎_elim (so_far.within m)
-            (λ same. let R : ℕ → Type 0 = λ each. each < length targets in subst R (single n m same) within_n)
+            (λ same. let R : ℕ → Type 0 = λ each. each < length targets in subst R (Contains-single n m same) within_n)
             (Contains-append_cases order (n ∷ []) m there);
         done = mark_set (λ m mark. m < length targets → Contains (order ++ n ∷ []) m ↔ (mark ≡ Done)) marks n Done
             (omega (arith, within_n, so_far.len)) (λ within. (λ there. refl, λ same. here))
             (λ m apart within. (
-              λ there. elim (Contains-append_cases order (n ∷ []) m there) [ inl before ↦ (so_far.done m within).0 before | inr same ↦ absurd (apart (sym (single n m same))) ],
+              λ there. elim (Contains-append_cases order (n ∷ []) m there) [ inl before ↦ (so_far.done m within).0 before | inr same ↦ absurd (apart (sym (Contains-single n m same))) ],
               λ is. Contains-append_left order (n ∷ []) m ((so_far.done m within).1 is),
             ));
         open_ = mark_set (λ m mark. m < length targets → Contains rest (Leave m) ↔ (mark ≡ Open)) marks n Done
@@ -206,23 +280,24 @@ module _ {Z : Type 0} (targets : List (Vec ℕ Z)) where
               λ is. elim (leave_cases rest (Leave n) m ((so_far.open_ m within).1 is)) [ inl before ↦ before | inr same ↦ absurd (apart (sym (ap number_of same))) ],
             ));
         waits = λ m within. elim (so_far.waits m within) [ inl there ↦ inl (Contains-append_left order (n ∷ []) m there) | inr waiting ↦ elim (number_cases rest (Leave n) m waiting) [ inl before ↦ inr before | inr same ↦ inl (subst Q same here) ] ];
-        are_steps = steps_before targets (Contains order) (Contains (order ++ n ∷ []))
-            (λ m there. Contains-append_left order (n ∷ []) m there) None rest (Leave n) (λ within. here) so_far.are_steps;
+        are_steps = steps_before targets (IsPast targets on_cycle order) (IsPast targets on_cycle (order ++ n ∷ []))
+            (past_stays on_cycle order n) None rest (Leave n) (λ within. past_there on_cycle (order ++ n ∷ []) n here) so_far.are_steps;
         after = λ before others m to same leads. elim (snoc_cases order n before m others same) [
-          | inl whole ↦ let R : List ℕ → Type 0 = λ list. Contains list to in
+          | inl whole ↦ let R : List ℕ → Type 0 = λ list. IsPast targets on_cycle list to in
               let S : ℕ → Type 0 = λ each. LeadsTo targets each to in
-              subst R whole.0 (left_covered targets (Contains order) None rest n so_far.are_steps to (subst S (sym whole.1) leads))
+              subst R whole.0 (left_covered targets (IsPast targets on_cycle order) None rest n so_far.are_steps to (subst S (sym whole.1) leads))
           | inr part ↦ so_far.after before part.0 m to part.1 leads
         ];
         once = distinct_snoc order n so_far.once not_done;
+        named = so_far.named;
       }
 
   -- a step that enters a fresh number opens it
-  pub opened : (marks : List Mark) (rest : List Step) (n : ℕ) (order numbers : List ℕ) → n < length targets
+  pub opened : (marks : List Mark) (rest : List Step) (n : ℕ) (order numbers : List ℕ) (on_cycle : Option ℕ) → n < length targets
       → mark_at marks n ≡ Fresh → ((to : ℕ) → IsTarget targets n to ↔ Contains numbers to)
-      → Progress marks (rest ++ Enter n ∷ []) order
-      → Progress (set marks n Open) (rest ++ Leave n ∷ map Enter numbers) order
-  opened marks rest n order numbers within_n fresh same so_far =
+      → Progress marks (rest ++ Enter n ∷ []) order on_cycle
+      → Progress (set marks n Open) (rest ++ Leave n ∷ map Enter numbers) order on_cycle
+  opened marks rest n order numbers on_cycle within_n fresh same so_far =
       let not_again : ¬ Contains rest (Leave n) = λ there.
       fresh_isnt_open (sym fresh ∙ (so_far.open_ n within_n).0 (Contains-append_left rest (Enter n ∷ []) (Leave n) there)) in
       let not_done : ¬ Contains order n = λ there. fresh_isnt_done (sym fresh ∙ (so_far.done n within_n).0 there) in
@@ -247,27 +322,48 @@ module _ {Z : Type 0} (targets : List (Vec ℕ Z)) where
           | inr waiting ↦ elim (number_cases rest (Enter n) m waiting) [
             | inl before ↦ inr (subst (P m) (sym (map-append number_of rest added))
                 (Contains-append_left (map number_of rest) (map number_of added) m before))
-            | inr is ↦ inr (subst Q is (image number_of (rest ++ added) (Leave n) here))
+            | inr is ↦ inr (subst Q is (Contains-image number_of (rest ++ added) (Leave n) here))
           ]
         ];
-        are_steps = steps_opened targets (Contains order) None rest n numbers within_n not_again
+        are_steps = steps_opened targets (IsPast targets on_cycle order) None rest n numbers within_n not_again
             (λ to leads. (same to).0 leads) (λ to there. (same to).1 there) so_far.are_steps;
         after = so_far.after;
         once = so_far.once;
+        named = so_far.named;
       }
 
-  -- a step that enters an open number has found a cycle
-  pub cycle : (marks : List Mark) (rest : List Step) (n : ℕ) (order : List ℕ) → n < length targets → mark_at marks n ≡ Open
-      → Progress marks (rest ++ Enter n ∷ []) order → Chain (LeadsTo targets) n n
-  cycle marks rest n order within is so_far =
-      elim (leave_cases rest (Enter n) n ((so_far.open_ n within).1 is)) [ inl here ↦ leads_back targets (Contains order) rest n within so_far.are_steps here | inr wrong ↦ absurd (enter_or_leave n n wrong) ]
-
-  -- where no step is left the order is whole
-  pub whole : (marks : List Mark) (order : List ℕ) → Progress marks [] order → IsOrder targets order
-  whole marks order so_far = record {
+  -- where no step is left all is gone through
+  pub whole : (marks : List Mark) (walk : Walk) → Progress marks [] walk.order.items walk.on_cycle → IsWalked targets walk
+  whole marks walk so_far = record {
     each = λ n. (λ there. so_far.within n there, λ within. elim (so_far.waits n within) [ inl there ↦ there | inr none ↦ absurd (omega (arith, none.1)) ]);
     once = so_far.once;
     after = so_far.after;
+    named = so_far.named;
+  }
+
+  -- what is past stands before, or leads back to itself
+  past_or_back : (on_cycle : Option ℕ) (before : List ℕ) (n : ℕ) → IsPast targets on_cycle before n
+      → Contains before n ⊎ Chain (LeadsTo targets) n n
+  past_or_back None before n there = inl there
+  past_or_back (Some number) before n past = past
+
+  -- so what was gone through is in an order that passes over cycles
+  pub passes_cycles : (walk : Walk) → IsWalked targets walk → IsLowestFirst targets walk.order.items
+  passes_cycles walk walked = record {
+    each = walked.each;
+    once = walked.once;
+    after = λ before rest number to is leads.
+        past_or_back walk.on_cycle before to (walked.after before rest number to is leads);
+  }
+
+  -- and, where no number on a cycle was met, in one with no cycle
+  pub has_order : (walk : Walk) → walk.on_cycle ≡ None → IsWalked targets walk → IsOrder targets walk.order.items
+  has_order walk none walked = record {
+    each = walked.each;
+    once = walked.once;
+    after = λ before rest number to is leads.
+        let P : Option ℕ → Type 0 = λ on_cycle. IsPast targets on_cycle before to in
+        subst P none (walked.after before rest number to is leads);
   }
 
 -- where an item stands in a list, the list is taken apart there

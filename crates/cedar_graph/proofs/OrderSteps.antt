@@ -2,6 +2,7 @@
 use Rattle.std.proofs.Common.{◌≡◌, ◌⊎◌, ◌<◌, ℕ, List, [], ◌∷◌, ◌++◌, Option, None, Some, Vec, Contains, length, map, ap, sym, subst, refl, inl, inr, arith}
 use Rattle.std.proofs.lemmas.List.{map-append}
 use Rattle.std.proofs.lemmas.List.Elements.{Contains-append_left, Contains-append_right, Contains-append_cases}
+use Rattle.cedar_ast.proofs.Basics.{Contains-single}
 use Rattle.cedar_ast.proofs.Lists.{Contains-cons, Contains-cons_cases}
 use Rattle.cedar_graph.specs.Words.{Chain, Enter, IsTarget, LeadsTo, Leave, Step, more, one}
 
@@ -9,17 +10,6 @@ use Rattle.cedar_graph.specs.Words.{Chain, Enter, IsTarget, LeadsTo, Leave, Step
 abbrev pub number_of : Step → ℕ
 number_of (Enter number) = number
 number_of (Leave number) = number
-
--- in a list of one item stands that item
-pub single : {A : Type 0} (x y : A) → Contains (x ∷ []) y → x ≡ y
-single x y among = elim (Contains-cons_cases x [] y among) [ inl same ↦ same | inr none ↦ absurd (omega (arith, none.1)) ]
-
--- the image of an item that stands in a list stands in the mapped list
-pub image : {X Y : Type 0} (f : X → Y) (xs : List X) (x : X) → Contains xs x → Contains (map f xs) (f x)
-image f [] x among = absurd (omega (arith, among.1))
-image f (first ∷ rest) x among =
-    Contains-cons (f first) (map f rest) (f x)
-    (elim (Contains-cons_cases first rest x among) [ inl here ↦ inl (ap f here) | inr later ↦ inr (image f rest x later) ])
 
 -- a step that enters isn't one that leaves
 pub enter_or_leave : (a b : ℕ) → ¬ (Enter a ≡ Leave b)
@@ -87,7 +77,7 @@ module _ {Z : Type 0} (targets : List (Vec ℕ Z)) where
       covered to within above =
           elim (Contains-append_cases (map number_of rest) (number_of step ∷ []) to (rw (map-append number_of rest (step ∷ [])) at above)) [
             | inl here ↦ inr here
-            | inr last ↦ let same = single (number_of step) to last in
+            | inr last ↦ let same = Contains-single (number_of step) to last in
                 inl (rw same at (done (omega (arith, same, within))))
           ]
 
@@ -133,7 +123,7 @@ module _ {Z : Type 0} (targets : List (Vec ℕ Z)) where
           let before = map number_of rest in
           let after = n ∷ map number_of (map Enter numbers) in
           subst P (sym (map-append number_of rest (Leave n ∷ map Enter numbers)))
-          (elim (Contains-append_cases before (n ∷ []) to (subst P (map-append number_of rest (Enter n ∷ [])) above)) [ inl here ↦ Contains-append_left before after to here | inr last ↦ Contains-append_right before after to (Contains-cons n (map number_of (map Enter numbers)) to (inl (single n to last))) ])
+          (elim (Contains-append_cases before (n ∷ []) to (subst P (map-append number_of rest (Enter n ∷ [])) above)) [ inl here ↦ Contains-append_left before after to here | inr last ↦ Contains-append_right before after to (Contains-cons n (map number_of (map Enter numbers)) to (inl (Contains-single n to last))) ])
 
       not_again : ¬ (Contains rest (Leave m) ⊎ Contains (Leave n ∷ map Enter numbers) (Leave m))
       not_again (inl here) = steps.3 (Contains-append_left rest (Enter n ∷ []) (Leave m) here)

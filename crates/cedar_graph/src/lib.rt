@@ -4,7 +4,8 @@
 //! reaches, or names a node on a cycle ([`TcError`]); [`compute_tc_counted`] counts its work too.
 //! [`close_table`] closes a table in the same way, and [`link_table`] gives the nodes of one the
 //! edges that chains of a list of edges lead to, or they say what is at fault ([`TableFault`]).
-//! [`topo_sort`] orders numbers, each after those that it leads to ([`Ordered`]).
+//! [`topo_sort`] orders numbers, each after those that it leads to ([`Ordered`]), and
+//! [`lowest_first`] does so too, but passes over cycles.
 //!
 //! To close a map, keys and targets of edges are numbered, and each key has a list of the numbers
 //! of its targets. What a key reaches is gathered from list to list, each number once, and becomes
@@ -12,7 +13,7 @@
 #![tactic(auto)]
 
 pub use closure::{compute_tc, compute_tc_counted};
-pub use ordering::{Ordered, topo_sort};
+pub use ordering::{Ordered, lowest_first, topo_sort};
 pub use table_closing::close_table;
 pub use table_fault::TableFault;
 pub use table_linking::link_table;

@@ -1,6 +1,7 @@
 -- What stands first among possibilities, and what references to actions name.
 use Rattle.std.proofs.Common.{List, [], ◌∷◌, sym, subst, Contains, inl, inr}
-use Rattle.cedar_schema_semantics.specs.Words.{ActionReference, IsFirst, NamesAction, PlainName, PlainUid}
+use Rattle.cedar_schema_ast.specs.Reference.{ActionReference}
+use Rattle.cedar_schema_semantics.specs.Words.{IsFirst, NamesAction, PlainName, PlainUid}
 
 -- a fact holds of the first item of which it does
 pub IsFirst-holds : {A : Type 0} (P : A → Type 0) (xs : List A) (x : A) → IsFirst P xs x → P x

@@ -1,47 +1,18 @@
 -- Common types whose places lead back to themselves are elaborated as no type.
-use Rattle.std.proofs.Common.{◌≡◌, ℕ, zero, suc, List, [], ◌∷◌, Vec, length, Some, ap, sym, subst, refl, inl, inr, Contains, arith}
+use Rattle.std.proofs.Common.{◌≡◌, ℕ, List, Vec, Some, sym, subst, inl, inr, Contains, arith}
 use Rattle.std.specs.Prelude.{slice_get}
 use Rattle.cedar_ast.proofs.Chains.{joined}
+use Rattle.cedar_elaboration.proofs.IndexLemmas.{Contains-at}
+use Rattle.cedar_elaboration.proofs.OrderLemmas.{AreTargets, item_at, targets_at}
+use Rattle.cedar_elaboration.proofs.ScopeLemmas.{same_resolves}
 use Rattle.cedar_schema_semantics.proofs.OccurrenceLemmas.{value_once}
 use Rattle.cedar_schema_semantics.proofs.ResolutionLemmas.{IsFirst-same}
 use Rattle.cedar_type_rules.specs.Ty.{Fields, Ty}
-use Rattle.cedar_written_out.proofs.IndexLemmas.{Contains-at}
-use Rattle.cedar_written_out.proofs.MeasureLemmas.{item_at, resolves_alike}
-use Rattle.cedar_written_out.specs.Words.{AddsIndices, AreIndices, Chain, Defined, DefinesJust, ElaboratesTo, Expr, HoldsPairwise, IsCommon, IsDefined, LeadsTo, MayNameCommon, Members, MembersElaborateTo, MembersRefer, Names, PlainName, Reference, Refers, ResolvesTo, as_common, as_entity, as_extension, as_long, as_member, as_no_member, as_record, as_set, as_text, as_truth, item_names, items_at, more, names_of, one}
-
--- what holds pairwise holds of the item at an index and of the list there
-turn_at : {A Z : Type 0} (S : A → List ℕ → Type 0) (xs : List A) (vs : List (Vec ℕ Z)) → HoldsPairwise (λ x v. S x v.items) xs vs
-    → (i : ℕ) (x : A) → slice_get xs i ≡ Some x → S x (items_at vs i)
-unfolding items_at
-turn_at S [] vs turns i x is = cc
-turn_at S (y ∷ xs) [] turns i x is = absurd turns
-turn_at S (y ∷ xs) (v ∷ vs) turns zero x is =
-    let same : y ≡ x = cc in
-    rw same at turns.0
-turn_at S (y ∷ xs) (v ∷ vs) turns (suc i) x is = turn_at S xs vs turns.1 i x is
-
--- lists of which something holds pairwise are of one length
-pub same_length : {A B : Type 0} (R : A → B → Type 0) (xs : List A) (ys : List B) → HoldsPairwise R xs ys → length xs ≡ length ys
-same_length R [] [] turns = refl
-same_length R (x ∷ xs) (y ∷ ys) turns = ap suc (same_length R xs ys turns.1)
-same_length R _ _ turns = absurd turns
-
--- the indices of the common types that each of some definitions refers to
-abbrev pub AreTargets : {Z : Type 0} → Names → List (PlainName × ℕ) → List (PlainName × Expr) → List (Vec ℕ Z) → Type 0
-AreTargets names indices items targets = HoldsPairwise (λ it found. AddsIndices names indices (Refers it.1) [] found.items) items targets
+use Rattle.cedar_written_out.specs.Words.{AreIndices, Chain, Defined, DefinesJust, ElaboratesTo, Expr, IsCommon, IsDefined, LeadsTo, MayNameCommon, Members, MembersElaborateTo, MembersRefer, Names, PlainName, Reference, Refers, ResolvesTo, as_common, as_entity, as_extension, as_long, as_member, as_no_member, as_record, as_set, as_text, as_truth, item_names, more, names_of, one}
 
 module _ {Z : Type 0} (defined : Defined) (names : Names) (items : List (PlainName × Expr)) (indices : List (PlainName × ℕ))
     (targets : List (Vec ℕ Z)) (defines : DefinesJust items names defined) (numbered : AreIndices (item_names items) indices)
     (turns : AreTargets names indices items targets) where
-  -- as many items as lists of targets
-  pub as_many : length items ≡ length targets
-  as_many = same_length (λ it found. AddsIndices names indices (Refers it.1) [] found.items) items targets turns
-
-  -- what the item at a place refers to
-  pub targets_at : (place : ℕ) (item : PlainName × Expr) → slice_get items place ≡ Some item
-      → AddsIndices names indices (Refers item.1) [] (items_at targets place)
-  targets_at place item is = turn_at (λ it found. AddsIndices names indices (Refers it.1) [] found) items targets turns place item is
-
   -- the reference names the common type at the place
   pub record NamesPlace (reference : Reference) (place : ℕ) : Type 0 where
     pub item : PlainName × Expr
@@ -52,7 +23,7 @@ module _ {Z : Type 0} (defined : Defined) (names : Names) (items : List (PlainNa
   -- a place that a common type leads to is that of one that its definition refers to
   leads_refers : (from to : ℕ) (item : PlainName × Expr) → slice_get items from ≡ Some item → LeadsTo targets from to
       → (reference : Reference) × Refers item.1 reference × NamesPlace reference to
-  leads_refers from to item is leads = elim ((targets_at from item is).only to leads.0) [
+  leads_refers from to item is leads = elim ((targets_at names items indices targets numbered turns from item is).only to leads.0) [
     | inl none ↦ absurd (omega (arith, none.1))
     | inr it ↦
         let other = item_at items to it.2.1 (numbered.sound it.2.1 to it.2.3) in
@@ -60,7 +31,7 @@ module _ {Z : Type 0} (defined : Defined) (names : Names) (items : List (PlainNa
         let named : NamesPlace it.0 to = record {
           item = other.0;
           may = it.2.0;
-          resolves = subst Resolves (sym other.2) (resolves_alike names (names_of defined) defines.names it.0 it.2.1 it.2.2);
+          resolves = subst Resolves (sym other.2) (same_resolves names (names_of defined) defines.names it.0 it.2.1 it.2.2);
           stands = other.1;
         } in
         (it.0, it.1, named)

@@ -2,15 +2,15 @@
 use Rattle.std.proofs.Common.{◌≡◌, ◌≢◌, ◌⊎◌, ◌<◌, ◌++◌, ℕ, zero, suc, List, [], ◌∷◌, Option, Vec, length, get_or, set, replicate, None, Some, ap, sym, subst, ◌∙◌, refl, inl, inr, Contains, arith}
 use Rattle.std.proofs.Math.ListN.{length-map}
 use Rattle.std.proofs.lemmas.List.Elements.{Contains-append_cases, Contains-get_or}
-use Rattle.std.proofs.lemmas.Option.{slice_get-map, slice_get_within}
-use Rattle.std.specs.Option.{option_map}
+use Rattle.std.proofs.lemmas.Option.{slice_get_within}
 use Rattle.std.specs.Prelude.{slice_get}
 use Rattle.cedar_ast.proofs.Basics.{Contains-single}
 use Rattle.cedar_ast.specs.declared.internal_name.InternalName.{InternalName}
+use Rattle.cedar_elaboration.proofs.IndexLemmas.{Contains-at, index_once}
+use Rattle.cedar_elaboration.proofs.OrderLemmas.{AreTargets, as_many, name_at, same_length, targets_at}
+use Rattle.cedar_elaboration.proofs.ScopeLemmas.{same_resolves}
 use Rattle.cedar_schema_ast.specs.declared.json_schema.type_of.Type.{«Type»}
-use Rattle.cedar_written_out.proofs.CycleLemmas.{AreTargets, as_many, no_type_on_cycle, same_length, targets_at}
-use Rattle.cedar_written_out.proofs.IndexLemmas.{Contains-at, index_once}
-use Rattle.cedar_written_out.proofs.MeasureLemmas.{resolves_alike}
+use Rattle.cedar_written_out.proofs.CycleLemmas.{no_type_on_cycle}
 use Rattle.cedar_written_out.specs.Words.{AreFigures, AreIndices, Chain, Defined, DefinesJust, Expr, HoldsJust, IsLowestFirst, IsMeasured, Knows, LeadsTo, MayNameCommon, Names, PlainName, RawName, Reference, Refers, ResolvesTo, Written, figure_at, held_names, indexed_names, item_names, items_at, name_of, names_of, raw_reference, written_common, written_expr}
 use Rattle.cedar_written_out.specs.declared.figure.Figure.{Figure}
 use Rattle.cedar_written_out.specs.declared.measuring.FigureScope.{FigureScope}
@@ -44,11 +44,6 @@ put_elsewhere (first ∷ rest) zero zero found apart = absurd (apart refl)
 put_elsewhere (first ∷ rest) zero (suc other) found apart = refl
 put_elsewhere (first ∷ rest) (suc place) zero found apart = refl
 put_elsewhere (first ∷ rest) (suc place) (suc other) found apart = put_elsewhere rest place other found (λ same. apart (ap suc same))
-
--- the name of the item at a place
-name_at : (items : List (PlainName × Expr)) (place : ℕ) (item : PlainName × Expr) → slice_get items place ≡ Some item
-    → slice_get (item_names items) place ≡ Some item.0
-name_at items place item is = slice_get-map (λ it. it.0) items place ∙ ap (option_map (λ it. it.0)) is
 
 module _ (defined : Defined) (items : List (PlainName × Expr)) where
   -- the figures of some places are found, and no other place has one that isn't that of its common
@@ -112,7 +107,7 @@ module _ (defined : Defined) (items : List (PlainName × Expr)) where
     pub index_within : (place : ℕ) → Contains order place → place < length items
     index_within place among =
         let IsWithin : ℕ → Type 0 = λ count. place < count in
-        subst IsWithin (sym (as_many defined names items indices targets defines numbered turns)) ((lowest.each place).0 among)
+        subst IsWithin (sym (as_many names items indices targets numbered turns)) ((lowest.each place).0 among)
 
     -- enough is known for the next definition
     pub Knows-next : (before rest : List ℕ) (place : ℕ) (item : PlainName × Expr) (scope : FigureScope)
@@ -142,15 +137,15 @@ module _ (defined : Defined) (items : List (PlainName × Expr)) where
             → IsMeasured defined other.1 (figure_at scope.figures.now to)
         known reference refers may other to resolves stands =
             let named = name_at items to other stands in
-            let found = (targets_at defined names items indices targets defines numbered turns place item is).each reference refers may other.0
-            (resolves_alike (names_of defined) names back reference other.0 resolves)
+            let found = (targets_at names items indices targets numbered turns place item is).each reference refers may other.0
+            (same_resolves (names_of defined) names back reference other.0 resolves)
             (numbered.each other.0 (Contains-at (item_names items) to other.0 named)) in
             let same : found.0 ≡ to = index_once (item_names items) defines.once found.0 to other.0 (numbered.sound other.0 found.0 found.1) named in
             let Leads : ℕ → Type 0 = λ n. Contains (items_at_place) n in
             let IsWithin : ℕ → Type 0 = λ count. to < count in
             let leads : LeadsTo targets place to = (
               subst Leads same found.2,
-              subst IsWithin (as_many defined names items indices targets defines numbered turns) (slice_get_within items to other stands),
+              subst IsWithin (as_many names items indices targets numbered turns) (slice_get_within items to other stands),
             ) in
             elim (lowest.after before rest place to split leads) [
               | inl past ↦ so_far.measured to past other stands
@@ -172,7 +167,7 @@ module _ (defined : Defined) (items : List (PlainName × Expr)) where
         let At : List (PlainName × Expr) → Type 0 = λ list. slice_get list place ≡ Some item in
         let here = subst At defines.common stands in
         let IsWithin : ℕ → Type 0 = λ count. place < count in
-        so_far.measured place ((lowest.each place).1 (subst IsWithin (as_many defined names items indices targets defines numbered turns)
+        so_far.measured place ((lowest.each place).1 (subst IsWithin (as_many names items indices targets numbered turns)
         (slice_get_within items place item here))) item here
 
 -- the index that an order has at a place is one of a common type

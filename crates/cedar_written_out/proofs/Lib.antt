@@ -1,15 +1,10 @@
 mod CopiedFragments
 mod CountLaws
 mod CycleLemmas
-mod Entries
 mod FigureLemmas
 mod GatheredLemmas
-mod IndexLemmas
 mod ListedLemmas
 mod ListedParts
 mod MeasureLemmas
-mod OrderProgress
-mod OrderSteps
 mod RecordParts
-mod ReferringLemmas
 mod WholeLemmas

@@ -4,22 +4,16 @@ use Rattle.std.proofs.lemmas.List.{append-nil, map-append, take_more}
 use Rattle.std.specs.List.{flat_map}
 use Rattle.std.specs.Prelude.{slice_get}
 use Rattle.cedar_ast.specs.declared.internal_name.InternalName.{InternalName}
+use Rattle.cedar_elaboration.proofs.IndexLemmas.{item_at_index, items_more, slice_get-front}
+use Rattle.cedar_elaboration.proofs.OrderLemmas.{HoldsPairwise-push}
 use Rattle.cedar_schema_ast.specs.declared.json_schema.type_of.Type.{«Type»}
-use Rattle.cedar_written_out.proofs.IndexLemmas.{item_at_index, items_more, slice_get-front}
 use Rattle.cedar_written_out.proofs.MeasureLemmas.{Knows-each}
 use Rattle.cedar_written_out.specs.Listed.{common}
-use Rattle.cedar_written_out.specs.Words.{Defined, Expr, HoldsPairwise, IsListed, IsMeasured, Knows, KnowsAll, ListsAlso, Owner, PlainName, RawName, Written, common_expr, figure_at, name_of, raw_reference, type_expr, written_common, written_expr}
+use Rattle.cedar_written_out.specs.Words.{Defined, Expr, IsListed, IsMeasured, Knows, KnowsAll, ListsAlso, Owner, PlainName, RawName, Written, common_expr, figure_at, name_of, raw_reference, type_expr, written_common, written_expr}
 use Rattle.cedar_written_out.specs.declared.figure.Figure.{Figure}
 use Rattle.cedar_written_out.specs.declared.listing.DeclaredType.TheVariants as variant
 use Rattle.cedar_written_out.specs.declared.listing.Measured.{Measured}
 use Rattle.cedar_written_out.specs.declared.measuring.FigureScope.{FigureScope}
-
--- what holds pairwise holds pairwise of one item more on each side
-pub HoldsPairwise-push : {A B : Type 0} (R : A → B → Type 0) (xs : List A) (ys : List B) (x : A) (y : B) → HoldsPairwise R xs ys
-    → R x y → HoldsPairwise R (xs ++ x ∷ []) (ys ++ y ∷ [])
-HoldsPairwise-push R [] [] x y turns last = (last, tt)
-HoldsPairwise-push R (first ∷ xs) (other ∷ ys) x y turns last = (turns.0, HoldsPairwise-push R xs ys x y turns.1 last)
-HoldsPairwise-push R _ _ x y turns last = absurd turns
 
 -- what each item gives, of those up to the next
 pub flat_more : {A B : Type 0} (f : A → List B) (xs : List A) (i : ℕ) (x : A) → i < length xs → x ≡ get_or xs i x

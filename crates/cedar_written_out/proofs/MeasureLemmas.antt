@@ -1,19 +1,21 @@
 -- What is measured of types, by what is measured of the types that stand in them.
-use Rattle.std.proofs.Common.{◌≡◌, ◌+◌, ◌≤◌, ℕ, zero, suc, List, [], ◌∷◌, ◌++◌, Option, None, Some, map, max, min, ap, sym, subst, ◌∙◌, refl, inl, inr, append_assoc, arith, Contains, Result, IfOk}
+use Rattle.std.proofs.Common.{◌≡◌, ◌+◌, ◌≤◌, ℕ, [], ◌∷◌, ◌++◌, Option, None, Some, map, max, min, ap, sym, subst, ◌∙◌, refl, inl, inr, append_assoc, arith, Contains, Result, IfOk}
 use Rattle.std.proofs.Common.{string_bytes}
 use Rattle.std.proofs.lemmas.List.{append-nil}
-use Rattle.std.specs.Prelude.{slice_get}
 use Rattle.std.specs.declared.alloc.Global.{Global}
 use Rattle.std.specs.declared.string.String.{String}
 use Rattle.cedar_ast.proofs.Basics.{Contains-image}
+use Rattle.cedar_elaboration.proofs.IndexLemmas.{Contains-at}
+use Rattle.cedar_elaboration.proofs.OrderLemmas.{item_at}
+use Rattle.cedar_elaboration.proofs.RecordLemmas.{Entries, MembersElaborateTo-append, append_fields, append_members, attribute_expr, entries_of, refer-right, resolved_members, resolved_members-append, resolved_members-one, resolved_record-split}
+use Rattle.cedar_elaboration.proofs.ScopeLemmas.{same_resolves}
 use Rattle.cedar_schema_ast.proofs.ExprLemmas.{record_type_expr-entries}
 use Rattle.cedar_schema_semantics.proofs.OccurrenceLemmas.{value_once}
-use Rattle.cedar_schema_semantics.proofs.ResolutionLemmas.{IsFirst-like, IsFirst-same, first_defined}
+use Rattle.cedar_schema_semantics.proofs.ResolutionLemmas.{IsFirst-same, first_defined}
 use Rattle.cedar_type_rules.specs.Ty.{Fields, Ty, end, field, record_of, set_of, union_of}
 use Rattle.cedar_type_rules.specs.declared.open_tag.OpenTag.TheVariants.{ClosedAttributes}
-use Rattle.cedar_written_out.proofs.IndexLemmas.{Contains-at}
-use Rattle.cedar_written_out.proofs.RecordParts.{Entries, MembersElaborateTo-append, append_fields, append_members, attribute_expr, entries_of, fields_depth-append, fields_size-append, member_elaborated, refer-right, resolved_members, resolved_members-append, resolved_members-one, resolved_record-split}
-use Rattle.cedar_written_out.specs.Words.{Defined, ElaboratesTo, Expr, HoldsJust, IsCommon, IsDefined, IsEntity, IsFigureOf, IsMeasured, IsUnresolved, Knows, KnowsAll, MayNameCommon, Members, MembersElaborateTo, Names, PlainName, RecordType, Reference, ReferenceType, Refers, ResolvesTo, TypeOfAttribute, as_common, as_entity, as_member, as_no_member, as_record, as_set, fields_depth, fields_size, figure_at, held_names, indexed_names, item_names, member, most, named, names_of, no_member, out-RecordType, out-TypeOfAttribute, record_expr, record_type_expr, set_expr, type_depth, type_size}
+use Rattle.cedar_written_out.proofs.RecordParts.{fields_depth-append, fields_size-append, member_elaborated}
+use Rattle.cedar_written_out.specs.Words.{Defined, ElaboratesTo, Expr, IsCommon, IsDefined, IsEntity, IsFigureOf, IsMeasured, IsUnresolved, Knows, KnowsAll, MayNameCommon, Members, MembersElaborateTo, PlainName, RecordType, Reference, ReferenceType, Refers, ResolvesTo, TypeOfAttribute, as_common, as_entity, as_member, as_no_member, as_record, as_set, fields_depth, fields_size, figure_at, held_names, indexed_names, item_names, member, most, named, names_of, no_member, out-RecordType, out-TypeOfAttribute, record_expr, record_type_expr, set_expr, type_depth, type_size}
 use Rattle.cedar_written_out.specs.declared.figure.Figure.{Figure}
 use Rattle.cedar_written_out.specs.declared.measuring.FigureScope.{FigureScope}
 
@@ -70,21 +72,6 @@ pub IsMeasured-single : (defined : Defined) (expr other : Expr) (ty : Ty) (figur
 IsMeasured-single defined expr other ty figure same elaborated deep large one_deep one_large =
     rw same (ty, elaborated, rw (deep, large) (IsFigureOf-single figure one_deep one_large))
 
--- names that are just others resolve a reference alike
-pub resolves_alike : (held names : Names) → HoldsJust held names → (reference : Reference) (name : PlainName)
-    → ResolvesTo held reference name → ResolvesTo names reference name
-resolves_alike held names just reference name =
-    IsFirst-like (IsDefined held reference.kind) (IsDefined names reference.kind)
-    (λ each. elim [
-      | inl common ↦ inl (common.0, (just.common each).0 common.1)
-      | inr entity ↦ inr (entity.0, (just.entities each).0 entity.1)
-    ])
-    (λ each. elim [
-      | inl common ↦ inl (common.0, (just.common each).1 common.1)
-      | inr entity ↦ inr (entity.0, (just.entities each).1 entity.1)
-    ])
-    reference.possibilities name
-
 -- what is known for an expression is known for its parts
 pub Knows-part : (defined : Defined) (scope : FigureScope) (whole part : Expr)
     → ((reference : Reference) → Refers part reference → Refers whole reference)
@@ -103,17 +90,10 @@ Knows-each defined scope expr knows = record {
   figures = λ reference refers may item place resolves is. knows.figures place item is;
 }
 
--- the item that has the name at a place
-pub item_at : (items : List (PlainName × Expr)) (place : ℕ) (name : PlainName) → slice_get (item_names items) place ≡ Some name
-    → (item : PlainName × Expr) × (slice_get items place ≡ Some item) × (item.0 ≡ name)
-item_at [] place name is = cc
-item_at (item ∷ items) zero name is = let same : item.0 ≡ name = cc in (item, refl, same)
-item_at (item ∷ items) (suc place) name is = item_at items place name is
-
 module _ (defined : Defined) (scope : FigureScope) (reference : Reference) (knows : Knows defined scope (named reference)) where
   -- a reference resolves over what is defined as over the names that are in scope
   resolves : (name : PlainName) → ResolvesTo (held_names scope.defs.now) reference name → ResolvesTo (names_of defined) reference name
-  resolves name = resolves_alike (held_names scope.defs.now) (names_of defined) knows.defines.names reference name
+  resolves name = same_resolves (held_names scope.defs.now) (names_of defined) knows.defines.names reference name
 
   -- a reference that nothing resolves is elaborated as no type
   pub unresolved_measured : IsUnresolved (held_names scope.defs.now) reference → IsMeasured defined (named reference) None

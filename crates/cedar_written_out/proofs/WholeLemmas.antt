@@ -4,8 +4,8 @@ use Rattle.std.proofs.Math.Seq.{take-append_seam}
 use Rattle.std.proofs.lemmas.List.{map-append, take-append-drop}
 use Rattle.cedar_ast.specs.Words.{TypeNamesFit, extension_types}
 use Rattle.cedar_ast.specs.declared.internal_name.InternalName.{InternalName}
+use Rattle.cedar_elaboration.proofs.AliasLemmas.{defined_twice}
 use Rattle.cedar_schema_ast.specs.declared.json_schema.type_of.Type.{«Type»}
-use Rattle.cedar_written_out.proofs.GatheredLemmas.{defined_twice}
 use Rattle.cedar_written_out.specs.Words.{AreFigures, AreIndices, Bag, DefinesJust, Expr, Extensions, Fault, HoldsJust, IsFault, IsKnown, KnowsAll, Names, PlainName, RawName, Twice, Written, aliases, built_ins, declared_common, defined_names, definitions, duplicate_common_type, held_names, indexed_names, item_names, raw_reference, written_common}
 use Rattle.cedar_written_out.specs.declared.gathering.Known.{Known}
 use Rattle.cedar_written_out.specs.declared.measuring.FigureScope.{FigureScope}

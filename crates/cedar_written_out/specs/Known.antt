@@ -1,11 +1,11 @@
 -- What is known as types are measured.
 use Rattle.std.specs.Prelude.{◌≡◌, ℕ, List, Option, Some, slice_get}
 use Rattle.cedar_ast.specs.Words.{PlainName, Twice}
-use Rattle.cedar_name_resolution.specs.Words.{HoldsJust, held_names}
+use Rattle.cedar_elaboration.specs.Words.{AreIndices, indexed_names, item_names}
+use Rattle.cedar_fragments.specs.Words.{HoldsJust, held_names}
 use Rattle.cedar_schema_ast.specs.Words.{Expr, Reference}
 use Rattle.cedar_schema_semantics.specs.Words.{Defined, MayNameCommon, Names, Refers, ResolvesTo, names_of}
 use Rattle.cedar_written_out.specs.Figures.{IsMeasured, figure_at}
-use Rattle.cedar_written_out.specs.Indices.{AreIndices, indexed_names, item_names}
 use Rattle.cedar_written_out.specs.declared.figure.Figure.{Figure}
 use Rattle.cedar_written_out.specs.declared.measuring.FigureScope.{FigureScope}
 

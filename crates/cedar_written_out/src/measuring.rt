@@ -4,9 +4,8 @@ ghost use Rattle.std.specs.Prelude.{◌≡◌, IfOk};
 ghost use Rattle.cedar_written_out.specs.Words.{Defined, IsMeasured, Knows, figure_at, named, namespace_name, raw_expr, raw_record, raw_reference, raw_variant};
 
 use crate::figure::Figure;
-use crate::indices::Indices;
-use crate::referring::may_name_common;
 use cedar_ast::{InternalName, M};
+use cedar_elaboration::{Indices, may_name_common};
 use cedar_name_resolution::defs::{AllDefs, WrittenName};
 use cedar_schema_ast::json_schema::{RawName, RecordType, ReferenceType, Type, TypeVariant};
 

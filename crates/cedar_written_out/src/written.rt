@@ -5,10 +5,10 @@ ghost use Rattle.cedar_written_out.specs.Words.{AreListed, IsFault, TypeNamesFit
 
 use crate::common::common_figures;
 use crate::gathering::{Known, what_is_known};
-use crate::indices::name_indices;
 use crate::listing::{Measured, list_actions, list_common_types, list_entity_types};
 use crate::measuring::FigureScope;
 use cedar_ast::Extensions;
+use cedar_elaboration::name_indices;
 use cedar_fragments::Declarations;
 use cedar_schema_ast::json_schema::{Fragment, RawName};
 use cedar_schema_semantics::SchemaError;

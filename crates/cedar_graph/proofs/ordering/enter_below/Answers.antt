@@ -1,6 +1,7 @@
 use Rattle.std.proofs.Common.{◌≡◌, ◌⊎◌, ◌<◌, ◌+◌, ℕ, zero, suc, List, [], ◌∷◌, ◌++◌, ap, sym, subst, refl, inl, inr, arith, Contains}
 use Rattle.std.proofs.lemmas.List.Elements.{Contains-append_left, Contains-append_right, Contains-append_cases}
-use Rattle.cedar_graph.proofs.OrderSteps.{enter_or_leave, single}
+use Rattle.cedar_ast.proofs.Basics.{Contains-single}
+use Rattle.cedar_graph.proofs.OrderSteps.{enter_or_leave}
 use Rattle.cedar_graph.proofs.ordering.enter_below.Goals as goal
 use Rattle.cedar_graph.specs.Words.{Enter, Leave, Step}
 
@@ -26,5 +27,5 @@ loop-number-preserved c =
                 subst R same (Contains-append_right before (new ∷ []) new (0, omega arith, refl))
           ]);
       only = subst Q (sym c.in_ok-push.ensures.items) (λ number leaves.
-          elim (Contains-append_cases before (new ∷ []) (Leave number) leaves) [ inl there ↦ c.loop-number.invariant.only number there | inr last ↦ enter_or_leave c.loop-number.number number (single new (Leave number) last) ]);
+          elim (Contains-append_cases before (new ∷ []) (Leave number) leaves) [ inl there ↦ c.loop-number.invariant.only number there | inr last ↦ enter_or_leave c.loop-number.number number (Contains-single new (Leave number) last) ]);
     }

@@ -1,7 +1,7 @@
 use Rattle.std.proofs.Common.{◌<◌, ℕ, List, Option, length, take, get_or, sym, subst, ◌∙◌, refl, rules}
 use Rattle.std.proofs.lemmas.List.{get_or_default, length-set, take_all, take_more}
+use Rattle.cedar_elaboration.proofs.IndexLemmas.{item_at_index, split_at}
 use Rattle.cedar_written_out.proofs.FigureLemmas.{AreFigures-whole, FiguresSoFar, FiguresSoFar-more, FiguresSoFar-none, Knows-next, order_within}
-use Rattle.cedar_written_out.proofs.IndexLemmas.{item_at_index, split_at}
 use Rattle.cedar_written_out.proofs.common.common_figures.Goals as goal
 use Rattle.cedar_written_out.specs.Words.{IsLowestFirst, RawName, held_names, indexed_names, name_of, raw_reference, written_common, written_expr}
 use Rattle.cedar_written_out.specs.declared.figure.Figure.{Figure}

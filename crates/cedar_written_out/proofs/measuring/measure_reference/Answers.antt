@@ -2,7 +2,7 @@ use Rattle.std.proofs.Common.{sym, ◌∙◌}
 use Rattle.std.proofs.lemmas.Bool.{false≢true}
 use Rattle.cedar_ast.proofs.Names.{internal_name_ord-Equal}
 use Rattle.cedar_ast.specs.contracts.internal_name.InternalNameOrd.TheImpl as order
-use Rattle.cedar_written_out.proofs.Entries.{looked_up, not_found}
+use Rattle.cedar_elaboration.proofs.Entries.{looked_up, not_found}
 use Rattle.cedar_written_out.proofs.MeasureLemmas.{common_measured, entity_measured, unresolved_measured}
 use Rattle.cedar_written_out.proofs.measuring.measure_reference.Goals as goal
 use Rattle.cedar_written_out.specs.Words.{name_of, namespace_name, raw_reference}

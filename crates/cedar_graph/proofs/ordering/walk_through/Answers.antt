@@ -1,12 +1,11 @@
-use Rattle.std.proofs.Common.{◌≡◌, ◌++◌, ◌<◌, ℕ, zero, suc, replicate, Contains, ◌+◌, length, List, [], ◌∷◌, None, map, ap, sym, subst, ◌∙◌, refl, inl, inr, arith}
+use Rattle.std.proofs.Common.{◌≡◌, ◌++◌, ◌<◌, ℕ, zero, suc, replicate, Contains, ◌+◌, length, List, [], ◌∷◌, None, map, ap, sym, subst, ◌∙◌, refl, arith}
 use Rattle.std.proofs.lemmas.List.{append_assoc, length-append, length-map}
-use Rattle.cedar_written_out.proofs.OrderProgress.{IsPast, Progress, mark_at, mark_read, at_first, skipped, left, opened, items_at-read, whole, opening_pays, leaving_is_free}
-use Rattle.cedar_written_out.proofs.OrderSteps.{left_within}
-use Rattle.cedar_written_out.proofs.ordering.lowest_first.Goals as goal
-use Rattle.cedar_written_out.specs.Order.{items_at}
-use Rattle.cedar_written_out.specs.declared.ordering.Mark.{Mark}
-use Rattle.cedar_written_out.specs.declared.ordering.Mark.TheVariants.{Fresh}
-use Rattle.cedar_written_out.specs.declared.ordering.Step.TheVariants.{Enter, Leave}
+use Rattle.cedar_graph.proofs.Lists.{items_at-read}
+use Rattle.cedar_graph.proofs.OrderProgress.{Progress, mark_at, mark_read, at_first, skipped, came_back, left, opened, whole, opening_pays, leaving_is_free}
+use Rattle.cedar_graph.proofs.OrderSteps.{left_within}
+use Rattle.cedar_graph.proofs.ordering.walk_through.Goals as goal
+use Rattle.cedar_graph.specs.Words.{Enter, IsPast, Leave, Mark, items_at}
+use Rattle.cedar_graph.specs.declared.ordering.Mark.TheVariants.{Fresh}
 
 -- the mark of a number of which all are fresh
 fresh_at : (count n : ℕ) → n < count → mark_at (replicate count Fresh) n ≡ Fresh
@@ -23,7 +22,7 @@ pub loop-step-init : goal.loop-step-init
 loop-step-init c =
     let marks = c.in_ok-marks.ensures.items_if_clones_equal (λ y same. same) in
     let R : List Mark → Type 0 = λ list. (n : ℕ) → n < length c.args.targets.now.items → mark_at list n ≡ Fresh in
-    let P : List ℕ → Type 0 = Progress c.args.targets.now.items c.in_ok-marks.marks.items c.in_ok-steps.steps.items in
+    let P : List ℕ → Type 0 = λ order. Progress c.args.targets.now.items c.in_ok-marks.marks.items c.in_ok-steps.steps.items order None in
     subst P (sym c.new-order.ensures.items)
     (at_first c.args.targets.now.items c.in_ok-marks.marks.items c.in_ok-steps.steps.items
     (omega (arith, c.in_ok-marks.ensures.len, c.len.ensures))
@@ -36,7 +35,7 @@ index_mut-requires c =
     omega (
       arith,
       so_far.len,
-      left_within c.args.targets.now.items (IsPast c.args.targets.now.items c.loop-step.order.items) None c.pop.new.self.items
+      left_within c.args.targets.now.items (IsPast c.args.targets.now.items c.loop-step.on_cycle c.loop-step.order.items) None c.pop.new.self.items
           c.in-Leave.number so_far.are_steps,
     )
 
@@ -49,8 +48,16 @@ loop-step-smaller-in-Leave c =
 
 pub loop-step-preserved-in-Leave : goal.loop-step-preserved-in-Leave
 loop-step-preserved-in-Leave c =
-    rw (sym c.in_ok-push-in-Leave.ensures.items) at (left c.args.targets.now.items c.loop-step.marks.items c.pop.new.self.items c.in-Leave.number c.loop-step.order.items
+    rw (sym c.in_ok-push-in-Leave.ensures.items) at (left c.args.targets.now.items c.loop-step.marks.items c.pop.new.self.items c.in-Leave.number c.loop-step.order.items c.loop-step.on_cycle
     (rw c.in-Leave.is at (rw c.in-Some.ensures.items at c.loop-step.invariant)))
+
+pub loop-step-preserved-in-Open : goal.loop-step-preserved-in-Open
+loop-step-preserved-in-Open c =
+    let so_far = rw c.in-Enter.is at (rw c.in-Some.ensures.items at c.loop-step.invariant) in
+    let within : c.in-Enter.number < length c.loop-step.marks.items = omega (arith, c.if-number-len.true, c.len-in-Some.ensures) in
+    rw c.or-on_cycle.ensures (came_back c.args.targets.now.items c.loop-step.marks.items c.pop.new.self.items c.in-Enter.number
+    c.loop-step.order.items c.loop-step.on_cycle (omega (arith, within, so_far.len))
+    (mark_read c.loop-step.marks.items c.in-Enter.number c.index.result.now within c.index.ensures ∙ c.in-Open.is) so_far)
 
 pub loop-step-smaller-in_ok-enter_all-in-Fresh : goal.loop-step-smaller-in_ok-enter_all-in-Fresh
 loop-step-smaller-in_ok-enter_all-in-Fresh c =
@@ -95,31 +102,24 @@ loop-step-preserved-in_ok-enter_all-in-Fresh c =
     ∙ (ap (λ steps. steps ++ map Enter numbers) c.in_ok-push-in-Fresh.ensures.items
     ∙ append_assoc c.pop.new.self.items (Leave n ∷ []) (map Enter numbers)) in
     let S : ℕ → List ℕ → Type 0 = λ to list. Contains list to in
-    rw (sym added) at (opened targets marks c.pop.new.self.items n c.loop-step.order.items numbers has_list fresh
+    rw (sym added) at (opened targets marks c.pop.new.self.items n c.loop-step.order.items numbers c.loop-step.on_cycle has_list fresh
     (λ to. (λ target. subst (S to) listed target, λ there. subst (S to) (sym listed) there)) so_far)
-
-pub loop-step-preserved-in-Open : goal.loop-step-preserved-in-Open
-loop-step-preserved-in-Open c =
-    let so_far = rw c.in-Enter.is at (rw c.in-Some.ensures.items at c.loop-step.invariant) in
-    skipped c.args.targets.now.items c.loop-step.marks.items c.pop.new.self.items c.in-Enter.number c.loop-step.order.items
-    (λ within. inr (mark_read c.loop-step.marks.items c.in-Enter.number c.index.result.now
-    (omega (arith, c.if-number-len.true, c.len-in-Some.ensures)) c.index.ensures ∙ c.in-Open.is)) so_far
 
 pub loop-step-preserved-in-Done : goal.loop-step-preserved-in-Done
 loop-step-preserved-in-Done c =
     let so_far = rw c.in-Enter.is at (rw c.in-Some.ensures.items at c.loop-step.invariant) in
-    skipped c.args.targets.now.items c.loop-step.marks.items c.pop.new.self.items c.in-Enter.number c.loop-step.order.items
-    (λ within. inl ((so_far.done c.in-Enter.number within).1
+    skipped c.args.targets.now.items c.loop-step.marks.items c.pop.new.self.items c.in-Enter.number c.loop-step.order.items c.loop-step.on_cycle
+    (λ within. (so_far.done c.in-Enter.number within).1
     (mark_read c.loop-step.marks.items c.in-Enter.number c.index.result.now
-    (omega (arith, c.if-number-len.true, c.len-in-Some.ensures)) c.index.ensures ∙ c.in-Done.is))) so_far
+    (omega (arith, c.if-number-len.true, c.len-in-Some.ensures)) c.index.ensures ∙ c.in-Done.is)) so_far
 
 pub loop-step-preserved : goal.loop-step-preserved
 loop-step-preserved c =
     let so_far = rw c.in-Enter.is at (rw c.in-Some.ensures.items at c.loop-step.invariant) in
-    skipped c.args.targets.now.items c.loop-step.marks.items c.pop.new.self.items c.in-Enter.number c.loop-step.order.items
+    skipped c.args.targets.now.items c.loop-step.marks.items c.pop.new.self.items c.in-Enter.number c.loop-step.order.items c.loop-step.on_cycle
     (λ within. absurd (omega (arith, within, c.if-number-len.false, c.len-in-Some.ensures, so_far.len))) so_far
 
 pub returns : goal.returns
 returns c =
-    whole c.args.targets.now.items c.loop-step.marks.items c.loop-step.order.items
+    whole c.args.targets.now.items c.loop-step.marks.items (record { order = c.loop-step.order; on_cycle = c.loop-step.on_cycle })
     (rw (empty_list c.loop-step.steps.items (omega (arith, c.in_default.ensures.cases.0))) at c.loop-step.invariant)

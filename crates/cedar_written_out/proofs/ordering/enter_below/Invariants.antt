@@ -1,9 +1,0 @@
-use Rattle.std.proofs.Common.{ℕ, ◌<◌, Contains}
-use Rattle.cedar_written_out.proofs.ordering.enter_below.Given as goal
-use Rattle.cedar_written_out.specs.declared.ordering.Step.TheVariants.{Enter, Leave}
-
-abbrev pub invariant-loop-number : goal.invariant-loop-number
-invariant-loop-number l = record {
-  each : (number : ℕ) → number < l.number → Contains l.steps.items (Enter number);
-  only : (number : ℕ) → ¬ Contains l.steps.items (Leave number);
-}
