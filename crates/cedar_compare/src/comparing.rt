@@ -65,37 +65,43 @@ fn check(
     }
 }
 
-/// What the new of two versions takes away, where these are the entities of the actions of each.
+/// A version of a schema, with the entities of its actions.
+#[derive(Clone, Copy, Drop)]
+struct Side<'a> {
+    schema: &'a ValidatorSchema,
+    actions: &'a Entities,
+}
+
+/// What the new of two versions takes away.
 fn lost<'a>(
     alloc: Global,
-    old: &'a ValidatorSchema,
-    new: &'a ValidatorSchema,
-    old_actions: &'a Entities,
-    new_actions: &'a Entities,
+    old: Side<'a>,
+    new: Side<'a>,
     extensions: &'a Extensions,
     samples: &'a [Value],
 ) -> M<Vec<Difference>>
-    requires old { IsComparable extensions.now (value_trees samples.now) (schema_of old.now) }
-    requires old_actions { AreActionEntities (schema_with (schema_of old.now).entity_types
-        (action_entries old.now)
-        (map plain_action_entity (entities_of old_actions.now))) }
-    requires new_actions { AreActionEntities (schema_with (schema_of new.now).entity_types
-        (action_entries new.now)
-        (map plain_action_entity (entities_of new_actions.now))) }
-    ensures losses { IfOk result (λ lost. AreLosses extensions.now (schema_of old.now)
-        (schema_of new.now) (map plain_difference lost.items)) }
+    requires old { IsComparable extensions.now (value_trees samples.now)
+        (schema_of old.schema.now) }
+    requires old_actions { AreActionEntities (schema_with (schema_of old.schema.now).entity_types
+        (action_entries old.schema.now)
+        (map plain_action_entity (entities_of old.actions.now))) }
+    requires new_actions { AreActionEntities (schema_with (schema_of new.schema.now).entity_types
+        (action_entries new.schema.now)
+        (map plain_action_entity (entities_of new.actions.now))) }
+    ensures losses { IfOk result (λ lost. AreLosses extensions.now (schema_of old.entry.schema.now)
+        (schema_of new.entry.schema.now) (map plain_difference lost.items)) }
     ensures kept { IfOk result (λ lost. (lost.items ≡ [])
-        → Keeps extensions.now (schema_of old.now) (schema_of new.now)) }
+        → Keeps extensions.now (schema_of old.entry.schema.now) (schema_of new.entry.schema.now)) }
 {
     let versions = Versions {
         alloc,
-        old,
-        new,
-        new_actions,
+        old: old.schema,
+        new: new.schema,
+        new_actions: new.actions,
         extensions,
         samples,
     };
-    losses(&versions, old_actions)
+    losses(&versions, old.actions)
 }
 
 /// What a new version of a schema takes away and what it adds.
@@ -136,24 +142,16 @@ pub fn compare(
     check(alloc, Version::New, new, extensions, samples)?;
     let old_actions = old.action_entities(alloc, extensions)?;
     let new_actions = new.action_entities(alloc, extensions)?;
+    let old = Side {
+        schema: old,
+        actions: &old_actions,
+    };
+    let new = Side {
+        schema: new,
+        actions: &new_actions,
+    };
     Ok(Comparison {
-        lost: lost(
-            alloc,
-            old,
-            new,
-            &old_actions,
-            &new_actions,
-            extensions,
-            samples,
-        )?,
-        gained: lost(
-            alloc,
-            new,
-            old,
-            &new_actions,
-            &old_actions,
-            extensions,
-            samples,
-        )?,
+        lost: lost(alloc, old, new, extensions, samples)?,
+        gained: lost(alloc, new, old, extensions, samples)?,
     })
 }
