@@ -4,11 +4,11 @@ ghost use Rattle.std.specs.Prelude.{Contains, IfErr, IfOk, OnOk, map};
 ghost use Rattle.cedar_elaboration.specs.Words.{AreSound, Chain, ElaboratesTo, Expr, HoldsElaborated, Included, IsCommonFault, IsElaborationOrder, NamesItems, PlainName, RefersToCommon, SameItems, Twice, Ty, defined_over, elaborated_types, extension_types, fault_of, held_names, item_names, written_common};
 
 use crate::elaborating::elaborate;
-use crate::indices::CommonType;
 use crate::ordering::elaboration_order;
 use crate::shared_types::SharedTypes;
 use crate::type_scope::TypeScope;
 use cedar_ast::{Extensions, InternalName, put};
+use cedar_name_resolution::DeclaredCommonType;
 use cedar_name_resolution::defs::{AllDefs, WrittenName};
 use cedar_schema_semantics::SchemaError;
 use cedar_types::Type;
@@ -18,7 +18,7 @@ use std::collections::BTreeMap;
 /// The common types elaborated in an order in which each comes after those that it refers to.
 fn elaborate_in_order<N: WrittenName>(
     alloc: Global,
-    declared: &[CommonType<N>],
+    declared: &[DeclaredCommonType<N>],
     order: &[usize],
     defs: &AllDefs,
     extensions: &Extensions,
@@ -67,7 +67,7 @@ fn elaborate_in_order<N: WrittenName>(
 /// reserved, or memory runs out.
 pub fn common_types<N: WrittenName>(
     alloc: Global,
-    declared: &[CommonType<N>],
+    declared: &[DeclaredCommonType<N>],
     defs: &AllDefs,
     extensions: &Extensions,
     shared: &SharedTypes,

@@ -4,9 +4,9 @@ ghost use Rattle.std.specs.Prelude.{◌≡◌, ◌⊎◌, IfErr, IfOk, OnOk};
 ghost use Rattle.cedar_elaboration.specs.Words.{AreElaborated, AreTypesOf, Bag, CommonTypesAreSound, IsFault, elaborated_types, fault_of, held_names, out_of_memory, written_common};
 
 use crate::common::common_types;
-use crate::indices::CommonType;
 use crate::shared_types::SharedTypes;
 use cedar_ast::{Extensions, InternalName};
+use cedar_name_resolution::DeclaredCommonType;
 use cedar_name_resolution::defs::{AllDefs, WrittenName};
 use cedar_schema_semantics::SchemaError;
 use cedar_types::Type;
@@ -22,8 +22,8 @@ use std::collections::BTreeMap;
 /// type isn't known; or where memory runs out.
 pub fn defined_common_types<N: WrittenName + Drop>(
     alloc: Global,
-    declared: Vec<CommonType<N>>,
-    built_in: Vec<CommonType<N>>,
+    declared: Vec<DeclaredCommonType<N>>,
+    built_in: Vec<DeclaredCommonType<N>>,
     defs: &AllDefs,
     extensions: &Extensions,
     shared: &SharedTypes,

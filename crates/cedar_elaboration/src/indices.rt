@@ -4,16 +4,11 @@ ghost use Rattle.std.specs.Prelude.{◌≡◌, ◌⊎◌, IfErr, IfOk, OnOk};
 ghost use Rattle.cedar_elaboration.specs.Words.{AreIndices, PlainName, Twice, duplicate_common_type, fault_of, indexed_names, item_names, out_of_memory, written_common};
 
 use cedar_ast::{InternalName, put};
-use cedar_name_resolution::Written;
+use cedar_name_resolution::DeclaredCommonType;
 use cedar_name_resolution::defs::WrittenName;
-use cedar_schema_ast::json_schema::Type;
 use cedar_schema_semantics::SchemaError;
 use std::alloc::Global;
 use std::collections::BTreeMap;
-
-/// A common type that is declared: its full name, and its type with the namespace that the names
-/// in it are written in.
-pub type CommonType<N> = (InternalName, Written<Type<N>>);
 
 /// The indices of common types, each under the full name.
 pub type Indices = BTreeMap<InternalName, usize>;
@@ -21,7 +16,7 @@ pub type Indices = BTreeMap<InternalName, usize>;
 /// The index of each common type. A name that stands twice is refused.
 pub fn name_indices<N: WrittenName>(
     alloc: Global,
-    declared: &[CommonType<N>],
+    declared: &[DeclaredCommonType<N>],
 ) -> Result<Indices, SchemaError>
     ensures indices { IfOk result (λ indices.
         AreIndices (item_names (written_common N N.refer declared.now)) (indexed_names indices)) }

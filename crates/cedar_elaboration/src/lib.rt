@@ -10,7 +10,7 @@
 pub use common::common_types;
 pub use defined::defined_common_types;
 pub use elaborating::{elaborate, undefined_type};
-pub use indices::{CommonType, Indices, name_indices};
+pub use indices::{Indices, name_indices};
 pub use ordering::all_targets;
 pub use shared_types::SharedTypes;
 pub use type_scope::{TypeScope, may_name_common};

@@ -3,10 +3,11 @@
 ghost use Rattle.std.specs.Prelude.{[], IfErr, IfOk, OnOk};
 ghost use Rattle.cedar_elaboration.specs.Words.{AddsIndices, HasNoCycle, HoldsPairwise, IsElaborationOrder, IsOrderFault, PlainName, Refers, Twice, fault_of, held_names, indexed_names, item_names, written_common};
 
-use crate::indices::{CommonType, Indices, name_indices};
+use crate::indices::{Indices, name_indices};
 use crate::referring::{IndexScope, referred_indices};
 use cedar_ast::M;
 use cedar_graph::{Ordered, topo_sort};
+use cedar_name_resolution::DeclaredCommonType;
 use cedar_name_resolution::defs::{AllDefs, WrittenName};
 use cedar_schema_semantics::SchemaError;
 use std::alloc::Global;
@@ -14,7 +15,7 @@ use std::alloc::Global;
 /// For each common type the indices of those that it refers to.
 pub fn all_targets<N: WrittenName>(
     alloc: Global,
-    declared: &[CommonType<N>],
+    declared: &[DeclaredCommonType<N>],
     indices: &Indices,
     defs: &AllDefs,
 ) -> M<Vec<Vec<usize>>>
@@ -39,7 +40,7 @@ pub fn all_targets<N: WrittenName>(
 /// that stands twice is refused, and so is one that is on a cycle.
 pub(crate) fn elaboration_order<N: WrittenName>(
     alloc: Global,
-    declared: &[CommonType<N>],
+    declared: &[DeclaredCommonType<N>],
     defs: &AllDefs,
 ) -> Result<Vec<usize>, SchemaError>
     ensures order { IfOk result (λ order.

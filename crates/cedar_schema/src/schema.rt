@@ -28,8 +28,7 @@ pub use cedar_schema_semantics::{ContextOrShape, SchemaError, UnsupportedFeature
 pub use cedar_schema_writer::WriteBackFault;
 use cedar_table::Table;
 use cedar_validation::{
-    Validated, actions_by_uid, copied_actions, copied_types, types_by_name, validate,
-    validate_copies,
+    Parts, actions_by_uid, copied_actions, copied_types, types_by_name, validate, validate_copies,
 };
 use std::alloc::Global;
 use std::collections::BTreeMap;
@@ -411,7 +410,7 @@ impl ValidatorSchema {
             AreKeysLocated (schema_entries schema) (action_entries schema)) }
     {
         let ValidatorSchema { content, located } = self;
-        let Validated {
+        let Parts {
             entity_types,
             actions,
         } = validated(alloc, content, extensions)?;
@@ -483,7 +482,7 @@ fn validated(
     alloc: Global,
     content: Shared<Content>,
     extensions: &Extensions,
-) -> Result<Validated, SchemaError>
+) -> Result<Parts, SchemaError>
     ensures fault { IfErr result (λ error.
         (entities : List ActionEntity) → (fault_of error ≡ out_of_memory)
         ⊎ IsSchemaFault extensions.now

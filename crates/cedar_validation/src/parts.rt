@@ -5,16 +5,16 @@ use cedar_schema_elements::{ValidatorActionId, ValidatorEntityType};
 use cedar_table::Table;
 
 /// Entity types, each under its name.
-pub(crate) type Types = Table<EntityType, ValidatorEntityType>;
+pub type Types = Table<EntityType, ValidatorEntityType>;
 
 /// Actions, each under its uid.
-pub(crate) type Actions = Table<EntityUID, ValidatorActionId>;
+pub type Actions = Table<EntityUID, ValidatorActionId>;
 
 /// The entity types and the actions of a schema.
 #[derive(Drop)]
-pub(crate) struct Parts {
+pub struct Parts {
     /// The entity types, each under its name.
-    pub(crate) entity_types: Types,
+    pub entity_types: Types,
     /// The actions, each under its uid.
-    pub(crate) actions: Actions,
+    pub actions: Actions,
 }

@@ -21,15 +21,6 @@ use cedar_schema_semantics::SchemaError;
 use cedar_table::Table;
 use std::alloc::Global;
 
-/// The parts of a schema that is valid, with all its descendants.
-#[derive(Drop)]
-pub struct Validated {
-    /// The entity types, each under its name.
-    pub entity_types: Table<EntityType, ValidatorEntityType>,
-    /// The actions, each under its uid.
-    pub actions: Table<EntityUID, ValidatorActionId>,
-}
-
 /// Refuses names that may not stand, or not beside one another.
 fn check_names(alloc: Global, parts: &Parts) -> Result<(), SchemaError>
     ensures sound { OnOk result (AreNamesSound (plain_parts parts.now)) }
@@ -90,7 +81,7 @@ pub fn validate(
     entity_types: Table<EntityType, ValidatorEntityType>,
     actions: Table<EntityUID, ValidatorActionId>,
     extensions: &Extensions,
-) -> Result<Validated, SchemaError>
+) -> Result<Parts, SchemaError>
     ensures fault { IfErr result (λ error.
         (entities : List ActionEntity) → (fault_of error ≡ out_of_memory)
         ⊎ IsSchemaFault extensions.now (plain_schema entity_types.entries actions.entries entities)
@@ -112,10 +103,7 @@ pub fn validate(
     };
     check_parts(alloc, &parts, extensions)?;
     parts.actions.keys_ascend();
-    Ok(Validated {
-        entity_types: parts.entity_types,
-        actions: parts.actions,
-    })
+    Ok(parts)
 }
 
 /// The same of entity types and actions that others hold too, of which copies are checked.
@@ -124,7 +112,7 @@ pub fn validate_copies(
     entity_types: &Table<EntityType, ValidatorEntityType>,
     actions: &Table<EntityUID, ValidatorActionId>,
     extensions: &Extensions,
-) -> Result<Validated, SchemaError>
+) -> Result<Parts, SchemaError>
     ensures fault { IfErr result (λ error.
         (entities : List ActionEntity) → (fault_of error ≡ out_of_memory)
         ⊎ IsSchemaFault extensions.now
