@@ -2,7 +2,7 @@
 
 use crate::fragments::declarations::fragments_of;
 use crate::fragments::refusals::refusal_text;
-use cedar_name_resolution::defs::{AllDefs, NameLists};
+use cedar_name_resolution::defs::{AllDefs, DeclaresNames, NameLists};
 use cedar_schema_semantics::SchemaError;
 use shorthand::checked::{holds, same};
 use shorthand::names::internal_name;
@@ -27,17 +27,27 @@ fn listed(alloc: Global, texts: &[&str]) -> Result<AllDefs, Fail> {
     Ok(name_lists.into_defs()?)
 }
 
+/// The same where each fragment lists its own names.
+fn listed_by_fragments(alloc: Global, texts: &[&str]) -> Result<AllDefs, Fail> {
+    let mut name_lists = NameLists::none(alloc);
+    for fragment in fragments_of(alloc, texts)? {
+        fragment.list_names(&mut name_lists)?;
+    }
+    Ok(name_lists.into_defs()?)
+}
+
 #[test]
 fn names_are_listed_fragment_by_fragment(rt: HostRuntime) -> Result<(), Fail> {
     let alloc = rt.alloc();
     for &(texts, _, name) in SHADOWED {
         let expected = defined(alloc, texts, &[])?;
+        let expected = format!(in alloc; "{expected:?}")?;
         let listed = listed(alloc, texts)?;
-        same(
-            name,
-            format!(in alloc; "{listed:?}")?.as_str(),
-            format!(in alloc; "{expected:?}")?.as_str(),
-        )?;
+        let listed = format!(in alloc; "{listed:?}")?;
+        same(name, listed.as_str(), expected.as_str())?;
+        let by_fragments = listed_by_fragments(alloc, texts)?;
+        let by_fragments = format!(in alloc; "{by_fragments:?}")?;
+        same(name, by_fragments.as_str(), expected.as_str())?;
     }
     Ok(())
 }
