@@ -1,6 +1,6 @@
 //! The hierarchies of a schema as a graph in Graphviz DOT.
 
-use crate::hierarchy::{Hierarchy, actions, entity_types, text_of};
+use crate::hierarchy::{Edge, Hierarchy, actions, entity_types, text_of};
 use crate::text::Text;
 use cedar_ast::{M, Memory};
 use cedar_schema::{RequestTypes, ValidatorActionId, ValidatorSchema};
@@ -43,9 +43,9 @@ fn push_nodes(text: &mut Text, hierarchy: &Hierarchy, shape: &str) {
 }
 
 /// Adds edges, each from its lower end.
-fn push_edges(text: &mut Text, edges: &[(&str, &str)]) {
-    for (upper, lower) in edges {
-        push_edge(text, lower, upper, "");
+fn push_edges(text: &mut Text, edges: &[Edge<'_>]) {
+    for edge in edges {
+        push_edge(text, edge.lower, edge.upper, "");
     }
 }
 

@@ -46,13 +46,29 @@ fn weight_of(name: &str, below: &BTreeSet<String>) -> usize {
     }
 }
 
+/// A name with its weight. The lighter comes first.
+#[derive(Clone, Copy, PartialEq, Eq, PartialOrd, Ord, Drop)]
+struct Weighed<'a> {
+    weight: usize,
+    name: &'a str,
+}
+
+/// A name that stands right above another. They are in the order of the upper names.
+#[derive(Clone, Copy, PartialEq, Eq, PartialOrd, Ord, Drop)]
+pub(crate) struct Edge<'a> {
+    /// The one above.
+    pub(crate) upper: &'a str,
+    /// The one below.
+    pub(crate) lower: &'a str,
+}
+
 /// A name, as far as those above it were gone through, the lightest first.
 #[derive(Drop)]
 struct Node<'a> {
     /// The weight of the name.
     weight: usize,
-    /// Those right above it, each with its weight.
-    above: Vec<(usize, &'a str)>,
+    /// Those right above it.
+    above: Vec<Weighed<'a>>,
 }
 
 impl Node<'_> {
@@ -60,14 +76,14 @@ impl Node<'_> {
     /// these below it.
     fn is_right_below(&self, upper: usize, below: &BTreeSet<String>) -> bool
         ensures { OnFalse result (Any (λ middle.
-            (self.now.weight < middle.0) × (middle.0 < upper)
-            × IsTrue (contains_text below.now middle.1.now)) self.now.above.items) }
+            (self.now.weight < middle.weight) × (middle.weight < upper)
+            × IsTrue (contains_text below.now middle.name.now)) self.now.above.items) }
     {
-        for &(weight, middle) in &self.above {
+        for &Weighed { weight, name } in &self.above {
             if weight >= upper {
                 return true;
             }
-            if weight > self.weight && below.contains(middle) {
+            if weight > self.weight && below.contains(name) {
                 return false;
             }
         }
@@ -81,50 +97,51 @@ impl Node<'_> {
 struct Edges<'a> {
     /// The names.
     nodes: BTreeMap<&'a str, Node<'a>>,
-    /// The upper and the lower name of each edge.
-    found: Vec<(&'a str, &'a str)>,
+    /// The edges that were found.
+    found: Vec<Edge<'a>>,
     /// Whether memory ran out.
     is_refused: bool,
 }
 
 impl<'a> Edges<'a> {
     /// No edges yet between some names.
-    fn new(alloc: Global, names: &[(usize, &'a str)]) -> Self {
+    fn new(alloc: Global, names: &[Weighed<'a>]) -> Self {
         let mut edges = Edges {
             nodes: BTreeMap::new(alloc),
             found: Vec::new(alloc),
             is_refused: false,
         };
-        for &(weight, name) in names {
-            edges.push_node(alloc, weight, name);
+        for name in names {
+            edges.push_node(alloc, *name);
         }
         edges
     }
 
     /// Adds a name.
-    fn push_node(&mut self, alloc: Global, weight: usize, name: &'a str) {
-        let above = Vec::new(alloc);
-        self.is_refused |= self.nodes.insert(name, Node { weight, above }).is_err();
+    fn push_node(&mut self, alloc: Global, it: Weighed<'a>) {
+        let node = Node {
+            weight: it.weight,
+            above: Vec::new(alloc),
+        };
+        self.is_refused |= self.nodes.insert(it.name, node).is_err();
     }
 
     /// Adds an edge between two names, if no two others make it.
-    fn push_edge(
-        &mut self,
-        weight: usize,
-        upper: &'a str,
-        lower: &'a str,
-        below: &BTreeSet<String>,
-    ) {
+    fn push_edge(&mut self, upper: Weighed<'a>, lower: &'a str, below: &BTreeSet<String>) {
         if let Some(node) = self.nodes.get_mut(lower)
-            && node.is_right_below(weight, below)
+            && node.is_right_below(upper.weight, below)
         {
-            self.is_refused |= node.above.push((weight, upper)).is_err();
-            self.is_refused |= self.found.push((upper, lower)).is_err();
+            let edge = Edge {
+                upper: upper.name,
+                lower,
+            };
+            self.is_refused |= node.above.push(upper).is_err();
+            self.is_refused |= self.found.push(edge).is_err();
         }
     }
 
-    /// The upper and the lower name of each edge, in order, where memory sufficed for it.
-    fn whole(mut self) -> M<Vec<(&'a str, &'a str)>> {
+    /// The edges, in order, where memory sufficed for them.
+    fn whole(mut self) -> M<Vec<Edge<'a>>> {
         if self.is_refused || self.found.sort().is_err() {
             return Err(Memory);
         }
@@ -132,9 +149,9 @@ impl<'a> Edges<'a> {
     }
 
     /// Goes on by a name: adds an edge to it from each name that stands right below it.
-    fn push_edges(&mut self, weight: usize, upper: &'a str, below: &'a BTreeSet<String>) {
+    fn push_edges(&mut self, upper: Weighed<'a>, below: &'a BTreeSet<String>) {
         for lower in below {
-            self.push_edge(weight, upper, lower.as_str(), below);
+            self.push_edge(upper, lower.as_str(), below);
         }
     }
 }
@@ -165,12 +182,13 @@ impl Hierarchy {
     }
 
     /// The names, each with its weight, the lightest first.
-    fn by_weight(&self, alloc: Global) -> M<Vec<(usize, &str)>> {
+    fn by_weight(&self, alloc: Global) -> M<Vec<Weighed<'_>>> {
         let mut names = Vec::new(alloc);
         let mut is_refused = false;
         for (name, below) in &self.below {
             let name = name.as_str();
-            is_refused |= names.push((weight_of(name, below), name)).is_err();
+            let weight = weight_of(name, below);
+            is_refused |= names.push(Weighed { weight, name }).is_err();
         }
         if is_refused || names.sort().is_err() {
             return Err(Memory);
@@ -179,19 +197,18 @@ impl Hierarchy {
     }
 
     /// The edges between all names, which are given the lightest first.
-    fn between<'a>(&'a self, alloc: Global, names: &[(usize, &'a str)]) -> Edges<'a> {
+    fn between<'a>(&'a self, alloc: Global, names: &[Weighed<'a>]) -> Edges<'a> {
         let mut edges = Edges::new(alloc, names);
-        for &(weight, name) in names {
-            if let Some(below) = self.below.get(name) {
-                edges.push_edges(weight, name, below);
+        for name in names {
+            if let Some(below) = self.below.get(name.name) {
+                edges.push_edges(*name, below);
             }
         }
         edges
     }
 
-    /// The upper and the lower name of each edge that no two others make, in order. On a cycle each
-    /// name has an edge to each.
-    pub(crate) fn edges(&self, alloc: Global) -> M<Vec<(&str, &str)>> {
+    /// Each edge that no two others make, in order. On a cycle each name has an edge to each.
+    pub(crate) fn edges(&self, alloc: Global) -> M<Vec<Edge<'_>>> {
         if self.is_refused {
             return Err(Memory);
         }
