@@ -45,6 +45,23 @@ fn copies_of_ids_are_equal(rt: HostRuntime) -> Result<(), Fail> {
     holds(ids.clone()? == ids, "x and y")
 }
 
+/// The texts of ids, one after another.
+fn text_of_ids(alloc: Global, ids: &NonEmpty<Eid>) -> M<String> {
+    let mut text = String::new(alloc);
+    for id in ids.iter() {
+        text.push_str(id.as_str())?;
+    }
+    Ok(text)
+}
+
+#[test]
+fn lists_that_are_not_empty_are_gone_over(rt: HostRuntime) -> Result<(), Fail> {
+    let alloc = rt.alloc();
+    let ids = ids(alloc)?;
+    same("x and y", text_of_ids(alloc, &ids)?.as_str(), "xy")?;
+    holds(ids.len() == 2, "x and y")
+}
+
 /// Names at places.
 const NAMES: &[&str] = &["A@1", "N::M::A@1"];
 
