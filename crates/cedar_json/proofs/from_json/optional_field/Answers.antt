@@ -1,7 +1,7 @@
 use Rattle.std.proofs.Common.{None, Some, ap, option_map, sym, ◌∙◌}
 use Rattle.cedar_json.proofs.ActionLemmas.{unless_null-held}
 use Rattle.cedar_json.proofs.TypeLemmas.{described_too}
-use Rattle.cedar_json.proofs.described.optional_field.Goals as goal
+use Rattle.cedar_json.proofs.from_json.optional_field.Goals as goal
 use Rattle.cedar_json.specs.Words.{field_or}
 use Rattle.json.specs.Find.{get}
 use Rattle.json.specs.Value.{value_view}

@@ -2,7 +2,7 @@ use Rattle.std.proofs.Common.{◌≡◌, ◌++◌, [], ◌∷◌, Some}
 use Rattle.std.proofs.lemmas.Result.{err_from_is_err_and}
 use Rattle.cedar_json.proofs.ListLemmas.{all_made, get_item-is, item_more, items_from_index, no_item}
 use Rattle.cedar_json.proofs.ReadLemmas.{read_inside, refused_inside}
-use Rattle.cedar_json.proofs.described.read_items.Goals as goal
+use Rattle.cedar_json.proofs.from_json.read_items.Goals as goal
 use Rattle.json.specs.Find.{at}
 use Rattle.json.specs.Json.{array}
 use Rattle.json.specs.Value.{items_view, value_view}

@@ -1,5 +1,5 @@
 use Rattle.std.proofs.Common.{◌≡◌, ◌++◌, drop, map, option_map}
-use Rattle.cedar_json.proofs.described.read_items.Given as goal
+use Rattle.cedar_json.proofs.from_json.read_items.Given as goal
 use Rattle.cedar_json.specs.Words.{all_of}
 use Rattle.json.specs.Value.{items_view}
 

@@ -5,7 +5,7 @@ use Rattle.std.specs.Iterator.Adapters.{enumerate_count, enumerate_source}
 use Rattle.std.specs.Vec.Iter.{into_iter_items}
 use Rattle.cedar_json.proofs.DefinitionLemmas.{all_taken, entry_more, left_after, left_here, no_entry, no_key, none_left}
 use Rattle.cedar_json.proofs.FieldLemmas.{nth_member-left}
-use Rattle.cedar_json.proofs.taken.take_entries.Goals as goal
+use Rattle.cedar_json.proofs.from_json_owned.take_entries.Goals as goal
 use Rattle.cedar_json.specs.Words.{Text, nth_member}
 use Rattle.json.specs.Json.{object}
 use Rattle.json.specs.Value.{members_view}

@@ -1,7 +1,7 @@
 use Rattle.std.proofs.Common.{◌≡◌, [], drop, map}
 use Rattle.std.specs.Iterator.Adapters.{enumerate_count, enumerate_source}
 use Rattle.std.specs.Vec.Iter.{into_iter_items}
-use Rattle.cedar_json.proofs.taken.take_entries.Given as goal
+use Rattle.cedar_json.proofs.from_json_owned.take_entries.Given as goal
 use Rattle.cedar_json.specs.Words.{entries_of}
 use Rattle.json.specs.Value.{members_view}
 

@@ -1,6 +1,6 @@
 use Rattle.std.proofs.Common.{Some, ap, inl, inr, option_and_then}
 use Rattle.std.proofs.lemmas.Result.{err_from_is_err_and}
-use Rattle.cedar_json.proofs.taken.take_entry.Goals as goal
+use Rattle.cedar_json.proofs.from_json_owned.take_entry.Goals as goal
 use Rattle.json.specs.Value.{value_view}
 
 -- the refused key is that of the member at the index

@@ -4,7 +4,7 @@ use Rattle.std.proofs.lemmas.List.{set-get_or}
 use Rattle.std.proofs.lemmas.Slice.Eq.{bytes_eq-Decides}
 use Rattle.std.specs.Str.{bytes_eq}
 use Rattle.cedar_json.proofs.TakenLemmas.{found_by_others, held_more, left_more}
-use Rattle.cedar_json.proofs.taken.take_member.Goals as goal
+use Rattle.cedar_json.proofs.from_json_owned.take_member.Goals as goal
 use Rattle.cedar_json.specs.Words.{Text}
 use Rattle.json.specs.Find.{get_member}
 use Rattle.json.specs.Value.{members_view, value_view}

@@ -1,6 +1,6 @@
 use Rattle.std.proofs.Common.{◌≡◌, false, drop, take, option_map}
 use Rattle.std.specs.Str.{bytes_eq}
-use Rattle.cedar_json.proofs.taken.take_member.Given as goal
+use Rattle.cedar_json.proofs.from_json_owned.take_member.Given as goal
 use Rattle.cedar_json.specs.Words.{Text}
 use Rattle.json.specs.Find.{get_member}
 use Rattle.json.specs.Value.{members_view, value_view}
