@@ -2,7 +2,7 @@
 use Rattle.std.proofs.Common.{◌≡◌, ◌≢◌, ◌⊎◌, List, [], ◌∷◌, sym, ◌∙◌, ap, refl, inl, inr, Contains, Option, arith, subst}
 use Rattle.std.proofs.lemmas.Bool.{false≢true}
 use Rattle.std.specs.List.{AllByRecursion}
-use Rattle.cedar_ast.proofs.Basics.{Contains-image}
+use Rattle.cedar_ast.proofs.Basics.{AllByRecursion-at, Contains-image}
 use Rattle.cedar_ast.proofs.Lists.{Contains-preimage}
 use Rattle.cedar_fragments.specs.Words.{ActionBody, Bag, CommonType, CommonTypeId, Declaration, EntityBody, Fault, GivesNoCause, HasAttributes, HasNoDefinitionFault, Included, IsActionType, IsDefinitionFault, IsReserved, IsSound, NamesNoAttributes, PlainName, PlainUid, RawName, Text, action, action_attributes, action_entity_type, action_uids, action_word, common_declarations, declared_actions, declared_entities, declared_name, declared_uid, entity_type, name_within, out_of_memory, path_within, raw_reference, reserved_name, reserved_word}
 use Rattle.cedar_schema_semantics.proofs.DeclarationLemmas.{entity_declaration, action_declaration, declares_entity, declares_action}
