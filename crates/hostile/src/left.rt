@@ -5,9 +5,13 @@ use crate::names::{entity_type, entity_types, internal_names};
 use crate::stop::{Stop, refused_where};
 use cedar_schema::below::{EntityType, InternalName, M};
 use cedar_schema::defs::AllDefs;
+use cedar_schema::namespace::ValidatorSchemaFragment;
 use cedar_schema::{TCNode, TcError, ValidatorEntityType, compute_tc};
 use std::alloc::Global;
 use std::collections::HashMap;
+
+/// A fragment over full names.
+type Fragment = ValidatorSchemaFragment<InternalName, EntityType>;
 
 /// Entity types by name, as nodes of a graph.
 type Graph = HashMap<EntityType, ValidatorEntityType>;
@@ -143,7 +147,7 @@ fn marked(all_defs: &AllDefs, kind: Kind, names: &[InternalName]) -> Option<usiz
 /// How many names are marked of twenty that are, one after another.
 pub(crate) fn names_marked(alloc: Global, kind: Kind) -> Result<String, Stop> {
     let names = internal_names(alloc, 10..30)?;
-    let mut all_defs = AllDefs::new::<InternalName, EntityType>(alloc, &[])?;
+    let mut all_defs = AllDefs::new::<Fragment>(alloc, &[])?;
     for (count, name) in names.iter().enumerate() {
         if mark(&mut all_defs, kind, name.clone()?).is_err() {
             return Err(refused_where(marked(&all_defs, kind, &names) == Some(count)));
