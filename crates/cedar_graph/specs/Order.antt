@@ -25,8 +25,8 @@ IsOrdered targets (Order order) =
     IsOrder targets order.items × ((number : ℕ) → ¬ Chain (LeadsTo targets) number number)
 IsOrdered targets (Cycle number) = Chain (LeadsTo targets) number number
 
--- the order holds just the numbers that have a list, each once and after those that it leads to, but
--- for those that lead back to themselves
+-- the order holds just the numbers that have a list, each once and after those that it leads to,
+-- but for those that lead back to themselves
 pub record IsLowestFirst {Z : Type 0} (targets : List (Vec ℕ Z)) (order : List ℕ) : Type 0 where
   pub each : (number : ℕ) → Contains order number ↔ (number < length targets)
   pub once : AllPairs (λ a b. a ≢ b) order
