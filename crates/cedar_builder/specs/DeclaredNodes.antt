@@ -85,7 +85,8 @@ module _ {K Node : Type 0} (eq : K → K → Bool) (has_edge : Node → K → Bo
   -- no node has edges, and one stands at either end of each edge
   pub record AreReady (edges : List (K × K)) (nodes : List (K × Node)) : Type 0 where
     pub apart : (upper lower : K) → ¬ Leads eq has_edge nodes upper lower
-    pub ancestors : (upper lower : K) → IsEdgeIn eq edges upper lower → IsSome (at_key eq nodes upper)
+    pub ancestors : (upper lower : K) → IsEdgeIn eq edges upper lower
+        → IsSome (at_key eq nodes upper)
     pub lowers : (upper lower : K) → IsEdgeIn eq edges upper lower → IsSome (at_key eq nodes lower)
 
 -- no key is above the other

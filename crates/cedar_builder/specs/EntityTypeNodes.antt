@@ -41,8 +41,10 @@ abbrev pub node_at : List (EntityType × ValidatorEntityType) → EntityType
 node_at nodes key = at_key (entity_type_eq.ghosts).eq nodes key
 
 -- the node at the first key has the second among its descendants
-abbrev pub EntityTypeLeadsTo : List (EntityType × ValidatorEntityType) → EntityType → EntityType → Type 0
-EntityTypeLeadsTo nodes upper lower = Leads (entity_type_eq.ghosts).eq has_descendant nodes upper lower
+abbrev pub EntityTypeLeadsTo : List (EntityType × ValidatorEntityType) → EntityType → EntityType
+    → Type 0
+EntityTypeLeadsTo nodes upper lower =
+    Leads (entity_type_eq.ghosts).eq has_descendant nodes upper lower
 
 -- the one is a parent of the other by some edge
 abbrev pub IsAbove : List (EntityType × EntityType) → EntityType → EntityType → Type 0

@@ -91,7 +91,8 @@ fn check_below(
 
 /// Checks the descendants of each enumerated entity type.
 pub(crate) fn check_descendants(nodes: &Nodes) -> Result<(), SchemaError>
-    ensures sound { OnOk result ((upper lower : Key) → EntityTypeLeadsTo nodes.now.entries upper lower
+    ensures sound { OnOk result ((upper lower : Key)
+        → EntityTypeLeadsTo nodes.now.entries upper lower
         → IsEnumeratedAt (node_at nodes.now.entries upper)
         → ¬ IsExternalAt (node_at nodes.now.entries lower)) }
     ensures fault { IfErr result (λ error. (fault_of error ≡ out_of_memory)

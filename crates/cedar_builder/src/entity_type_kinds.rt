@@ -32,7 +32,8 @@ fn shape_attributes<N: WrittenName>(
     ensures resolved { OnOk result (ResolvesEach scope.now
         (type_expr N (N.refer (namespace_name namespace.entry)) shape.now)) }
     ensures fault { IfErr result (λ error. (fault_of error ≡ out_of_memory)
-        ⊎ (IsElaborationFault scope.now (type_expr N (N.refer (namespace_name namespace.entry)) shape.now)
+        ⊎ (IsElaborationFault scope.now
+        (type_expr N (N.refer (namespace_name namespace.entry)) shape.now)
         (fault_of error)
         ⊎ ((fault_of error ≡ shape_not_record (type_name name.now))
         × ((ty : Ty) × ElaboratesAs scope.now

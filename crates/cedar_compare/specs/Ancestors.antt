@@ -72,7 +72,8 @@ IsActionAncestorSoFar one other IsLeft uid (Some upper) = ListsApart one other u
 abbrev pub AreActionAncestorsSoFar : PlainSchema → PlainSchema → (PlainUid → PlainUid → Type 0)
     → BTreeMap EntityUID EntityUID → Type 0
 AreActionAncestorsSoFar one other IsLeft ancestors = (uid : EntityUID)
-    → IsActionAncestorSoFar one other (IsLeft (uid_of uid)) (uid_of uid) (action_upper_at ancestors uid)
+    → IsActionAncestorSoFar one other (IsLeft (uid_of uid)) (uid_of uid)
+    (action_upper_at ancestors uid)
 
 -- what is found of an action: why its entity is lost, or that the new schema defines it and both
 -- list the same above it

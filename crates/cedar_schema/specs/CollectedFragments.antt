@@ -9,7 +9,8 @@ use Rattle.cedar_schema_ast.specs.declared.json_schema.reference_type.ReferenceT
 
 -- what is taken over of fragments, where it is given what a name refers to in a namespace at a
 -- place of each kind: what a schema shows of them, and what they declare
-pub record AreCollectedFragments (N : Type 0) (refer : Option PlainName → ReferenceType → N → Reference)
+pub record AreCollectedFragments (N : Type 0)
+    (refer : Option PlainName → ReferenceType → N → Reference)
     (fragments : List (ValidatorSchemaFragment N N)) (it : CollectedFragments N) : Type 0 where
   pub located : AreShown N N fragments it.located
   pub gathered : AreCollectedDeclarations N refer fragments it.gathered

@@ -10,8 +10,8 @@ abbrev pub upper_set : {K : Type 0} → (K → K → Ordering) → BTreeMap K (B
 upper_set cmp ancestors lower = get cmp ancestors lower
 
 -- what the name stands for is above the key
-abbrev pub IsAncestor : {K P : Type 0} → (K → K → Ordering) → (K → P) → BTreeMap K (BTreeSet K) → K → P
-    → Type 0
+abbrev pub IsAncestor : {K P : Type 0} → (K → K → Ordering) → (K → P) → BTreeMap K (BTreeSet K)
+    → K → P → Type 0
 IsAncestor cmp name ancestors lower upper =
     IsSomeAnd (upper_set cmp ancestors lower) (λ set. Contains (map name set.keys) upper)
 

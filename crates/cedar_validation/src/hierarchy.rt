@@ -57,7 +57,8 @@ pub(crate) fn check_hierarchy(alloc: Global, parts: &Parts) -> Result<(), Schema
     ensures sound { OnOk result ((lower upper : PlainName)
         → ListsDescendant (plain_parts parts.now) lower upper
         → IsPairSound (plain_parts parts.now) lower upper) }
-    ensures fault { IfErr result (λ error. IsValidationFault (plain_parts parts.now) (fault_of error)) }
+    ensures fault { IfErr result (λ error.
+        IsValidationFault (plain_parts parts.now) (fault_of error)) }
 {
     for (upper, above) in &parts.entity_types {
         check_declared(alloc, parts, above.descendants.iter())?;

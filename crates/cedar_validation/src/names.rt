@@ -12,7 +12,8 @@ use std::alloc::Global;
 pub(crate) fn check_type_names(parts: &Parts) -> Result<(), SchemaError>
     ensures sound { OnOk result ((name : PlainName) → HasEntityType (plain_parts parts.now) name
         → ¬ IsActionType name) }
-    ensures fault { IfErr result (λ error. IsValidationFault (plain_parts parts.now) (fault_of error)) }
+    ensures fault { IfErr result (λ error.
+        IsValidationFault (plain_parts parts.now) (fault_of error)) }
 {
     for name in parts.entity_types.keys() {
         if name.is_action() {
@@ -27,7 +28,8 @@ pub(crate) fn check_type_names(parts: &Parts) -> Result<(), SchemaError>
 pub(crate) fn check_action_types(parts: &Parts) -> Result<(), SchemaError>
     ensures sound { OnOk result ((uid : PlainUid) → HasAction (plain_parts parts.now) uid
         → IsActionType uid.ty) }
-    ensures fault { IfErr result (λ error. IsValidationFault (plain_parts parts.now) (fault_of error)) }
+    ensures fault { IfErr result (λ error.
+        IsValidationFault (plain_parts parts.now) (fault_of error)) }
 {
     for uid in parts.actions.keys() {
         if !uid.is_action() {
@@ -55,7 +57,8 @@ pub(crate) fn check_shadowed_types(alloc: Global, parts: &Parts) -> Result<(), S
     ensures sound { OnOk result ((plain qualified : PlainName)
         → HasEntityType (plain_parts parts.now) plain
         → HasEntityType (plain_parts parts.now) qualified → ¬ ShadowsType plain qualified) }
-    ensures fault { IfErr result (λ error. IsValidationFault (plain_parts parts.now) (fault_of error)) }
+    ensures fault { IfErr result (λ error.
+        IsValidationFault (plain_parts parts.now) (fault_of error)) }
 {
     for name in parts.entity_types.keys() {
         if name.name().is_unqualified() {
@@ -77,7 +80,8 @@ pub(crate) fn check_shadowed_actions(alloc: Global, parts: &Parts) -> Result<(),
         → IsActionType uid.ty)
         → (plain qualified : PlainUid) → HasAction (plain_parts parts.now) plain
         → HasAction (plain_parts parts.now) qualified → ¬ ShadowsAction plain qualified) }
-    ensures fault { IfErr result (λ error. IsValidationFault (plain_parts parts.now) (fault_of error)) }
+    ensures fault { IfErr result (λ error.
+        IsValidationFault (plain_parts parts.now) (fault_of error)) }
 {
     for uid in parts.actions.keys() {
         if uid.entity_type().name().is_unqualified() {

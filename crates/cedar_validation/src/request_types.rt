@@ -97,7 +97,8 @@ pub(crate) fn check_actions(alloc: Global, parts: &Parts) -> Result<(), SchemaEr
     ensures sound { OnOk result ((entry : PlainUid × SchemaAction)
         → Contains (plain_parts parts.now).actions entry
         → ArePlaced (plain_parts parts.now) entry.1) }
-    ensures fault { IfErr result (λ error. IsValidationFault (plain_parts parts.now) (fault_of error)) }
+    ensures fault { IfErr result (λ error.
+        IsValidationFault (plain_parts parts.now) (fault_of error)) }
 {
     for (_uid, action) in &parts.actions {
         check_action(alloc, parts, action)?;

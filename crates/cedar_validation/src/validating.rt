@@ -24,7 +24,8 @@ use std::alloc::Global;
 /// Refuses names that may not stand, or not beside one another.
 fn check_names(alloc: Global, parts: &Parts) -> Result<(), SchemaError>
     ensures sound { OnOk result (AreNamesSound (plain_parts parts.now)) }
-    ensures fault { IfErr result (λ error. IsValidationFault (plain_parts parts.now) (fault_of error)) }
+    ensures fault { IfErr result (λ error.
+        IsValidationFault (plain_parts parts.now) (fault_of error)) }
 {
     check_type_names(parts)?;
     check_action_types(parts)?;
