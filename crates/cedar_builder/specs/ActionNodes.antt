@@ -1,5 +1,5 @@
 -- What the private steps promise of actions as nodes of a graph, which stand under their uids.
-use Rattle.std.specs.HashSet.{contains}
+use Rattle.std.specs.List.{list_any}
 use Rattle.std.specs.Prelude.{◌≡◌, ◌⊎◌, ◌↔◌, Bool, List, [], Option}
 use Rattle.cedar_ast.specs.Words.{Chain, PlainUid, uid_of}
 use Rattle.cedar_ast.specs.contracts.entity_uid.EntityUIDPartialEq.TheImpl as uid_eq
@@ -22,7 +22,7 @@ pub record IsElaboratedAction (scope : TypeScope) (stated : PlainUid) (applies_t
 
 -- whether the one action is among the descendants of the other
 abbrev pub has_descendant : ValidatorActionId → EntityUID → Bool
-has_descendant it lower = contains (uid_eq.ghosts).eq (parts_of it).descendants lower
+has_descendant it lower = list_any ((uid_eq.ghosts).eq lower) (parts_of it).descendants.keys
 
 -- what stands at a key among entries
 abbrev pub node_at : List (EntityUID × ValidatorActionId) → EntityUID → Option ValidatorActionId

@@ -1,6 +1,6 @@
 -- What the private steps promise of entity types as nodes of a graph, which stand under their
 -- names.
-use Rattle.std.specs.HashSet.{contains}
+use Rattle.std.specs.List.{list_any}
 use Rattle.std.specs.Prelude.{◌≡◌, ◌⊎◌, ◌↔◌, Bool, List, [], ◌∷◌, Option, None, Some, IsSome, Contains}
 use Rattle.cedar_ast.specs.Words.{Chain, PlainName, type_name}
 use Rattle.cedar_ast.specs.contracts.entity_type.EntityTypePartialEq.TheImpl as entity_type_eq
@@ -33,7 +33,7 @@ pub record IsElaboratedEntity (scope : TypeScope) (stated : PlainName) (body : E
 
 -- whether the one entity type is among the descendants of the other
 abbrev pub has_descendant : ValidatorEntityType → EntityType → Bool
-has_descendant it lower = contains (entity_type_eq.ghosts).eq it.descendants lower
+has_descendant it lower = list_any ((entity_type_eq.ghosts).eq lower) it.descendants.keys
 
 -- what stands at a key among entries
 abbrev pub node_at : List (EntityType × ValidatorEntityType) → EntityType

@@ -8,7 +8,7 @@ use crate::entity_type_links::{Edge, Nodes};
 use cedar_ast::{EntityType, NonEmpty};
 use cedar_schema_semantics::SchemaError;
 use std::alloc::Global;
-use std::collections::HashSet;
+use std::collections::BTreeSet;
 
 /// Whether an enumerated entity type stands under a name.
 fn is_enumerated_at(nodes: &Nodes, name: &EntityType) -> bool
@@ -72,7 +72,7 @@ pub(crate) fn check_edges(alloc: Global, nodes: &Nodes, edges: &[Edge]) -> Resul
 fn check_below(
     nodes: &Nodes,
     upper: &EntityType,
-    descendants: &HashSet<EntityType>,
+    descendants: &BTreeSet<EntityType>,
 ) -> Result<(), SchemaError>
     ensures sound { OnOk result ((lower : Key) → Contains descendants.now.keys lower
         → ¬ IsExternalAt (node_at nodes.now.entries lower)) }

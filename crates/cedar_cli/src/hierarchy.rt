@@ -8,7 +8,7 @@ use cedar_ast::{M, Memory};
 use cedar_schema::ValidatorSchema;
 use schema_lines::escaped;
 use std::alloc::Global;
-use std::collections::{BTreeMap, BTreeSet, hash_set};
+use std::collections::{BTreeMap, BTreeSet, btree_set};
 use std::fmt::Display;
 
 /// The text of a name, with escapes for what would control a terminal.
@@ -17,7 +17,7 @@ pub(crate) fn text_of<T: Display>(alloc: Global, name: &T) -> M<String> {
 }
 
 /// The texts of some names.
-fn texts<T: Display>(alloc: Global, names: hash_set::Iter<'_, T>) -> M<BTreeSet<String>> {
+fn texts<T: Display>(alloc: Global, names: btree_set::Iter<'_, T>) -> M<BTreeSet<String>> {
     let mut texts = BTreeSet::new(alloc);
     for name in names {
         texts.insert(text_of(alloc, name)?)?;
@@ -166,7 +166,7 @@ impl Hierarchy {
     }
 
     /// Adds a name with those below it.
-    fn push<T: Display>(&mut self, alloc: Global, name: &T, below: hash_set::Iter<'_, T>) {
+    fn push<T: Display>(&mut self, alloc: Global, name: &T, below: btree_set::Iter<'_, T>) {
         match text_of(alloc, name) {
             Ok(name) => self.push_text(name, texts(alloc, below)),
             Err(Memory) => self.is_refused = true,

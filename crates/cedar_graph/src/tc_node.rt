@@ -4,7 +4,7 @@ ghost use Rattle.std.specs.Prelude.{◌≡◌, Bool, ◌||◌, IsTrue, IfOk, OnO
 ghost use Rattle.std.specs.List.{list_any};
 
 use cedar_ast::M;
-use std::collections::hash_set;
+use std::collections::btree_set;
 use std::hash::Hash;
 
 /// A node with edges to keys.
@@ -36,7 +36,7 @@ pub trait TCNode<K: Eq + Hash> {
         ensures alike { is_alike self.old self.new };
 
     /// The keys that the node has an edge to.
-    fn out_edges(&self) -> hash_set::Iter<'_, K>
+    fn out_edges(&self) -> btree_set::Iter<'_, K>
         ensures { (other : K) → list_any (K.eq other) result ≡ has_edge self.now other };
 
     /// Whether the node has an edge to the key.

@@ -7,15 +7,13 @@ use Rattle.cedar_ast.proofs.Names.{entity_type_eq-same}
 use Rattle.cedar_ast.proofs.Uids.{entity_uid_eq-same}
 use Rattle.cedar_ast.specs.contracts.entity_type.EntityTypeEq.TheImpl as entity_type_equal
 use Rattle.cedar_ast.specs.contracts.entity_type.EntityTypePartialEq.TheImpl as entity_type_eq
-use Rattle.cedar_ast.specs.contracts.entity_uid.EntityUIDEq.TheImpl as uid_equal
-use Rattle.cedar_ast.specs.contracts.entity_uid.EntityUIDPartialEq.TheImpl as uid_eq
 use Rattle.cedar_schema_ast.specs.contracts.json_schema.conditional_name.ConditionalNameEq.TheImpl as reference_equal
 use Rattle.cedar_schema_ast.specs.contracts.json_schema.conditional_name.ConditionalNamePartialEq.TheImpl as reference_eq
-use Rattle.cedar_schema_elements.proofs.SetLemmas.{reference-Decides, sets-Decides}
+use Rattle.cedar_schema_elements.proofs.SetLemmas.{ordered_uids-Decides, reference-Decides, sets-Decides}
 use Rattle.cedar_schema_elements.proofs.TypeSetLemmas.{type_sets-Decides}
 use Rattle.cedar_schema_elements.specs.ActionKind.{plain_kind}
 use Rattle.cedar_schema_elements.specs.ValidatorActionId.{parts_of}
-use Rattle.cedar_schema_elements.specs.Words.{ConditionalName, EntityType, SameActionKind, SameItems, ValidatorActionId, ValidatorActionKind, ValidatorApplySpec, action_of, conditional_reference, principal_names, principal_references, resource_names, resource_references, type_name, uid_of}
+use Rattle.cedar_schema_elements.specs.Words.{ConditionalName, EntityType, SameActionKind, SameItems, ValidatorActionId, ValidatorActionKind, ValidatorApplySpec, action_of, conditional_reference, principal_names, principal_references, resource_names, resource_references, type_name}
 use Rattle.cedar_schema_elements.specs.contracts.action_id.ValidatorActionIdPartialEq.TheImpl as action_eq
 use Rattle.cedar_schema_elements.specs.contracts.action_kind.ValidatorActionKindPartialEq.TheImpl as kind_eq
 use Rattle.cedar_schema_elements.specs.declared.action_kind.ValidatorActionKind.TheVariants as variant
@@ -57,4 +55,4 @@ pub actions-Same : (a b : ValidatorActionId) → Decides ((action_eq.ghosts).eq 
 actions-Same a b =
     Decides-like _ (λ all. (all.0, all.1.0, all.1.1)) (λ all. (all.0, (all.1, all.2)))
     (Decides-and _ _ (entity_uid_eq-same (parts_of a).name (parts_of b).name) (Decides-and _ _ (kinds-Decides (parts_of a).kind (parts_of b).kind)
-    (sets-Decides (uid_eq.ghosts).eq uid_of uid_equal.Laws.laws-law entity_uid_eq-same (parts_of a).descendants (parts_of b).descendants)))
+    (ordered_uids-Decides (parts_of a).descendants.keys (parts_of b).descendants.keys (parts_of a).in_order (parts_of b).in_order)))

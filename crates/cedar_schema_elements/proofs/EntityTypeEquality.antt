@@ -6,10 +6,8 @@ use Rattle.std.specs.Cmp.Lexicographic.{pointwise}
 use Rattle.std.specs.Option.{option_eq, option_map}
 use Rattle.cedar_ast.proofs.Names.{entity_type_eq-same}
 use Rattle.cedar_ast.proofs.Texts.{text_eq-Decides}
-use Rattle.cedar_ast.specs.contracts.entity_type.EntityTypeEq.TheImpl as entity_type_equal
-use Rattle.cedar_ast.specs.contracts.entity_type.EntityTypePartialEq.TheImpl as name_eq
-use Rattle.cedar_schema_elements.proofs.SetLemmas.{sets-Decides}
-use Rattle.cedar_schema_elements.specs.Words.{Eid, PlainEntityType, SameItems, StandardValidatorEntityType, «Type», ValidatorEntityType, ValidatorEntityTypeKind, descendant_names, eid_text, entity_type_of, enumerated_kind, kind_fields, kind_openness, kind_tags, plain_kind, plain_standard, standard_kind, ty_of, type_name}
+use Rattle.cedar_schema_elements.proofs.SetLemmas.{ordered_types-Decides}
+use Rattle.cedar_schema_elements.specs.Words.{Eid, PlainEntityType, SameItems, StandardValidatorEntityType, «Type», ValidatorEntityType, ValidatorEntityTypeKind, descendant_names, eid_text, entity_type_of, enumerated_kind, kind_fields, kind_openness, kind_tags, plain_kind, plain_standard, standard_kind, ty_of}
 use Rattle.cedar_schema_elements.specs.contracts.entity_type.ValidatorEntityTypePartialEq.TheImpl as entity_type_eq
 use Rattle.cedar_schema_elements.specs.contracts.entity_type_kind.StandardValidatorEntityTypePartialEq.TheImpl as standard_eq
 use Rattle.cedar_schema_elements.specs.contracts.entity_type_kind.ValidatorEntityTypeKindPartialEq.TheImpl as kind_eq
@@ -56,4 +54,4 @@ pub entity_types-Same : (a b : ValidatorEntityType) → Decides ((entity_type_eq
 entity_types-Same a b =
     Decides-like _ (λ all. ((λ i. record { name = all.0 i; kind = all.1.1 i }), all.1.0))
     (λ same. (ap (λ (it : PlainEntityType). it.name) same.0, (same.1, ap (λ (it : PlainEntityType). it.kind) same.0)))
-    (Decides-and _ _ (entity_type_eq-same a.name b.name) (Decides-and _ _ (sets-Decides (name_eq.ghosts).eq type_name entity_type_equal.Laws.laws-law entity_type_eq-same a.descendants b.descendants) (kinds-Decides a.kind b.kind)))
+    (Decides-and _ _ (entity_type_eq-same a.name b.name) (Decides-and _ _ (ordered_types-Decides a.descendants.keys b.descendants.keys a.in_order b.in_order) (kinds-Decides a.kind b.kind)))

@@ -1,30 +1,22 @@
 -- Entity types that are put in order, each once, and sets of these.
-use Rattle.std.proofs.Common.{◌≡◌, ◌≢◌, AllPairs, List, [], ◌∷◌, arith, map, sym, subst}
+use Rattle.std.proofs.Common.{◌≡◌, ◌≢◌, AllPairs, List, [], map, sym, subst}
 use Rattle.std.proofs.lemmas.Bool.Decides.{Decides-like}
-use Rattle.std.proofs.lemmas.List.Elements.{All-from_recursion}
 use Rattle.std.proofs.lemmas.List.Filters.{dedup_is}
-use Rattle.std.proofs.lemmas.List.Kept.{AllPairs-cons}
 use Rattle.std.specs.Bool.{Decides}
 use Rattle.std.specs.Cmp.Lexicographic.{pointwise}
 use Rattle.std.specs.List.Retain.{DiffersFromLast, IsFiltered}
-use Rattle.std.specs.List.Sorted.{IsPermutation, IsSorted, IsStrictlySortedBy}
-use Rattle.std.specs.declared.cmp.Ordering.TheVariants.{Less}
+use Rattle.std.specs.List.Sorted.{IsPermutation, IsSorted}
 use Rattle.cedar_ast.proofs.Names.{entity_type_eq-same}
-use Rattle.cedar_ast.proofs.Ordered.{not_itself}
 use Rattle.cedar_ast.proofs.PlainNames.{name_cmp-total}
 use Rattle.cedar_ast.specs.contracts.entity_type.EntityTypeOrd.TheImpl as entity_type_ord
 use Rattle.cedar_ast.specs.contracts.entity_type.EntityTypePartialEq.TheImpl as entity_type_eq
 use Rattle.cedar_schema_elements.proofs.NamedTypes.{same_type}
-use Rattle.cedar_schema_elements.specs.Words.{EntityType, PlainName, SameItems, TypeSet, name_cmp, set_names, type_name}
+use Rattle.cedar_schema_elements.proofs.SetLemmas.{SameItems-equal, once}
+use Rattle.cedar_schema_elements.specs.Words.{EntityType, SameItems, TypeSet, name_cmp, set_names, type_name}
 use Rattle.cedar_type_rules.proofs.AntisymmetryLaws.{Included-same}
 use Rattle.cedar_type_rules.proofs.SubtypeLemmas.{pointwise-map_Decides}
 use Rattle.cedar_types.proofs.MergedLemmas.{same_names-distinct, sorted_names-distinct}
 use Rattle.cedar_types.specs.TypesInOrder.{AreInOrder}
-
--- lists that are equal have the same items
-pub SameItems-equal : {A : Type 0} (items others : List A) → items ≡ others → SameItems items others
-SameItems-equal {A = A} items others same =
-    let P : List A → Type 0 = SameItems items in subst P same (λ item. (λ is. is, λ is. is))
 
 -- entity types that are sorted, and of which repeats are dropped, are in order
 pub kept_in_order : (sorted all : List EntityType) → IsFiltered (DiffersFromLast same_type) [] sorted all
@@ -49,14 +41,6 @@ type_sets-Decides a b =
     (λ items. Included-same name_cmp name_cmp-total (set_names a) (set_names b) a.sorted b.sorted (λ name. (items name).0) (λ name. (items name).1))
     (pointwise-map_Decides type_name _ entity_type_eq-same a.types.items b.types.items)
 
--- names in order are each there once
-once : (names : List PlainName) → IsStrictlySortedBy name_cmp names → AllPairs (λ a b. a ≢ b) names
-unfolding IsStrictlySortedBy
-once [] sorted = λ i j d before below. absurd (omega arith)
-once (name ∷ names) sorted =
-    AllPairs-cons (λ a b. a ≢ b) name names (λ k d below same. not_itself name_cmp name_cmp-total name _ same
-    (All-from_recursion (λ other. name_cmp name other ≡ Less) names sorted.0 k d below)) (once names sorted.1)
-
--- so are those of a set
+-- names of a set are each there once
 pub set_once : (set : TypeSet) → AllPairs (λ a b. a ≢ b) (set_names set)
-set_once set = once (set_names set) set.sorted
+set_once set = once name_cmp name_cmp-total (set_names set) set.sorted

@@ -1,12 +1,15 @@
 //! Actions of a schema.
 
+ghost use Rattle.std.specs.BTreeSet.{IsOrdered};
+ghost use Rattle.std.specs.List.Sorted.{IsStrictlySortedBy-prop};
+
 use crate::action_kind::{DefinedRequests, ValidatorActionKind};
-use crate::sets::{copied, type_set, uid_set};
+use crate::sets::{copied_in_order, type_set, uid_set};
 use crate::type_set::{RequestTypes, TypeSet};
 use cedar_ast::{EntityType, EntityUID, Loc, M};
 use cedar_types::Type;
 use std::alloc::Global;
-use std::collections::{HashSet, hash_set};
+use std::collections::{BTreeSet, btree_set};
 use std::rc::Rc;
 
 /// An action of a schema: it is for some requests, or it is external.
@@ -25,9 +28,11 @@ pub struct ValidatorActionId {
 pub(crate) struct ActionParts {
     pub(crate) name: EntityUID,
     pub(crate) kind: ValidatorActionKind,
-    pub(crate) descendants: HashSet<EntityUID>,
+    pub(crate) descendants: BTreeSet<EntityUID>,
     #[derive_where(skip(EqHashOrd))]
     pub(crate) loc: Option<Loc>,
+    ghost in_order: { IsOrdered ⟦<EntityUID as Ord>⟧.cmp descendants }
+        by { IsStrictlySortedBy-prop ⟦<EntityUID as Ord>⟧.cmp descendants.keys },
 }
 
 // Written out: proofs of what holds actions then see one call, and nothing of their parts.
@@ -215,7 +220,7 @@ impl ValidatorActionId {
     }
 
     /// The uids of the descendants of the action in the hierarchy, each once.
-    pub fn descendants(&self) -> hash_set::Iter<'_, EntityUID>
+    pub fn descendants(&self) -> btree_set::Iter<'_, EntityUID>
         ensures uids { map uid_of result ≡ (action_of self.now).descendants }
         ensures once { AllPairs (λ a b. a ≢ b) (action_of self.now).descendants }
     {
@@ -334,7 +339,7 @@ impl ValidatorActionId {
         let parts = ActionParts {
             name: self.parts.name.clone()?,
             kind: self.parts.kind.clone()?,
-            descendants: copied(&self.parts.descendants, EntityUID::clone)?,
+            descendants: copied_in_order(&self.parts.descendants, EntityUID::clone)?,
             loc: self.parts.loc,
         };
         Ok(ValidatorActionId {

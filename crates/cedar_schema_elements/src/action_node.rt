@@ -1,7 +1,8 @@
 //! Actions as nodes of the hierarchy: each has an edge to each of its descendants.
 
 ghost use Rattle.std.specs.Prelude.{◌≡◌};
-ghost use Rattle.cedar_schema_elements.specs.Words.{PlainUid, action_of, contains, duplicate_action, external_action, uid_cmp, uid_loc, uid_of, uid_type_loc};
+ghost use Rattle.std.specs.List.{list_any};
+ghost use Rattle.cedar_schema_elements.specs.Words.{PlainUid, action_of, duplicate_action, external_action, uid_cmp, uid_loc, uid_of, uid_type_loc};
 ghost use Rattle.std.proofs.Common.{refl, ◌∙◌, ap, sym};
 ghost use Rattle.cedar_ast.proofs.Lists.{Contains-preimage, list_any-Contains};
 ghost use Rattle.cedar_ast.proofs.PlainNames.{uid_cmp-total};
@@ -14,11 +15,11 @@ use crate::schema_node::SchemaNode;
 use cedar_ast::{EntityUID, M};
 use cedar_graph::TCNode;
 use cedar_schema_semantics::SchemaError;
-use std::collections::hash_set;
+use std::collections::btree_set;
 
 impl TCNode<EntityUID> for ValidatorActionId {
-    ghost has_edge = { λ node.
-        contains ⟦<EntityUID as PartialEq>⟧.eq (parts_of node).descendants };
+    ghost has_edge = { λ node key.
+        list_any (⟦<EntityUID as PartialEq>⟧.eq key) (parts_of node).descendants.keys };
 
     ghost own_key = { λ node. (parts_of node).name };
 
@@ -39,7 +40,7 @@ impl TCNode<EntityUID> for ValidatorActionId {
         Ok(())
     }
 
-    fn out_edges(&self) -> hash_set::Iter<'_, EntityUID> {
+    fn out_edges(&self) -> btree_set::Iter<'_, EntityUID> {
         self.parts.descendants.iter()
     }
 
@@ -87,7 +88,7 @@ impl SchemaNode<EntityUID> for ValidatorActionId {
         self.is_external()
     }
 
-    fn descendants(&self) -> hash_set::Iter<'_, EntityUID> {
+    fn descendants(&self) -> btree_set::Iter<'_, EntityUID> {
         self.descendants()
     }
 

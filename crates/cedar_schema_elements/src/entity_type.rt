@@ -1,15 +1,17 @@
 //! Entity types of a schema.
 
 ghost use Rattle.std.specs.Prelude.{◌≡◌, []};
+ghost use Rattle.std.specs.BTreeSet.{IsOrdered};
+ghost use Rattle.std.specs.List.Sorted.{IsStrictlySortedBy-prop};
 ghost use Rattle.cedar_type_rules.specs.Fields.{field_names};
 ghost use Rattle.cedar_types.specs.Meaning.{fields_of};
 
 use crate::entity_type_kind::{StandardValidatorEntityType, ValidatorEntityTypeKind};
-use crate::sets::copied;
+use crate::sets::copied_in_order;
 use cedar_ast::{Eid, EntityType, Loc, M, NonEmpty};
 use cedar_types::{AttributeType, Attributes, OpenTag, Type};
 use std::alloc::Global;
-use std::collections::HashSet;
+use std::collections::BTreeSet;
 
 /// An entity type of a schema.
 ///
@@ -19,7 +21,7 @@ use std::collections::HashSet;
 pub struct ValidatorEntityType {
     pub(crate) name: EntityType,
     /// The entity types whose entities may stand below one of this type in the hierarchy.
-    pub descendants: HashSet<EntityType>,
+    pub descendants: BTreeSet<EntityType>,
     /// How the entity type is declared.
     pub kind: ValidatorEntityTypeKind,
     /// Where the entity type was declared, if that is known.
@@ -32,6 +34,8 @@ pub struct ValidatorEntityType {
     #[derive_where(skip)]
     alloc: Global,
     ghost without_attributes: { field_names (fields_of no_attributes) ≡ [] },
+    ghost in_order: { IsOrdered ⟦<EntityType as Ord>⟧.cmp descendants }
+        by { IsStrictlySortedBy-prop ⟦<EntityType as Ord>⟧.cmp descendants.keys },
 }
 
 impl ValidatorEntityType {
@@ -58,7 +62,7 @@ impl ValidatorEntityType {
     {
         Ok(ValidatorEntityType {
             name,
-            descendants: HashSet::from_iter(alloc, descendants)?,
+            descendants: BTreeSet::from_iter(alloc, descendants)?,
             kind,
             loc,
             no_attributes: Attributes::empty(alloc)?,
@@ -121,7 +125,7 @@ impl ValidatorEntityType {
         let standard = StandardValidatorEntityType::new(attributes, open_attributes, tags);
         ValidatorEntityType {
             name,
-            descendants: HashSet::new(alloc),
+            descendants: BTreeSet::new(alloc),
             kind: ValidatorEntityTypeKind::Standard(standard),
             loc,
             no_attributes,
@@ -270,7 +274,7 @@ impl ValidatorEntityType {
     {
         Ok(ValidatorEntityType {
             name: self.name.clone()?,
-            descendants: copied(&self.descendants, EntityType::clone)?,
+            descendants: copied_in_order(&self.descendants, EntityType::clone)?,
             kind: self.kind.clone()?,
             loc: self.loc,
             no_attributes: self.no_attributes.clone()?,

@@ -1,7 +1,8 @@
 //! Entity types as nodes of the hierarchy: each has an edge to each of its descendants.
 
 ghost use Rattle.std.specs.Prelude.{◌≡◌};
-ghost use Rattle.cedar_schema_elements.specs.Words.{IsLocatedAsKey, PlainName, contains, descendant_names, duplicate_entity_type, entity_type_of, external_kind, name_cmp, plain_kind, type_loc, type_name};
+ghost use Rattle.std.specs.List.{list_any};
+ghost use Rattle.cedar_schema_elements.specs.Words.{IsLocatedAsKey, PlainName, descendant_names, duplicate_entity_type, entity_type_of, external_kind, name_cmp, plain_kind, type_loc, type_name};
 ghost use Rattle.std.proofs.Common.{refl, ◌∙◌, ap, sym};
 ghost use Rattle.cedar_ast.proofs.Names.{entity_type_eq-same, entity_type_ord-Equal, entity_type_ord-name_cmp, entity_type_searches-respect_eq};
 ghost use Rattle.cedar_ast.proofs.PlainNames.{name_cmp-total};
@@ -12,10 +13,11 @@ use crate::schema_node::SchemaNode;
 use cedar_ast::{EntityType, M};
 use cedar_graph::TCNode;
 use cedar_schema_semantics::SchemaError;
-use std::collections::hash_set;
+use std::collections::btree_set;
 
 impl TCNode<EntityType> for ValidatorEntityType {
-    ghost has_edge = { λ node. contains ⟦<EntityType as PartialEq>⟧.eq node.descendants };
+    ghost has_edge = { λ node key.
+        list_any (⟦<EntityType as PartialEq>⟧.eq key) node.descendants.keys };
 
     ghost own_key = { λ node. node.name };
 
@@ -35,7 +37,7 @@ impl TCNode<EntityType> for ValidatorEntityType {
         Ok(())
     }
 
-    fn out_edges(&self) -> hash_set::Iter<'_, EntityType> {
+    fn out_edges(&self) -> btree_set::Iter<'_, EntityType> {
         self.descendants.iter()
     }
 
@@ -83,7 +85,7 @@ impl SchemaNode<EntityType> for ValidatorEntityType {
         self.is_external()
     }
 
-    fn descendants(&self) -> hash_set::Iter<'_, EntityType> {
+    fn descendants(&self) -> btree_set::Iter<'_, EntityType> {
         self.descendants.iter()
     }
 

@@ -6,7 +6,7 @@ ghost use Rattle.cedar_schema_elements.specs.Words.{Equal, Fault, IsTotalOrder, 
 use cedar_ast::M;
 use cedar_graph::TCNode;
 use cedar_schema_semantics::SchemaError;
-use std::collections::hash_set;
+use std::collections::btree_set;
 use std::hash::Hash;
 
 /// An entity type or an action of a schema: a node of a hierarchy that has a name, by which others
@@ -48,7 +48,7 @@ pub trait SchemaNode<K: Ord + Hash>: TCNode<K> {
         ensures { IsTrue result ↔ IsExternal self.now };
 
     /// The names of the descendants.
-    fn descendants(&self) -> hash_set::Iter<'_, K>
+    fn descendants(&self) -> btree_set::Iter<'_, K>
         ensures { map key_name result ≡ below self.now };
 
     /// The refusal of a second definition of a name.

@@ -1,12 +1,13 @@
 //! Sets of entity types and of uids, collected and copied.
 
 ghost use Rattle.std.specs.Prelude.{◌≡◌, IsTrue, IfOk, Result, map};
-ghost use Rattle.cedar_schema_elements.specs.Words.{FnReturnsAt, HoldsOfAll, IsFiniteIterable, Memory, SameItems, contains, set_names, type_name, uid_of};
+ghost use Rattle.std.specs.BTreeSet.{IsOrdered, contains as has_key};
+ghost use Rattle.cedar_schema_elements.specs.Words.{FnReturnsAt, HoldsOfAll, IsFiniteIterable, Equal, Memory, SameItems, contains, set_names, type_name, uid_of};
 
 use crate::type_set::TypeSet;
 use cedar_ast::{EntityType, EntityUID, M};
 use std::alloc::Global;
-use std::collections::HashSet;
+use std::collections::{BTreeSet, HashSet};
 use std::default::Emptied;
 use std::hash::Hash;
 
@@ -23,12 +24,13 @@ pub(crate) fn type_set<I: IntoIterator<Item = EntityType>>(alloc: Global, types:
 pub(crate) fn uid_set<I: IntoIterator<Item = EntityUID>>(
     alloc: Global,
     uids: I,
-) -> M<HashSet<EntityUID>>
+) -> M<BTreeSet<EntityUID>>
     requires { IsFiniteIterable I.into_iter_gives I.IntoIter.can_next I.IntoIter.remaining uids }
-    ensures { IfOk result (λ set. HoldsOfAll I.into_iter_gives I.IntoIter.next_gives uids
+    ensures uids { IfOk result (λ set. HoldsOfAll I.into_iter_gives I.IntoIter.next_gives uids
         (λ xs. SameItems (map uid_of set.keys) (map uid_of xs))) }
+    ensures in_order { IfOk result (IsOrdered ⟦<EntityUID as Ord>⟧.cmp) }
 {
-    Ok(HashSet::from_iter(alloc, uids)?)
+    Ok(BTreeSet::from_iter(alloc, uids)?)
 }
 
 /// The set of copies of the items of a set. Each copy has to equal its item.
@@ -43,6 +45,25 @@ pub(crate) fn copied<K: Eq + Hash + Drop, F: Fn(&K) -> M<K> + Drop>(
         → contains K.eq set other ≡ contains K.eq items.now other) }
 {
     let mut set = HashSet::emptied(items)?;
+    for item in items {
+        set.insert(copy(item)?)?;
+    }
+    Ok(set)
+}
+
+/// The ordered set of copies of the items of one. Each copy has to be as its item in the order.
+pub(crate) fn copied_in_order<K: Ord + Drop, F: Fn(&K) -> M<K> + Drop>(
+    items: &BTreeSet<K>,
+    copy: F,
+) -> M<BTreeSet<K>>
+    requires callable { F.IsAlwaysCallable copy }
+    requires equal { (item : K) (answer : Result K Memory) → FnReturnsAt F.Fn copy item answer
+        → IfOk answer (λ other. K.cmp other item ≡ Equal) }
+    ensures keys { IfOk result (λ set. (other : K)
+        → has_key K.cmp set other ≡ has_key K.cmp items.now other) }
+    ensures in_order { IfOk result (IsOrdered K.cmp) }
+{
+    let mut set = BTreeSet::emptied(items)?;
     for item in items {
         set.insert(copy(item)?)?;
     }

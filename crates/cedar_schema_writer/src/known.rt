@@ -10,7 +10,7 @@ use cedar_schema_ast::json_schema::{ActionEntityUID, RawName};
 use cedar_schema_elements::{RequestTypes, ValidatorActionId, ValidatorEntityType};
 use cedar_table::Table;
 use std::alloc::Global;
-use std::collections::HashSet;
+use std::collections::BTreeSet;
 
 /// What a schema defines, once it is converted back.
 #[derive(Clone, Copy)]
@@ -22,19 +22,19 @@ pub(crate) struct Known<'a> {
     /// The actions, each under its uid.
     pub(crate) actions: &'a Table<EntityUID, ValidatorActionId>,
     /// The types of the actions.
-    pub(crate) action_types: &'a HashSet<EntityType>,
+    pub(crate) action_types: &'a BTreeSet<EntityType>,
 }
 
 /// The types of some actions.
 pub(crate) fn action_types(
     alloc: Global,
     actions: &Table<EntityUID, ValidatorActionId>,
-) -> M<HashSet<EntityType>>
+) -> M<BTreeSet<EntityType>>
     ensures { IfOk result (λ types. (name : PlainName) → Contains (map type_name types.keys) name
         ↔ Contains (map (λ (it : PlainUid × SchemaAction). it.0.ty)
         (map plain_action_entry actions.now.entries)) name) }
 {
-    let mut types = HashSet::new(alloc);
+    let mut types = BTreeSet::new(alloc);
     for uid in actions.keys() {
         types.insert(uid.entity_type().clone()?)?;
     }

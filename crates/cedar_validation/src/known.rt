@@ -8,7 +8,7 @@ use cedar_ast::{EntityType, Extensions, M, Name, NonEmpty};
 use cedar_schema_semantics::SchemaError;
 use cedar_types::{EntityKind, EntityLUB};
 use std::alloc::Global;
-use std::collections::HashSet;
+use std::collections::BTreeSet;
 
 /// What types may name: entity types, types of actions, and extension types.
 #[derive(Clone, Copy)]
@@ -18,17 +18,17 @@ pub(crate) struct Known<'a> {
     /// The schema.
     pub(crate) parts: &'a Parts,
     /// The types of its actions.
-    pub(crate) action_types: &'a HashSet<EntityType>,
+    pub(crate) action_types: &'a BTreeSet<EntityType>,
     /// The extension types that were handed in.
     pub(crate) extensions: &'a Extensions,
 }
 
 /// The types of the actions.
-pub(crate) fn action_types(alloc: Global, parts: &Parts) -> M<HashSet<EntityType>>
+pub(crate) fn action_types(alloc: Global, parts: &Parts) -> M<BTreeSet<EntityType>>
     ensures { IfOk result (λ types. (name : PlainName) → Contains (map type_name types.keys) name
         ↔ ((uid : PlainUid) × HasAction (plain_parts parts.now) uid × (uid.ty ≡ name))) }
 {
-    let mut types = HashSet::new(alloc);
+    let mut types = BTreeSet::new(alloc);
     for uid in parts.actions.keys() {
         types.insert(uid.entity_type().clone()?)?;
     }

@@ -10,13 +10,13 @@ use cedar_schema_elements::{RequestTypes, ValidatorActionId};
 use cedar_schema_semantics::SchemaError;
 use cedar_table::Table;
 use std::alloc::Global;
-use std::collections::hash_set;
+use std::collections::btree_set;
 use std::hash::Hash;
 
 /// The first of some keys under which nothing stands in a map.
 fn missing<'a, K: Ord + Hash + QuickHash, V>(
     map: &Table<K, V>,
-    keys: hash_set::Iter<'a, K>,
+    keys: btree_set::Iter<'a, K>,
 ) -> Option<&'a K>
     ensures { MatchOption result ((key : K) → Contains keys.entry key → HasKey K.cmp map.now key)
         (λ key. Contains keys.entry key.now × ¬ HasKey K.cmp map.now key.now) }
@@ -33,7 +33,7 @@ fn missing<'a, K: Ord + Hash + QuickHash, V>(
 pub(crate) fn check_declared(
     alloc: Global,
     parts: &Parts,
-    names: hash_set::Iter<'_, EntityType>,
+    names: btree_set::Iter<'_, EntityType>,
 ) -> Result<(), SchemaError>
     ensures sound { OnOk result ((name : PlainName) → Contains (map type_name names.entry) name
         → HasEntityType (plain_parts parts.now) name) }

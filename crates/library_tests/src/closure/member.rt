@@ -1,14 +1,14 @@
 //! A small node: a member of others.
 
 ghost use Rattle.std.specs.Prelude.{◌≡◌, nat_eq};
-ghost use Rattle.std.specs.HashSet.{contains};
+ghost use Rattle.std.specs.List.{list_any};
 ghost use Rattle.std.proofs.Common.{ap, refl, ◌∙◌};
 ghost use Rattle.std.proofs.lemmas.Bool.{eqb-true};
 
 use cedar_ast::M;
 use cedar_graph::TCNode;
 use std::alloc::Global;
-use std::collections::{HashMap, HashSet, hash_set};
+use std::collections::{BTreeSet, HashMap, btree_set};
 
 /// A node of the tests: its own key, a mark that a closure is to leave alone, and what it is a
 /// member of.
@@ -19,11 +19,11 @@ pub struct Member {
     /// What a closure has to leave alone.
     pub mark: u32,
     /// The keys of what it is a member of.
-    pub owners: HashSet<u32>,
+    pub owners: BTreeSet<u32>,
 }
 
 impl TCNode<u32> for Member {
-    ghost has_edge = { λ node. contains nat_eq node.owners };
+    ghost has_edge = { λ node key. list_any (nat_eq key) node.owners.keys };
 
     ghost own_key = { λ node. node.key };
 
@@ -42,7 +42,7 @@ impl TCNode<u32> for Member {
         Ok(())
     }
 
-    fn out_edges(&self) -> hash_set::Iter<'_, u32> {
+    fn out_edges(&self) -> btree_set::Iter<'_, u32> {
         self.owners.iter()
     }
 
@@ -53,7 +53,7 @@ impl TCNode<u32> for Member {
     fn reset_edges(&mut self) {}
 
     ghost edges_respect_eq = { λ node a b same.
-        ap (contains nat_eq node.owners) (eqb-true a b same) };
+        ap (λ key. list_any (nat_eq key) node.owners.keys) (eqb-true a b same) };
 
     ghost alike_itself = { λ node. (refl, refl) };
 
@@ -69,7 +69,7 @@ pub fn mark_of(key: u32) -> u32 {
 pub fn nodes_of(alloc: Global, count: u32, edges: &[(u32, u32)]) -> M<HashMap<u32, Member>> {
     let mut nodes = HashMap::new(alloc);
     for key in 0..count {
-        let mut owners = HashSet::new(alloc);
+        let mut owners = BTreeSet::new(alloc);
         for (from, to) in edges {
             if *from == key {
                 owners.insert(*to)?;

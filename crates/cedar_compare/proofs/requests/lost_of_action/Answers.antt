@@ -7,7 +7,7 @@ use Rattle.cedar_ast.proofs.Basics.{Contains-image}
 use Rattle.cedar_compare.proofs.RequestSteps.{action_answers, asked_of, no_answers}
 use Rattle.cedar_compare.proofs.requests.lost_of_action.Goals as goal
 use Rattle.cedar_compare.specs.Words.{AreActionAnswers, AreAnswers, Difference, EntityType, IsEnvironmentOf, PlainDifference, PlainName, PlainUid, Ty, action_of, context_at, kind_principals, kind_resources, name_cmp, new_of, old_of, plain_difference, subjects_with, ty_of, type_name, uid_of}
-use Rattle.cedar_schema_elements.proofs.TypeSetLemmas.{SameItems-equal}
+use Rattle.cedar_schema_elements.proofs.SetLemmas.{SameItems-equal}
 
 -- the names of some entity types
 abbrev names : List (Bor EntityType) → List PlainName

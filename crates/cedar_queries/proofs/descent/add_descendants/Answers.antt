@@ -12,4 +12,4 @@ returns-clause-names c =
     borrowed_more type_name c.args.names.now.items c.loop-descendant.yielded c.loop-descendant.names.items _ c.loop-descendant.invariant all
 
 pub returns-clause-once : goal.returns-clause-once
-returns-clause-once c = types_once c.args.entity_type.now.descendants.keys c.into_iter-descendant-iterator.ensures.into_iter_gives.3
+returns-clause-once c = types_once c.args.entity_type.now.descendants.keys c.into_iter-descendant-iterator.ensures.into_iter_gives.4

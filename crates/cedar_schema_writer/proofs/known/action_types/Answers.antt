@@ -5,7 +5,7 @@ use Rattle.std.specs.Map.{keys_of}
 use Rattle.std.specs.Map.Iter.{deref}
 use Rattle.cedar_ast.proofs.Names.{entity_type_eq-same}
 use Rattle.cedar_ast.specs.contracts.entity_type.EntityTypeEq.TheImpl as entity_type_equal
-use Rattle.cedar_schema_elements.proofs.SetLemmas.{AnswersAlike-insert, SameItems-types}
+use Rattle.cedar_schema_elements.proofs.SetLemmas.{AnswersAlike-insert, SameItems-types, type_inserted}
 use Rattle.cedar_schema_writer.proofs.known.action_types.Goals as goal
 use Rattle.cedar_schema_writer.specs.Words.{EntityUID, PlainUid, SchemaAction, ValidatorActionId, plain_action_entry, type_name}
 
@@ -25,7 +25,8 @@ loop-uid-preserved c =
     rw more
     (AnswersAlike-insert entity_type_equal.Laws.laws-law (map (λ (uid : EntityUID). uid.ty) (map deref c.loop-uid.yielded)) c.loop-uid.types.keys
     c.insert.new.self.keys c.in-Some.uid.now.ty c.in_ok-clone.field-0 c.loop-uid.invariant
-    ((entity_type_eq-same c.in_ok-clone.field-0 c.in-Some.uid.now.ty).1 (c.in_ok-clone.ensures.name ∙ c.entity_type.ensures.name)) c.in_ok-insert.ensures.updates.0)
+    ((entity_type_eq-same c.in_ok-clone.field-0 c.in-Some.uid.now.ty).1 (c.in_ok-clone.ensures.name ∙ c.entity_type.ensures.name))
+    (λ q. type_inserted c.loop-uid.types.keys c.insert.new.self.keys c.in_ok-clone.field-0 q (c.in_ok-insert.ensures.updates.0 q)))
 
 pub returns : goal.returns
 returns c =

@@ -1,5 +1,6 @@
 use Rattle.std.proofs.Common.{◌≡◌, List, ap, arith, map, sym, subst, ◌∙◌, Contains}
 use Rattle.std.specs.Map.{keys_of}
+use Rattle.cedar_schema_elements.proofs.SetLemmas.{type_inserted}
 use Rattle.cedar_validation.proofs.Checking.{checking_all, checking_here, checking_none}
 use Rattle.cedar_validation.proofs.Keyed.{key_of_uid, key_with_uid}
 use Rattle.cedar_validation.proofs.TypeSets.{types_more}
@@ -30,7 +31,9 @@ loop-uid-preserved c =
     c.loop-uid.invariant.collected in
     types_more (HasAction (plain_parts c.args.parts.now)) (keys_of actions) _ _ c.loop-uid.types.keys c.insert.new.self.keys
     c.in_ok-clone.field-0 uid c.in-Some.ensures.steps (c.in_ok-clone.ensures.name ∙ c.entity_type.ensures.name)
-    (key_with_uid actions uid among) c.in_ok-insert.ensures.updates.0 c.loop-uid.invariant
+    (key_with_uid actions uid among)
+    (λ q. type_inserted c.loop-uid.types.keys c.insert.new.self.keys c.in_ok-clone.field-0 q (c.in_ok-insert.ensures.updates.0 q))
+    c.loop-uid.invariant
 
 -- a name in the set is the type of an action, and as no uid is left, the type of each action is in
 -- it

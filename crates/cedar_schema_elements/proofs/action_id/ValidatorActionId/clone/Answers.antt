@@ -1,13 +1,13 @@
 use Rattle.std.proofs.Common.{ap, subst, sym, ◌∙◌}
-use Rattle.cedar_schema_elements.proofs.SetLemmas.{equal-uid, SameItems-uids}
+use Rattle.cedar_schema_elements.proofs.SetLemmas.{tied-uid, uids_collected}
 use Rattle.cedar_schema_elements.proofs.action_id.ValidatorActionId.clone.Goals as goal
 use Rattle.cedar_schema_elements.specs.ActionKind.{plain_kind}
 use Rattle.cedar_schema_elements.specs.Words.{SameActionKind}
 use Rattle.cedar_schema_elements.specs.declared.action_id.ActionParts.{ActionParts}
 use Rattle.cedar_schema_semantics.proofs.SameActions.{kind_itself}
 
-pub copied-requires-clause-equal : goal.copied-requires-clause-equal
-copied-requires-clause-equal c item answer ran = equal-uid item ran.shown.now answer ran.shows ran.says.met.0
+pub copied_in_order-requires-clause-equal : goal.copied_in_order-requires-clause-equal
+copied_in_order-requires-clause-equal c item answer ran = tied-uid item ran.shown.now answer ran.shows ran.says.met.0
 
 pub returns-clause-kind : goal.returns-clause-kind
 returns-clause-kind c =
@@ -17,5 +17,6 @@ returns-clause-kind c =
 
 pub returns-clause-descendants : goal.returns-clause-descendants
 returns-clause-descendants c =
-    rw c.in_ok-new.ensures.ok (SameItems-uids c.in_ok-copied.field-0.keys c.args.self.now.parts.value.descendants.keys
-    (rw c.deref-3.ensures at c.in_ok-copied.ensures))
+    let copies = c.in_ok-copied_in_order in
+    rw c.in_ok-new.ensures.ok (uids_collected copies.field-0 c.args.self.now.parts.value.descendants.keys
+    (rw c.deref-3.ensures at copies.ensures.keys, copies.ensures.in_order))

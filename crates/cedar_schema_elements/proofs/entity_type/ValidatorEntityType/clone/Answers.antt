@@ -1,9 +1,10 @@
-use Rattle.cedar_schema_elements.proofs.SetLemmas.{equal-type, SameItems-types}
+use Rattle.cedar_schema_elements.proofs.SetLemmas.{tied-type, types_collected}
 use Rattle.cedar_schema_elements.proofs.entity_type.ValidatorEntityType.clone.Goals as goal
 
-pub copied-requires-clause-equal : goal.copied-requires-clause-equal
-copied-requires-clause-equal c item answer ran = equal-type item ran.shown.now answer ran.shows ran.says.met.0
+pub copied_in_order-requires-clause-equal : goal.copied_in_order-requires-clause-equal
+copied_in_order-requires-clause-equal c item answer ran = tied-type item ran.shown.now answer ran.shows ran.says.met.0
 
 pub returns-clause-descendants : goal.returns-clause-descendants
 returns-clause-descendants c =
-    SameItems-types c.in_ok-copied.field-0.keys c.args.self.now.descendants.keys c.in_ok-copied.ensures
+    let copies = c.in_ok-copied_in_order in
+    types_collected copies.field-0 c.args.self.now.descendants.keys (copies.ensures.keys, copies.ensures.in_order)

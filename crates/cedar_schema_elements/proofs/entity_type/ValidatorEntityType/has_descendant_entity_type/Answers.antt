@@ -1,5 +1,5 @@
+use Rattle.cedar_schema_elements.proofs.SetLemmas.{type_found}
 use Rattle.cedar_schema_elements.proofs.entity_type.ValidatorEntityType.has_descendant_entity_type.Goals as goal
-use Rattle.cedar_types.proofs.MemberLemmas.{list_any-names}
 
 pub returns : goal.returns
-returns c = rw c.contains.ensures (list_any-names c.args.ty.now c.args.self.now.descendants.keys)
+returns c = rw c.contains.ensures (type_found c.args.ty.now c.args.self.now.descendants.keys)

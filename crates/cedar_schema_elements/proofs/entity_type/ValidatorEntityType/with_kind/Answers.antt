@@ -1,8 +1,8 @@
-use Rattle.cedar_schema_elements.proofs.SetLemmas.{SameItems-types}
+use Rattle.cedar_schema_elements.proofs.SetLemmas.{types_collected}
 use Rattle.cedar_schema_elements.proofs.entity_type.ValidatorEntityType.with_kind.Goals as goal
 
 pub returns-clause-descendants : goal.returns-clause-descendants
 returns-clause-descendants g c =
     let ran = c.in_ok-from_iter.ensures.ran in
     let ends = ran.3.2 tt in
-    (ran.0, ran.1, ran.2, (ends.0, (ran.3.0, ran.3.1, ends.1)), SameItems-types c.in_ok-from_iter.field-0.keys ran.1 ran.4.0)
+    (ran.0, ran.1, ran.2, (ends.0, (ran.3.0, ran.3.1, ends.1)), types_collected c.in_ok-from_iter.field-0 ran.1 ran.4)

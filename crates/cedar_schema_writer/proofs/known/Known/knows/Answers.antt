@@ -1,9 +1,9 @@
 use Rattle.std.proofs.Common.{map, sym, ◌∙◌, inl, inr}
 use Rattle.std.proofs.lemmas.Bool.{false≢true}
 use Rattle.std.proofs.lemmas.List.Elements.{Contains-append_cases, Contains-append_left, Contains-append_right}
+use Rattle.cedar_schema_elements.proofs.SetLemmas.{type_found}
 use Rattle.cedar_schema_writer.proofs.known.Known.knows.Goals as goal
 use Rattle.cedar_schema_writer.specs.Words.{PlainName, SchemaEntityType, known_schema, type_name}
-use Rattle.cedar_types.proofs.MemberLemmas.{list_any-names}
 
 pub returns-then-has_entity_type : goal.returns-then-has_entity_type
 returns-then-has_entity_type c = (
@@ -18,7 +18,7 @@ returns-else-has_entity_type c =
     let types = map (λ (it : PlainName × SchemaEntityType). it.0) (known_schema c.args.self.now).entity_types in
     let action_types = map type_name c.args.self.now.action_types.now.keys in
     let name = type_name c.args.name.now in
-    let among = list_any-names c.args.name.now c.args.self.now.action_types.now.keys in (
+    let among = type_found c.args.name.now c.args.self.now.action_types.now.keys in (
       λ there. Contains-append_right types action_types name (among.0 (sym c.contains.ensures ∙ there)),
       λ known. elim (Contains-append_cases types action_types name known) [
         | inl there ↦ absurd (false≢true (sym c.if-has_entity_type.false ∙ c.has_entity_type.ensures.1 there))
