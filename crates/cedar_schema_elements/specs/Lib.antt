@@ -1,6 +1,7 @@
 pub mod ActionEntities
 pub mod ActionKind
 pub mod Ancestors
+pub mod Ascending
 pub mod EntityTypeKind
 pub mod RequestEnv
 pub mod RequestEnvironments

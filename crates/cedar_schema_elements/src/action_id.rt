@@ -1,7 +1,6 @@
 //! Actions of a schema.
 
-ghost use Rattle.std.specs.BTreeSet.{IsOrdered};
-ghost use Rattle.std.specs.List.Sorted.{IsStrictlySortedBy-prop};
+ghost use Rattle.cedar_schema_elements.specs.Ascending.{UidsAscend, UidsAscend-prop as one_order};
 
 use crate::action_kind::{DefinedRequests, ValidatorActionKind};
 use crate::sets::{copied_in_order, type_set, uid_set};
@@ -31,8 +30,7 @@ pub(crate) struct ActionParts {
     pub(crate) descendants: BTreeSet<EntityUID>,
     #[derive_where(skip(EqHashOrd))]
     pub(crate) loc: Option<Loc>,
-    ghost in_order: { IsOrdered ⟦<EntityUID as Ord>⟧.cmp descendants }
-        by { IsStrictlySortedBy-prop ⟦<EntityUID as Ord>⟧.cmp descendants.keys },
+    ghost in_order: { UidsAscend descendants.keys } by { one_order descendants.keys },
 }
 
 // Written out: proofs of what holds actions then see one call, and nothing of their parts.

@@ -1,8 +1,7 @@
 //! Entity types of a schema.
 
 ghost use Rattle.std.specs.Prelude.{◌≡◌, []};
-ghost use Rattle.std.specs.BTreeSet.{IsOrdered};
-ghost use Rattle.std.specs.List.Sorted.{IsStrictlySortedBy-prop};
+ghost use Rattle.cedar_schema_elements.specs.Ascending.{TypesAscend, TypesAscend-prop as one_order};
 ghost use Rattle.cedar_type_rules.specs.Fields.{field_names};
 ghost use Rattle.cedar_types.specs.Meaning.{fields_of};
 
@@ -34,8 +33,7 @@ pub struct ValidatorEntityType {
     #[derive_where(skip)]
     alloc: Global,
     ghost without_attributes: { field_names (fields_of no_attributes) ≡ [] },
-    ghost in_order: { IsOrdered ⟦<EntityType as Ord>⟧.cmp descendants }
-        by { IsStrictlySortedBy-prop ⟦<EntityType as Ord>⟧.cmp descendants.keys },
+    ghost in_order: { TypesAscend descendants.keys } by { one_order descendants.keys },
 }
 
 impl ValidatorEntityType {
