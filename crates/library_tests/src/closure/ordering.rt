@@ -1,7 +1,7 @@
 //! Numbers in order: chains of any length, what leads nowhere, and rings.
 
 use cedar_ast::M;
-use cedar_graph::{Ordered, topo_sort};
+use cedar_graph::{Ordered, lowest_first, topo_sort};
 use shorthand::checked::{one_of, same};
 use std::alloc::Global;
 use std::test::Fail;
@@ -67,6 +67,31 @@ fn numbers_come_after_those_that_they_lead_to(rt: HostRuntime) -> Result<(), Fai
     let alloc = rt.alloc();
     for &(count, edges, allowed) in ORDERS {
         let shown = shown(alloc, &lists(alloc, count, edges)?)?;
+        one_of(allowed, shown.as_str(), allowed)?;
+    }
+    Ok(())
+}
+
+/// Graphs, and how their numbers may stand where cycles are passed over.
+const LOWEST: &[(usize, &[(usize, usize)], &str)] = &[
+    (0, &[], "[]"),
+    (2, &[(0, 1)], "[1, 0]"),
+    (2, &[(1, 0), (0, 7)], "[0, 1]"),
+    (1, &[(0, 0)], "[0]"),
+    (3, &[(0, 1), (1, 1), (1, 2)], "[2, 1, 0]"),
+    (
+        4,
+        &[(0, 1), (1, 2), (2, 1), (2, 3)],
+        "[3, 1, 2, 0] or else [3, 2, 1, 0]",
+    ),
+];
+
+#[test]
+fn what_is_lowest_comes_first_beside_cycles(rt: HostRuntime) -> Result<(), Fail> {
+    let alloc = rt.alloc();
+    for &(count, edges, allowed) in LOWEST {
+        let order = lowest_first(alloc, &lists(alloc, count, edges)?)?;
+        let shown = format!(in alloc; "{order:?}")?;
         one_of(allowed, shown.as_str(), allowed)?;
     }
     Ok(())
