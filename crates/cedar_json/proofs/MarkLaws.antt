@@ -1,5 +1,5 @@
 -- What is listed of a type stands in what it is written as.
-use Rattle.std.proofs.Common.{◌≡◌, ◌↔◌, ◌⊎◌, ◌×◌, Bool, true, false, cond, List, [], ◌∷◌, ◌++◌, map, Option, None, String, Global, IsTrue, inl, inr, refl, ap, sym, subst, ◌∙◌, string_bytes, Contains}
+use Rattle.std.proofs.Common.{◌≡◌, ◌↔◌, ◌⊎◌, Bool, true, false, cond, List, [], ◌∷◌, ◌++◌, map, Option, None, String, Global, IsTrue, inl, inr, refl, ap, sym, subst, ◌∙◌, string_bytes, Contains}
 use Rattle.std.proofs.lemmas.List.{map-append}
 use Rattle.std.proofs.lemmas.List.Elements.{Contains-append_cases, Contains-append_left, Contains-append_right}
 use Rattle.std.specs.List.{flat_map}

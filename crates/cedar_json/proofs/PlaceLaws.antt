@@ -18,15 +18,16 @@ module _ (IsSo : Mark → Loc → Type 0) where
   ]
 
   -- an unknown place is none
-  unknown : (own : Mark) (mark : Mark) (loc : Loc) → (own, None) ≡ (mark, Some loc) → ¬ IsSo mark loc
+  unknown : (own : Mark) (mark : Mark) (loc : Loc) → ◌≡◌ {A = Marked} (own, None) (mark, Some loc) → ¬ IsSo mark loc
   unknown own mark loc same = let wrong : None ≡ Some loc = ap (λ (it : Marked). it.1) same in absurd cc
 
   -- what isn't so isn't so by another name
-  isnt_so : (own : Mark) (at : Loc) → ¬ IsSo own at → (mark : Mark) (loc : Loc) → (own, Some at) ≡ (mark, Some loc)
+  isnt_so : (own : Mark) (at : Loc) → ¬ IsSo own at → (mark : Mark) (loc : Loc) → ◌≡◌ {A = Marked} (own, Some at) (mark, Some loc)
       → ¬ IsSo mark loc
   isnt_so own at isnt mark loc same is =
       let marks : own ≡ mark = ap (λ (it : Marked). it.0) same in
-      let locs : at ≡ loc = cc in
+      let both : Some at ≡ Some loc = ap (λ (it : Marked). it.1) same in
+      let locs : at ≡ loc = cc both in
       isnt (subst (λ m. IsSo m at) (sym marks) (subst (λ l. IsSo mark l) (sym locs) is))
 
   -- one more mark before a first one
@@ -59,7 +60,7 @@ module _ (IsSo : Mark → Loc → Type 0) where
 
   -- there is none where no mark is so
   none_first : (table : Marks) → IsFirstPlace IsSo table None → HasNone IsSo table
-  none_first [] is mark loc among = absurd (Contains-none (mark, Some loc) among)
+  none_first [] is = λ mark loc among. absurd (Contains-none (mark, Some loc) among)
   none_first ((own, None) ∷ rest) is = none_more (own, None) rest (unknown own) (none_first rest is)
   none_first ((own, Some at) ∷ rest) is = elim is [
     | inl here ↦ let wrong : None ≡ Some at = here.1 in absurd cc
