@@ -82,12 +82,13 @@ loop-lower-preserved c =
     let R : PlainName → PlainUid → Type 0 = MayStandAbove new in
     record {
       reported = λ left so_far. upper_put (entity_walk old new) (IsTypeLeft name (lower ∷ rest) left) (IsTypeLeft name rest left) c.loop-lower.ancestors c.keep.new.kept key uid
-          c.in_ok-keep.ensures
-          (subst (λ n. Q n (uid_of uid)) (sym named) (subst (Q lower) (sym is)
-          (may_above old new c.requires.versions.old_keyed c.requires.versions.new_keyed name it c.requires.old id c.requires.may kept c.requires.kept lower listed)),
-          λ above. not_above old new c.requires.versions.old_keyed c.requires.versions.new_keyed name it c.requires.old id c.requires.may kept c.requires.kept lower
-          (λ still. false≢true (sym c.if-is_still_above.false ∙ c.is_still_above.ensures.1 still))
-          (subst (R lower) is (subst (λ n. R n (uid_of uid)) named above)))
+          c.in_ok-keep.ensures (
+            subst (λ n. Q n (uid_of uid)) (sym named) (subst (Q lower) (sym is)
+                (may_above old new c.requires.versions.old_keyed c.requires.versions.new_keyed name it c.requires.old id c.requires.may kept c.requires.kept lower listed)),
+            λ above. not_above old new c.requires.versions.old_keyed c.requires.versions.new_keyed name it c.requires.old id c.requires.may kept c.requires.kept lower
+                (λ still. false≢true (sym c.if-is_still_above.false ∙ c.is_still_above.ensures.1 still))
+                (subst (R lower) is (subst (λ n. R n (uid_of uid)) named above)),
+          )
           (λ other different upper is_left. left_past (entity_walk old new) name left first rest other (λ same. different (named ∙ same)) upper is_left)
           (subst (λ lowers. AreAncestorsSoFar old new (IsTypeLeft name lowers left) c.loop-lower.ancestors) steps (c.loop-lower.invariant.reported left so_far));
       listed = λ other there. c.loop-lower.invariant.listed other (subst (λ xs. Contains xs other) (sym steps) (Contains-cons (type_name c.in-Some.lower.now) (map type_name c.next.new.self) other (inr there)));
