@@ -113,7 +113,7 @@ module _ (bag : Bag) (extensions : Extensions) (declared : List (PlainUid × Act
     in_bag : AreEdges (action_uids bag) (declared_actions bag) edges
     in_bag = subst (λ all. AreEdges (action_uids bag) all edges) ready.actions
         (turn_weaker (IsEdgeOf uid_of (NamesAction (held_names scope.defs.now).actions)) (IsEdgeOf uid_of (NamesAction (action_uids bag)))
-        (λ edge it is. (is.0, names_alike (held_names scope.defs.now).actions (action_uids bag) ready.names.actions it.1 (uid_of edge.0) is.1))
+        (λ edge it is. (is.0, names_alike (held_names scope.defs.now).actions (action_uids bag) ready.known.names.actions it.1 (uid_of edge.0) is.1))
         edges (parents_in (map (any.with_parents parents_of) declared)) are)
 
     -- each parent in the bag names an action

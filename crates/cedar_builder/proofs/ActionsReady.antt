@@ -86,14 +86,14 @@ module _ (bag : Bag) (extensions : Extensions) (declared : List (PlainUid × Act
 
   -- what resolves over these does so over those of the bag
   resolves : (reference : Reference) (name : PlainName) → ResolvesTo held reference name → ResolvesTo (defined_names bag extensions) reference name
-  resolves = same_resolves held (defined_names bag extensions) ready.names
+  resolves = same_resolves held (defined_names bag extensions) ready.known.names
 
   -- and the other way round
   held_resolves : (reference : Reference) (name : PlainName) → ResolvesTo (defined_names bag extensions) reference name → ResolvesTo held reference name
   held_resolves = same_resolves (defined_names bag extensions) held (record {
-    common = λ name. ((ready.names.common name).1, (ready.names.common name).0);
-    entities = λ name. ((ready.names.entities name).1, (ready.names.entities name).0);
-    actions = λ uid. ((ready.names.actions uid).1, (ready.names.actions uid).0);
+    common = λ name. ((ready.known.names.common name).1, (ready.known.names.common name).0);
+    entities = λ name. ((ready.known.names.entities name).1, (ready.known.names.entities name).0);
+    actions = λ uid. ((ready.known.names.actions uid).1, (ready.known.names.actions uid).0);
   })
 
   -- a reference resolves to one name
@@ -150,7 +150,7 @@ module _ (bag : Bag) (extensions : Extensions) (declared : List (PlainUid × Act
   -- enough is known for what counts in a declaration
   known_counted : (uid : PlainUid) (applies_to : Requests) (expr : Expr) → Contains Entries (uid, applies_to)
       → CountsInRequests applies_to expr → Covers (definitions bag extensions) scope expr
-  known_counted uid applies_to expr among counts = ready.knows expr (counted uid applies_to expr among counts)
+  known_counted uid applies_to expr among counts = ready.known.knows expr (counted uid applies_to expr among counts)
 
   -- the names of principals or resources are those that these resolve to
   names_resolved : (references : List Reference) (names : List PlainName) → AreNamed held references names → (name : PlainName)
@@ -210,7 +210,7 @@ module _ (bag : Bag) (extensions : Extensions) (declared : List (PlainUid × Act
   place_fault uid applies_to reference fault among place refused =
       let is_placed = placed uid applies_to reference among place in
       elim refused [
-        | inl at_fault ↦ type_fault bag extensions held ready.names ready.unreserved reference is_placed fault at_fault
+        | inl at_fault ↦ type_fault bag extensions held ready.known.names ready.known.unreserved reference is_placed fault at_fault
         | inr undeclared ↦
             let name = undeclared.0 in
             let resolved = resolves reference name undeclared.2.1 in
@@ -234,7 +234,7 @@ module _ (bag : Bag) (extensions : Extensions) (declared : List (PlainUid × Act
     λ carried among.
         let found = refused.1 carried among in
         let nothing : NamesNoAction (action_uids bag) found.0 = λ ty possible action.
-        found.3 ty possible ((ready.names.actions (record { ty = ty; eid = found.0.id })).1 action) in
+        found.3 ty possible ((ready.known.names.actions (record { ty = ty; eid = found.0.id })).1 action) in
         (uid, found.0, rw found.1 at parent, found.2, nothing),
   )
   parent_refused uid reference parent (reserved_name name) refused = absurd refused.1
@@ -257,7 +257,7 @@ module _ (bag : Bag) (extensions : Extensions) (declared : List (PlainUid × Act
     | inl wanting ↦ inl wanting
     | inr (inl one) ↦ elim one.3 [
       | inl wanting ↦ inl wanting
-      | inr (inl expr) ↦ expr_fault bag extensions (extensions_in_scope scope) ready.extensions ready.unreserved expr.0 fault (counted (uid_of one.0) one.1 expr.0 one.2 expr.1)
+      | inr (inl expr) ↦ expr_fault bag extensions (extensions_in_scope scope) ready.known.extensions ready.known.unreserved expr.0 fault (counted (uid_of one.0) one.1 expr.0 one.2 expr.1)
           (expr.2.each (definitions bag extensions) (known_counted (uid_of one.0) one.1 expr.0 one.2 expr.1))
       | inr (inr (inl context)) ↦ inr (rw context.0 (context_fault (uid_of one.0) one.1 one.2 context.1))
       | inr (inr (inr place)) ↦ place_fault (uid_of one.0) one.1 place.0 fault one.2 place.1 place.2
@@ -337,7 +337,7 @@ module _ (bag : Bag) (extensions : Extensions) (declared : List (PlainUid × Act
         no_context_fault uid fault =
             let among = said_definition (by_test is_action_definition) Entries uid (requests fault.0 fault.1 fault.2) refl (rw same_definitions fault.3) in
             let record_context = (sound uid (requests fault.0 fault.1 fault.2) among).record_context in
-            fault.4.2 (rw (elaborated_once (definitions bag extensions) ready.one_definition
+            fault.4.2 (rw (elaborated_once (definitions bag extensions) ready.known.one_definition
             (record_context.1 (definitions bag extensions)
             (known_counted uid (requests fault.0 fault.1 fault.2) fault.2 among refl))
             fault.4.1) at record_context.2)
@@ -361,7 +361,7 @@ module _ (bag : Bag) (extensions : Extensions) (declared : List (PlainUid × Act
           closed = λ uid body expr among counts.
               (sound uid body.applies_to (among_collected uid body among)).closed expr counts;
           extension_types = λ uid body expr among counts word mentioned.
-              rw ready.extensions at
+              rw ready.known.extensions at
               ((sound uid body.applies_to (among_collected uid body among)).extensions expr counts word mentioned);
           resolves = λ uid body expr among counts.
               let there = among_collected uid body among in

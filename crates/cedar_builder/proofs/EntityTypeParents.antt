@@ -73,7 +73,7 @@ module _ (bag : Bag) (extensions : Extensions) (declared : List (PlainName × En
   -- what a reference resolves to over the names in scope it resolves to over those of the bag
   pub resolves : (reference : Reference) (name : PlainName) → ResolvesTo (held_names scope.defs.now) reference name
       → ResolvesTo (defined_names bag extensions) reference name
-  resolves = same_resolves (held_names scope.defs.now) (defined_names bag extensions) ready.names
+  resolves = same_resolves (held_names scope.defs.now) (defined_names bag extensions) ready.known.names
 
   -- each of the parents that are listed is one by a declaration
   pub listed_parent : (name : PlainName) (reference : Reference)

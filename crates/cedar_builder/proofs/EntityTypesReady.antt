@@ -135,7 +135,7 @@ module _ (bag : Bag) (extensions : Extensions) (declared : List Entry)
   -- enough is known for what counts in a declaration
   known_counted : (name : PlainName) (body : EntityBody) (expr : Expr) → Contains Entries (name, body) → CountsInEntity body expr
       → Covers (definitions bag extensions) scope expr
-  known_counted name body expr among counts = ready.knows expr (counted bag name body expr (among_declared name body among) counts)
+  known_counted name body expr among counts = ready.known.knows expr (counted bag name body expr (among_declared name body among) counts)
 
   -- the kind of an entity type is the declared one
   said_kind : (name : PlainName) (body : EntityBody) (kind : EntityTypeKind) → SaysTogether is_entity_definition Entries name body
@@ -183,7 +183,7 @@ module _ (bag : Bag) (extensions : Extensions) (declared : List Entry)
     | inl wanting ↦ inl wanting
     | inr one ↦
         let parent = listed_parent bag extensions declared scope ready one.0 one.1 one.2 in
-        type_fault bag extensions (held_names scope.defs.now) ready.names ready.unreserved one.1 (parent_placed bag one.0 one.1 parent) fault one.3
+        type_fault bag extensions (held_names scope.defs.now) ready.known.names ready.known.unreserved one.1 (parent_placed bag one.0 one.1 parent) fault one.3
   ]
 
   -- a refusal of declarations is a fault of the bag, unless memory ran out
@@ -192,7 +192,7 @@ module _ (bag : Bag) (extensions : Extensions) (declared : List Entry)
     | inl wanting ↦ inl wanting
     | inr (inl one) ↦ elim one.3 [
       | inl wanting ↦ inl wanting
-      | inr (inl expr) ↦ expr_fault bag extensions (extensions_in_scope scope) ready.extensions ready.unreserved expr.0 fault (counted bag (type_name one.0) one.1 expr.0 (among_declared (type_name one.0) one.1 one.2) expr.1)
+      | inr (inl expr) ↦ expr_fault bag extensions (extensions_in_scope scope) ready.known.extensions ready.known.unreserved expr.0 fault (counted bag (type_name one.0) one.1 expr.0 (among_declared (type_name one.0) one.1 one.2) expr.1)
           (expr.2.each (definitions bag extensions) (known_counted (type_name one.0) one.1 expr.0 one.2 expr.1))
       | inr (inr shape) ↦ inr (rw shape.0 (shape_fault (type_name one.0) one.1 one.2 shape.1))
     ]
@@ -406,7 +406,7 @@ module _ (bag : Bag) (extensions : Extensions) (declared : List Entry)
           records = λ name fault. no_shape_fault name fault.0 fault.1 fault.2 fault.3 fault.4;
           closed = λ name body expr among counts. (sound name body (among_collected name body among)).closed expr counts;
           extension_types = λ name body expr among counts word mentioned.
-              rw ready.extensions at ((sound name body (among_collected name body among)).extensions expr counts word mentioned);
+              rw ready.known.extensions at ((sound name body (among_collected name body among)).extensions expr counts word mentioned);
           resolves = λ name body expr among counts reference refers.
               (sound name body (among_collected name body among)).resolves expr counts (definitions bag extensions)
               (known_counted name body expr (among_collected name body among) counts) reference refers;
@@ -423,7 +423,7 @@ module _ (bag : Bag) (extensions : Extensions) (declared : List Entry)
             no_shape_fault name parents shape tags among none =
                 let body = among_collected name (standard parents shape tags) among in
                 let record_shape = (sound name (standard parents shape tags) body).record_shape in
-                none.2 (rw (← elaborated_once (definitions bag extensions) ready.one_definition
+                none.2 (rw (← elaborated_once (definitions bag extensions) ready.known.one_definition
                 (record_shape.1 (definitions bag extensions) (known_counted name (standard parents shape tags) shape body (inl refl)))
                 none.1) tt)
 

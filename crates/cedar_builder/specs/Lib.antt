@@ -1,12 +1,11 @@
 pub mod ActionNodes
 pub mod ActionSteps
-pub mod ActionsReady
 pub mod DeclaredActions
 pub mod DeclaredEntityTypes
 pub mod DeclaredNodes
 pub mod EntityTypeNodes
 pub mod EntityTypeSteps
-pub mod EntityTypesReady
+pub mod Ready
 pub mod SoundActions
 pub mod SoundEntityTypes
 pub mod Words

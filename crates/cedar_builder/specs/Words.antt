@@ -73,12 +73,11 @@ unfoldable pub use Rattle.cedar_types.specs.declared.types.Type.{out-Type, roll-
 pub use Rattle.cedar_types.specs.declared.types.Type.TheVariants.{rolls-Record}
 pub use Rattle.cedar_builder.specs.ActionNodes.{IsElaboratedAction, SameAction}
 pub use Rattle.cedar_builder.specs.ActionSteps.{AreNamed, AreSoundRequests, IsElaboratedKind, IsParentActionFault, IsPlaceFault, IsRequestTypeFault, IsRequestsFault, IsTypeFault, NamesType, is_action_definition, names_in, requests_in}
-pub use Rattle.cedar_builder.specs.ActionsReady.{AreActionsOf}
 pub use Rattle.cedar_builder.specs.DeclaredActions.{AreDeclaredActions}
 pub use Rattle.cedar_builder.specs.DeclaredEntityTypes.{AreDeclaredEntityTypes}
 pub use Rattle.cedar_builder.specs.DeclaredNodes.{AreInOrder, AreLocated, AreReady, IsCollected, IsCollectedAt, IsCollectingFault, IsDefinedAt, IsEdgeOf, IsParentFault, IsPut, Leads, NoneAbove, SaysIf, SaysTogether, at_key, defined_in, definition_in, named, parents_in}
 pub use Rattle.cedar_builder.specs.EntityTypeNodes.{AreLinked, AreTheSame, AreUnlinked, IsAbove, IsEdgeFault, IsEdgeSound, IsElaboratedEntity, IsEnumeratedAt, IsExternalAt, IsLinkFault, IsLinkingFault, EntityTypeLeadsTo, SameType, has_descendant, node_at}
 pub use Rattle.cedar_builder.specs.EntityTypeSteps.{AreElaboratedTags, HasNoRecord, IsBodyFault, IsSoundBody, entry_names, is_entity_definition}
-pub use Rattle.cedar_builder.specs.EntityTypesReady.{IsReady}
+pub use Rattle.cedar_builder.specs.Ready.{AreActionsOf, IsReady}
 pub use Rattle.cedar_builder.specs.SoundActions.{ActionsAreSound}
 pub use Rattle.cedar_builder.specs.SoundEntityTypes.{EntityTypesAreSound}

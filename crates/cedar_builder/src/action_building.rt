@@ -5,7 +5,7 @@ ghost use Rattle.cedar_schema_elements.specs.ValidatorActionId.{AreLocatedAsKeys
 ghost use Rattle.cedar_builder.specs.Words.{ActionsAreSound, AreActionsOf, AreDeclaredActions, Bag, Extensions, IsFault, fault_of, out_of_memory, written_actions};
 
 use crate::action_links::linked_nodes;
-use crate::action_nodes::ActionScope;
+use crate::action_requests::ActionScope;
 use crate::declared_node::collected_nodes;
 use crate::parents::parent_edges;
 use cedar_ast::{EntityType, EntityUID};

@@ -2,26 +2,16 @@
 
 ghost use Rattle.cedar_builder.specs.Words.{ActionReference, AreSoundRequests, IsElaboratedAction, IsParentActionFault, IsRequestsFault, NamesAction, PlainUid, Requests, action_of, fragment_parent, is_action_definition, names_in, uid_of, written_action_body, written_namespace};
 
-use crate::action_requests::elaborated_action;
+use crate::action_requests::{ActionScope, elaborated_action};
 use crate::declared_node::DeclaredNode;
 use crate::parents::HasParents;
-use cedar_ast::{EntityType, EntityUID, M};
-use cedar_elaboration::TypeScope;
+use cedar_ast::{EntityUID, M};
 use cedar_fragments::namespace::{ActionFragment, ActionParent};
 use cedar_name_resolution::Written;
 use cedar_name_resolution::defs::{AllDefs, WrittenName};
-use cedar_schema_elements::{ValidatorActionId, ValidatorEntityType};
+use cedar_schema_elements::ValidatorActionId;
 use cedar_schema_semantics::SchemaError;
-use cedar_table::Table;
 use std::alloc::Global;
-
-/// What the declarations of actions are read over: the entity types of the schema, among which
-/// principals and resources have to be, and what types may name.
-#[derive(Drop)]
-pub(crate) struct ActionScope<'a, 't> {
-    pub(crate) entity_types: &'a Table<EntityType, ValidatorEntityType>,
-    pub(crate) types: &'a TypeScope<'t>,
-}
 
 impl<N: WrittenName> HasParents<EntityUID> for Written<ActionFragment<N, N>> {
     type Parent = ActionParent<N>;
@@ -83,6 +73,6 @@ impl<'a, 't, N: WrittenName + Drop> DeclaredNode<
         fragment: Written<ActionFragment<N, N>>,
         scope: &ActionScope<'a, 't>,
     ) -> Result<ValidatorActionId, SchemaError> {
-        elaborated_action(alloc, name, &fragment, scope.entity_types, scope.types)
+        elaborated_action(alloc, name, &fragment, scope)
     }
 }

@@ -17,6 +17,14 @@ use cedar_table::Table;
 use cedar_types::Type;
 use std::alloc::Global;
 
+/// What the declarations of actions are read over: the entity types of the schema, among which
+/// principals and resources have to be, and what types may name.
+#[derive(Drop)]
+pub(crate) struct ActionScope<'a, 't> {
+    pub(crate) entity_types: &'a Table<EntityType, ValidatorEntityType>,
+    pub(crate) types: &'a TypeScope<'t>,
+}
+
 /// Whether the type is that of records.
 fn is_record(ty: &Type) -> bool
     ensures { IsTrue result ↔ IsRecordType (ty_of ty.now) }
@@ -64,23 +72,24 @@ fn elaborated_definition<N: WrittenName>(
     requests: &ActionRequests<N>,
     namespace: Option<&InternalName>,
     loc: Option<Loc>,
-    entity_types: &Table<EntityType, ValidatorEntityType>,
-    scope: &TypeScope,
+    scope: &ActionScope<'_, '_>,
 ) -> Result<ValidatorActionId, SchemaError>
     ensures elaborates { IfOk result (λ action.
-        IsElaboratedAction scope.now (uid_of uid)
+        IsElaboratedAction scope.now.types.now (uid_of uid)
         (fragment_requests N (N.refer (namespace_name namespace.entry)) (Some requests.now))
         action) }
     ensures loc { IfOk result (λ action. action_loc action ≡ loc) }
-    ensures sound { OnOk result (AreSoundRequests scope.now (names_in entity_types.now)
+    ensures sound { OnOk result (AreSoundRequests scope.now.types.now
+        (names_in scope.now.entity_types.now)
         (fragment_requests N (N.refer (namespace_name namespace.entry)) (Some requests.now))) }
     ensures fault { IfErr result (λ error.
-        IsRequestsFault scope.now (names_in entity_types.now) (uid_of uid)
+        IsRequestsFault scope.now.types.now (names_in scope.now.entity_types.now) (uid_of uid)
         (fragment_requests N (N.refer (namespace_name namespace.entry)) (Some requests.now))
         (fault_of error)) }
 {
-    let context = context_type(alloc, &uid, &requests.context, namespace, scope)?;
-    let defs = scope.defs;
+    let context = context_type(alloc, &uid, &requests.context, namespace, scope.types)?;
+    let entity_types = scope.entity_types;
+    let defs = scope.types.defs;
     let principals = declared_types(alloc, &requests.principals, namespace, entity_types, defs)?;
     let resources = declared_types(alloc, &requests.resources, namespace, entity_types, defs)?;
     let below: Vec<EntityUID> = Vec::new(alloc);
@@ -92,24 +101,24 @@ pub(crate) fn elaborated_action<N: WrittenName>(
     alloc: Global,
     uid: EntityUID,
     fragment: &Written<ActionFragment<N, N>>,
-    entity_types: &Table<EntityType, ValidatorEntityType>,
-    scope: &TypeScope,
+    scope: &ActionScope<'_, '_>,
 ) -> Result<ValidatorActionId, SchemaError>
     ensures elaborates { IfOk result (λ action.
-        IsElaboratedAction scope.now (uid_of uid)
+        IsElaboratedAction scope.now.types.now (uid_of uid)
         (written_action_body N N.refer fragment.now).applies_to action) }
     ensures loc { IfOk result (λ action. action_loc action ≡ fragment.now.declared.loc) }
-    ensures sound { OnOk result (AreSoundRequests scope.now (names_in entity_types.now)
+    ensures sound { OnOk result (AreSoundRequests scope.now.types.now
+        (names_in scope.now.entity_types.now)
         (written_action_body N N.refer fragment.now).applies_to) }
     ensures fault { IfErr result (λ error.
-        IsRequestsFault scope.now (names_in entity_types.now) (uid_of uid)
+        IsRequestsFault scope.now.types.now (names_in scope.now.entity_types.now) (uid_of uid)
         (written_action_body N N.refer fragment.now).applies_to (fault_of error)) }
 {
     match &fragment.declared.requests {
         Some(requests) => {
             let namespace = fragment.namespace();
             let loc = fragment.declared.loc;
-            elaborated_definition(alloc, uid, requests, namespace, loc, entity_types, scope)
+            elaborated_definition(alloc, uid, requests, namespace, loc, scope)
         }
         None => {
             let descendants: Vec<EntityUID> = Vec::new(alloc);

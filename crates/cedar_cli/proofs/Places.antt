@@ -5,24 +5,31 @@ use Rattle.std.proofs.lemmas.List.{map-append}
 use Rattle.std.proofs.lemmas.List.Elements.{All-push}
 use Rattle.std.proofs.lemmas.List.Sorted.{IsPermutation-map}
 use Rattle.std.specs.List.Sorted.{IsPermutation}
+use Rattle.cedar_cli.specs.declared.shape.Place.{Place}
 
-module _ {K M : Type 0} where
+-- the index that a place has
+abbrev pub index_of : Place → ℕ
+index_of place = place.index
+
+-- of places it is given which index each has
+module _ {P M : Type 0} (at : P → ℕ) where
   -- the places of so many members: each has the index of its member
-  abbrev pub AreIndexed : List M → List (K × ℕ) → ℕ → Type 0
-  AreIndexed ms places i = ((d : M) → map (λ place. get_or ms place.1 d) places ≡ take i ms) × All (λ place. place.1 < length ms) places
+  abbrev pub AreIndexed : List M → List P → ℕ → Type 0
+  AreIndexed ms places i = ((d : M) → map (λ place. get_or ms (at place) d) places ≡ take i ms) × All (λ place. at place < length ms) places
 
   -- the place of the next member
-  pub indexed_more : (ms : List M) (places : List (K × ℕ)) (i : ℕ) (key : K) → i < length ms → AreIndexed ms places i
-      → AreIndexed ms (places ++ (key, i) ∷ []) (i + 1)
-  indexed_more ms places i key within known = (
-    (λ d. map-append (λ place. get_or ms place.1 d) places ((key, i) ∷ []) ∙ ap (◌++ get_or ms i d ∷ []) (known.0 d)
+  pub indexed_more : (ms : List M) (places : List P) (i : ℕ) (next : P) → at next ≡ i → i < length ms → AreIndexed ms places i
+      → AreIndexed ms (places ++ next ∷ []) (i + 1)
+  indexed_more ms places i next is within known = (
+    (λ d. map-append (λ place. get_or ms (at place) d) places (next ∷ []) ∙ ap (◌++ get_or ms (at next) d ∷ []) (known.0 d)
+        ∙ ap (λ n. take i ms ++ get_or ms n d ∷ []) is
         ∙ sym (take-suc ms i d within) ∙ ap (λ n. take n ms) (sym (add-one i))),
-    All-push (λ place. place.1 < length ms) places (key, i) known.1 within,
+    All-push (λ place. at place < length ms) places next known.1 (subst (λ n. n < length ms) (sym is) within),
   )
 
   -- sorted places have the indices of all members
-  pub sorted_order : (ms : List M) (made sorted : List (K × ℕ)) → ((d : M) → map (λ place. get_or ms place.1 d) made ≡ ms) → IsPermutation made sorted
-      → (d : M) → IsPermutation ms (map (λ place. get_or ms place.1 d) sorted)
+  pub sorted_order : (ms : List M) (made sorted : List P) → ((d : M) → map (λ place. get_or ms (at place) d) made ≡ ms) → IsPermutation made sorted
+      → (d : M) → IsPermutation ms (map (λ place. get_or ms (at place) d) sorted)
   sorted_order ms made sorted whole moved d =
-      let f : K × ℕ → M = λ place. get_or ms place.1 d in
+      let f : P → M = λ place. get_or ms (at place) d in
       subst (λ from. IsPermutation from (map f sorted)) (whole d) (IsPermutation-map f made sorted moved)

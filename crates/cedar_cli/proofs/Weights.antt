@@ -86,35 +86,35 @@ module _ {A : Type 0} where
   member_has (m ∷ ms) have zero d within = have.0
   member_has (m ∷ ms) have (suc i) d within = member_has ms have.1 i d (omega arith)
 
-  -- what the member at a place weighs
-  abbrev pub place_weight : {K : Type 0} → (Token → ℕ) → List (Bor (List ℕ) × Value A) → K × ℕ → ℕ
-  place_weight weight [] place = 0
-  place_weight weight (m ∷ ms) place = member_weight weight (get_or (m ∷ ms) place.1 m)
+  -- what the member at a place weighs, where it is given which index a place has
+  abbrev pub place_weight : {P : Type 0} → (P → ℕ) → (Token → ℕ) → List (Bor (List ℕ) × Value A) → P → ℕ
+  place_weight at weight [] place = 0
+  place_weight at weight (m ∷ ms) place = member_weight weight (get_or (m ∷ ms) (at place) m)
 
   -- in whatever order the places of members stand, all weigh what the members do
-  pub places_weigh : {K : Type 0} (weight : Token → ℕ) (ms : List (Bor (List ℕ) × Value A)) (places : List (K × ℕ))
-      → ((d : Bor (List ℕ) × Value A) → IsPermutation ms (map (λ place. get_or ms place.1 d) places)) → All (λ place. place.1 < length ms) places
-      → sum_by (place_weight weight ms) places ≡ sum_by (member_weight weight) ms
-  places_weigh weight [] [] moved within = refl
-  places_weigh weight [] (place ∷ places) moved within = absurd (omega (arith, within 0 place (omega arith)))
-  places_weigh weight (m ∷ ms) places moved within =
-      sym (sum_by-map (λ place. get_or (m ∷ ms) place.1 m) (member_weight weight) places)
-      ∙ sum_by-IsPermutation (member_weight weight) (m ∷ ms) (map (λ place. get_or (m ∷ ms) place.1 m) places) (moved m)
+  pub places_weigh : {P : Type 0} (at : P → ℕ) (weight : Token → ℕ) (ms : List (Bor (List ℕ) × Value A)) (places : List P)
+      → ((d : Bor (List ℕ) × Value A) → IsPermutation ms (map (λ place. get_or ms (at place) d) places)) → All (λ place. at place < length ms) places
+      → sum_by (place_weight at weight ms) places ≡ sum_by (member_weight weight) ms
+  places_weigh at weight [] [] moved within = refl
+  places_weigh at weight [] (place ∷ places) moved within = absurd (omega (arith, within 0 place (omega arith)))
+  places_weigh at weight (m ∷ ms) places moved within =
+      sym (sum_by-map (λ place. get_or (m ∷ ms) (at place) m) (member_weight weight) places)
+      ∙ sum_by-IsPermutation (member_weight weight) (m ∷ ms) (map (λ place. get_or (m ∷ ms) (at place) m) places) (moved m)
 
   -- a member that was written, key and value, weighs what its place does
-  pub member_more : {K : Type 0} (weight : Token → ℕ) (ms : List (Bor (List ℕ) × Value A)) (places : List (K × ℕ)) (k : ℕ) (none : K × ℕ)
+  pub member_more : {P : Type 0} (at : P → ℕ) (weight : Token → ℕ) (ms : List (Bor (List ℕ) × Value A)) (places : List P) (k : ℕ) (none : P)
       (m : Bor (List ℕ) × Value A) (before keyed after : List Token) (whole : ℕ)
-      → k < length places → (get_or places k none).1 < length ms → m ≡ get_or ms (get_or places k none).1 m
+      → k < length places → at (get_or places k none) < length ms → m ≡ get_or ms (at (get_or places k none)) m
       → keyed ≡ before ++ key m.0.now ∷ [] → SameTokens after (keyed ++ json_tokens (value_view m.1))
-      → sum_by weight before + sum_by (place_weight weight ms) (drop k places) ≡ whole
-      → sum_by weight after + sum_by (place_weight weight ms) (drop (k + 1) places) ≡ whole
-  member_more weight [] places k none m before keyed after whole here within is keys writes known = absurd (omega arith)
-  member_more weight (first ∷ ms) places k none m before keyed after whole here within is keys writes known =
+      → sum_by weight before + sum_by (place_weight at weight ms) (drop k places) ≡ whole
+      → sum_by weight after + sum_by (place_weight at weight ms) (drop (k + 1) places) ≡ whole
+  member_more at weight [] places k none m before keyed after whole here within is keys writes known = absurd (omega arith)
+  member_more at weight (first ∷ ms) places k none m before keyed after whole here within is keys writes known =
       let place = get_or places k none in
-      let left = ap (sum_by (place_weight weight (first ∷ ms))) (drop-cons places k none here) in
-      let one = sum_by-cons (place_weight weight (first ∷ ms)) place (drop (suc k) places) in
-      let own : place_weight weight (first ∷ ms) place ≡ member_weight weight m =
-      ap (member_weight weight) (get_or_default (first ∷ ms) place.1 first m within ∙ sym is) in
+      let left = ap (sum_by (place_weight at weight (first ∷ ms))) (drop-cons places k none here) in
+      let one = sum_by-cons (place_weight at weight (first ∷ ms)) place (drop (suc k) places) in
+      let own : place_weight at weight (first ∷ ms) place ≡ member_weight weight m =
+      ap (member_weight weight) (get_or_default (first ∷ ms) (at place) first m within ∙ sym is) in
       let split = writes weight ∙ sum_by-append weight keyed (json_tokens (value_view m.1)) in
       let keyed_weight = ap (sum_by weight) keys ∙ sum_by-push weight before (key m.0.now) in
       rw (add-one k) (omega (arith, left, one, own, split, keyed_weight, known))
@@ -134,16 +134,16 @@ module _ {A : Type 0} where
 
   -- what is written of members: the opening bracket, what they weigh in any order, and the closing
   -- bracket
-  pub members_written : {K : Type 0} (old opened passed new : List Token) (ms : List (Bor (List ℕ) × Value A)) (places : List (K × ℕ))
-      → ((d : Bor (List ℕ) × Value A) → IsPermutation ms (map (λ place. get_or ms place.1 d) places)) → All (λ place. place.1 < length ms) places
+  pub members_written : {P : Type 0} (at : P → ℕ) (old opened passed new : List Token) (ms : List (Bor (List ℕ) × Value A)) (places : List P)
+      → ((d : Bor (List ℕ) × Value A) → IsPermutation ms (map (λ place. get_or ms (at place) d) places)) → All (λ place. at place < length ms) places
       → opened ≡ old ++ begin_object ∷ [] → new ≡ passed ++ end_object ∷ []
-      → ((weight : Token → ℕ) → sum_by weight passed ≡ sum_by weight opened + sum_by (place_weight weight ms) places)
+      → ((weight : Token → ℕ) → sum_by weight passed ≡ sum_by weight opened + sum_by (place_weight at weight ms) places)
       → SameTokens new (old ++ begin_object ∷ members_tokens (members_view ms))
-  members_written old opened passed new ms places moved within opens closes all weight =
+  members_written at old opened passed new ms places moved within opens closes all weight =
       let whole = sum_by-append weight old (begin_object ∷ members_tokens (members_view ms)) in
       let first = sum_by-cons weight begin_object (members_tokens (members_view ms)) in
       let inner = members_weigh weight ms in
-      let ordered = places_weigh weight ms places moved within in
+      let ordered = places_weigh at weight ms places moved within in
       let before = ap (sum_by weight) opens ∙ sum_by-push weight old begin_object in
       let after = ap (sum_by weight) closes ∙ sum_by-push weight passed end_object in
       let middle = all weight in

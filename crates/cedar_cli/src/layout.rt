@@ -5,16 +5,13 @@ ghost use Rattle.cedar_cli.specs.Words.{Bor, Global, HasNumbers, IsLayoutFile, I
 ghost use Rattle.json.specs.declared.value.Value.{Value as Tree};
 ghost use Rattle.json.specs.Json.{document as document_of};
 
-use crate::shape::Shape;
+use crate::shape::{Place, Shape};
 use cedar_ast::{M, Memory};
 use json::{Error, Pretty, Scratch, Token, Value};
 use std::alloc::{AllocError, Global};
 
 /// A member of an object.
 type Member<'a> = (&'a str, Value<'a>);
-
-/// What a member is sorted by, and its index.
-type Place<'a> = ((usize, &'a str, &'a str), usize);
 
 /// Writes a value.
 #[cycle(laying_out)]
@@ -50,13 +47,13 @@ fn write_items(pretty: &mut Pretty, shape: Shape, items: &Vec<Value<'_>>) -> Res
 /// The places of the members of an object of a shape, in the order of the format.
 fn in_order<'a>(shape: Shape, members: &Vec<Member<'a>>) -> Result<Vec<Place<'a>>, AllocError>
     ensures order { IfOk result (λ places. (d : Bor Text × Tree Global) → IsPermutation
-        members.now.items (map (λ place. get_or members.now.items place.1 d) places.items)) }
+        members.now.items (map (λ place. get_or members.now.items place.index d) places.items)) }
     ensures within { IfOk result (λ places.
-        All (λ place. place.1 < length members.now.items) places.items) }
+        All (λ place. place.index < length members.now.items) places.items) }
 {
     let mut places = Vec::new(*members.allocator());
     for (index, member) in members.iter().enumerate() {
-        places.push((shape.sorted_by(member.0), index))?;
+        places.push(shape.place(member.0, index))?;
     }
     places.sort()?;
     Ok(places)
@@ -76,7 +73,7 @@ fn write_members(
     pretty.token(Token::BeginObject)?;
     let order = in_order(shape, members)?;
     for place in &order {
-        let member = &members[place.1];
+        let member = &members[place.index];
         pretty.token(Token::Key(member.0))?;
         write(pretty, shape.of_member(member.0), &member.1)?;
     }

@@ -1,5 +1,7 @@
 //! What stands where in a schema (Cedar reference, JSON schema format).
 
+ghost use Rattle.std.specs.Prelude.{◌≡◌};
+
 /// What a value in a schema is.
 #[derive(Clone, Copy, Drop)]
 pub(crate) enum Shape {
@@ -81,6 +83,19 @@ const TYPE: &[(&str, Shape)] = &[
     ("annotations", Shape::Annotations),
 ];
 
+/// Where a member stands in its object: what it is sorted by, and its index.
+#[derive(PartialEq, Eq, PartialOrd, Ord, Drop)]
+pub(crate) struct Place<'a> {
+    /// The rank among the fields of the shape.
+    rank: usize,
+    /// The key, or the base name of a namespace.
+    name: &'a str,
+    /// What stands before the base name of a namespace.
+    path: &'a str,
+    /// The index among the members as they were read.
+    pub(crate) index: usize,
+}
+
 impl Shape {
     /// The fields of an object of this shape, in order, each with its shape.
     fn fields(self) -> &'static [(&'static str, Shape)] {
@@ -95,7 +110,7 @@ impl Shape {
         }
     }
 
-    /// The place of a field among those of the shape; behind all of them where it is none.
+    /// The rank of a field among those of the shape; behind all of them where it is none.
     fn rank(self, key: &str) -> usize {
         let fields = self.fields();
         for (rank, field) in fields.iter().enumerate() {
@@ -128,15 +143,22 @@ impl Shape {
         }
     }
 
-    /// What the member that has this key is sorted by: a namespace by its base name and then by
-    /// what stands before it, a field by its place among those of the shape, and all else by its
-    /// key.
-    pub(crate) fn sorted_by(self, key: &str) -> (usize, &str, &str) {
-        if let Shape::Fragment = self {
-            let (base, path) = base_first(key);
-            return (0, base, path);
+    /// The place of the member that has this key and this index: a namespace is sorted by its base
+    /// name and then by what stands before it, a field by its rank among those of the shape, and
+    /// all else by its key.
+    pub(crate) fn place(self, key: &str, index: usize) -> Place<'_>
+        ensures { result.index ≡ index }
+    {
+        let (rank, (name, path)) = match self {
+            Shape::Fragment => (0, base_first(key)),
+            _ => (self.rank(key), (key, "")),
+        };
+        Place {
+            rank,
+            name,
+            path,
+            index,
         }
-        (self.rank(key), key, "")
     }
 }
 

@@ -21,4 +21,5 @@ pub mod SampledLemmas
 pub mod SortedLemmas
 pub mod StandLemmas
 pub mod TagLemmas
+pub mod UpperLemmas
 pub mod UserLemmas

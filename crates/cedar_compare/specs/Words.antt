@@ -56,7 +56,7 @@ pub use Rattle.cedar_types.specs.Attributes.{plain_attributes}
 pub use Rattle.cedar_types.specs.Meaning.{fields_of, ty_of}
 pub use Rattle.cedar_types.specs.Samples.{value_tree, value_trees}
 pub use Rattle.cedar_types.specs.declared.types.Type.{«Type»}
-pub use Rattle.cedar_compare.specs.Ancestors.{AreActionAncestors, AreActionAncestorsSoFar, AreAncestorsLost, AreAncestorsSoFar, IsActionAncestorSoFar, IsActionAnswer, IsAncestorKept, IsAncestorSoFar, IsListedBy, ListsApart, action_upper_at, upper_at}
+pub use Rattle.cedar_compare.specs.Ancestors.{AreActionAncestors, AreActionAncestorsSoFar, AreAncestorsLost, AreAncestorsSoFar, AreUppersSoFar, IsActionAncestorSoFar, IsActionAnswer, IsAncestorKept, IsAncestorLost, IsAncestorSoFar, IsListedBy, IsUpperSoFar, ListsApart, action_upper_at, kept_under, upper_at}
 pub use Rattle.cedar_compare.specs.Choices.{IsIdOutside, MayHave, choice_texts, kind_choices}
 pub use Rattle.cedar_compare.specs.CompareFault.{IsComparable, IsCompareFault, IsCompleteSchema, IsUnsampledType, IsVersionFault}
 pub use Rattle.cedar_compare.specs.Difference.{AreAnswers, AreLosses, AreTagsOutside, IsActionCause, IsAlike, IsAnswer, IsCauseOfKinds, IsEnvironmentFor, IsLoss, IsTypeCause, KeepsOf, LacksChoice, LosesOf, PlainCause, PlainDifference, Subject, action_above, action_lost, action_subject, attributes_outside, choice_removed, context_outside, entity_lost, environment_subject, removed, request_lost, subject_cmp, subject_of, tags_outside, type_subject}

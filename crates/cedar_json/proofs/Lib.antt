@@ -7,8 +7,10 @@ pub mod KeyLemmas
 pub mod ListLemmas
 pub mod MapBuilderLemmas
 pub mod MapLemmas
+mod MarkLaws
 pub mod NameLemmas
 pub mod NumberLemmas
+mod PlaceLaws
 pub mod ReadLemmas
 pub mod TableLemmas
 pub mod TakenLemmas

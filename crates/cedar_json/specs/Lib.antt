@@ -10,6 +10,7 @@ pub mod MapBuilder
 pub mod Mark
 pub mod Nesting
 pub mod Place
+pub mod PlaceLaws
 pub mod Reading
 pub mod RefusalPlace
 pub mod Repeats

@@ -7,7 +7,7 @@ use crate::annotations::check_declaration;
 use crate::entity_reading::shape_field;
 use crate::fault::{Fault, Row};
 use crate::fields::{check_fields, flag_field};
-use crate::from_json::{FromJson, described_field, optional_field};
+use crate::from_json::{Described, FromJson, described_field, optional_field};
 use crate::from_json_owned::{FromJsonOwned, taken_unless_null};
 use crate::place_table::Cursor;
 use crate::value_reading::read_expr;
@@ -17,13 +17,15 @@ use json::Value;
 use std::alloc::Global;
 use std::collections::BTreeMap;
 
-impl FromJson for ActionEntityUID<RawName> {
+impl Described for ActionEntityUID<RawName> {
     ghost Plain = { WrittenParent };
 
     ghost describes = { parent_of };
 
     ghost shown = { written_parent };
+}
 
+impl FromJson for ActionEntityUID<RawName> {
     /// The parent that a value describes.
     fn read(
         alloc: Global,
@@ -41,13 +43,15 @@ impl FromJson for ActionEntityUID<RawName> {
     }
 }
 
-impl FromJson for ApplySpec<RawName> {
+impl Described for ApplySpec<RawName> {
     ghost Plain = { Requests };
 
     ghost describes = { requests_of };
 
     ghost shown = { written_requests };
+}
 
+impl FromJson for ApplySpec<RawName> {
     /// The requests that a value describes.
     fn read(
         alloc: Global,
@@ -66,13 +70,15 @@ impl FromJson for ApplySpec<RawName> {
     }
 }
 
-impl FromJsonOwned for CedarValue {
+impl Described for CedarValue {
     ghost Plain = { Tree };
 
     ghost describes = { value_of };
 
     ghost shown = { λ it. tree_of (value_expr it) };
+}
 
+impl FromJsonOwned for CedarValue {
     /// The value of an attribute that a JSON value describes.
     fn take(
         alloc: Global,
@@ -84,13 +90,15 @@ impl FromJsonOwned for CedarValue {
     }
 }
 
-impl FromJsonOwned for ActionType<RawName> {
+impl Described for ActionType<RawName> {
     ghost Plain = { WrittenAction };
 
     ghost describes = { action_of };
 
     ghost shown = { written_action };
+}
 
+impl FromJsonOwned for ActionType<RawName> {
     /// The declaration of an action that a value describes.
     fn take(
         alloc: Global,

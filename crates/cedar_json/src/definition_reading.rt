@@ -8,6 +8,7 @@ ghost use Rattle.cedar_ast.proofs.Names.{name_ord-name_cmp};
 
 use crate::annotations::{check_annotations, check_declaration};
 use crate::fault::{Fault, FaultKind, Row};
+use crate::from_json::Described;
 use crate::from_json_owned::{FromJsonOwned, Key, taken_field, taken_or_else};
 use crate::place_table::Cursor;
 use crate::type_reading::read_type_of;
@@ -17,13 +18,15 @@ use json::Value;
 use std::alloc::Global;
 use std::collections::BTreeMap;
 
-impl FromJsonOwned for CommonType<RawName> {
+impl Described for CommonType<RawName> {
     ghost Plain = { Expr };
 
     ghost describes = { common_type_of };
 
     ghost shown = { λ it. raw_expr None it.ty };
+}
 
+impl FromJsonOwned for CommonType<RawName> {
     /// The common type that a value describes.
     fn take(
         alloc: Global,
@@ -122,13 +125,15 @@ impl Key for String {
     }
 }
 
-impl FromJsonOwned for NamespaceDefinition<RawName> {
+impl Described for NamespaceDefinition<RawName> {
     ghost Plain = { WrittenDefinition };
 
     ghost describes = { definition_of };
 
     ghost shown = { written_definition };
+}
 
+impl FromJsonOwned for NamespaceDefinition<RawName> {
     /// The definition of a namespace that a value describes.
     fn take(
         alloc: Global,

@@ -8,7 +8,7 @@ ghost use Rattle.cedar_json.specs.Words.{Entity, IsReadFrom, Reference, Text, Wr
 use crate::annotations::check_annotations;
 use crate::fault::{Expected, Fault, FaultKind, Row};
 use crate::fields::{check_fields, flag_field};
-use crate::from_json::{FromJson, field_or_else};
+use crate::from_json::{Described, FromJson, field_or_else};
 use crate::from_json_owned::FromJsonOwned;
 use crate::place_table::Cursor;
 use crate::spelling::read_name;
@@ -21,13 +21,15 @@ use json::Value;
 use std::alloc::Global;
 use std::collections::BTreeMap;
 
-impl FromJson for RawName {
+impl Described for RawName {
     ghost Plain = { Reference };
 
     ghost describes = { entity_reference };
 
     ghost shown = { raw_reference None Entity };
+}
 
+impl FromJson for RawName {
     /// The name of an entity type that a value spells.
     fn read(alloc: Global, value: &Value<'_>, cursor: Cursor<'_>) -> Result<RawName, Fault> {
         match value.as_str() {
@@ -37,13 +39,15 @@ impl FromJson for RawName {
     }
 }
 
-impl FromJson for Eid {
+impl Described for Eid {
     ghost Plain = { Text };
 
     ghost describes = { as_str };
 
     ghost shown = { eid_text };
+}
 
+impl FromJson for Eid {
     /// The id that a value is.
     fn read(alloc: Global, value: &Value<'_>, _cursor: Cursor<'_>) -> Result<Eid, Fault> {
         match value.as_str() {
@@ -139,13 +143,15 @@ fn read_kind(
     }
 }
 
-impl FromJsonOwned for EntityType<RawName> {
+impl Described for EntityType<RawName> {
     ghost Plain = { WrittenEntity };
 
     ghost describes = { entity_of };
 
     ghost shown = { written_entity };
+}
 
+impl FromJsonOwned for EntityType<RawName> {
     /// The declaration of an entity type that a value describes.
     fn take(
         alloc: Global,

@@ -13,21 +13,24 @@ use crate::place_table::Cursor;
 use json::Value;
 use std::alloc::Global;
 
-/// What a JSON value describes.
+/// What JSON values describe of a kind.
 ///
 /// The ghost members are what contracts speak of: the plain data, that of a JSON value, and that of
 /// what is read.
-pub(crate) trait FromJson: Sized {
+pub(crate) trait Described: Sized {
     ghost Plain: { Type 0 };
 
     ghost describes: { Json → Option Plain };
 
     ghost shown: { Self → Plain };
+}
 
+/// What a JSON value describes.
+pub(crate) trait FromJson: Described {
     /// What the value describes.
     fn read(alloc: Global, value: &Value<'_>, cursor: Cursor<'_>) -> Result<Self, Fault>
         ensures { IsReadFrom (value_view value.now)
-            (describes (value_view value.now)) shown result };
+            (Self.describes (value_view value.now)) Self.shown result };
 }
 
 /// What some items describe.
@@ -48,13 +51,15 @@ fn read_items<T: FromJson + Drop>(
     Ok(all)
 }
 
-impl<T: FromJson + Drop> FromJson for Vec<T> {
+impl<T: Described> Described for Vec<T> {
     ghost Plain = { List T.Plain };
 
     ghost describes = { λ j. option_and_then (all_of T.describes) (as_array j) };
 
     ghost shown = { λ all. map T.shown all.items };
+}
 
+impl<T: FromJson + Drop> FromJson for Vec<T> {
     fn read(alloc: Global, value: &Value<'_>, cursor: Cursor<'_>) -> Result<Vec<T>, Fault> {
         match value {
             Value::Array(items) => read_items::<T>(alloc, items, cursor),
@@ -63,13 +68,15 @@ impl<T: FromJson + Drop> FromJson for Vec<T> {
     }
 }
 
-impl<T: FromJson + Drop> FromJson for Option<T> {
+impl<T: Described> Described for Option<T> {
     ghost Plain = { Option T.Plain };
 
     ghost describes = { λ j. option_map Some (T.describes j) };
 
     ghost shown = { option_map T.shown };
+}
 
+impl<T: FromJson + Drop> FromJson for Option<T> {
     /// What the value describes, where absence describes nothing.
     fn read(alloc: Global, value: &Value<'_>, cursor: Cursor<'_>) -> Result<Option<T>, Fault> {
         Ok(Some(T::read(alloc, value, cursor)?))

@@ -10,7 +10,7 @@ ghost use Rattle.json.specs.Value.{members_view, value_view};
 ghost use Rattle.cedar_json.specs.Words.{IsEntryPut, IsReadFrom, IsReadWhere, IsTrueOf, Text, entries_in, entries_of, field_or, member_at, optional};
 
 use crate::fault::{Expected, Fault, FaultKind, Step};
-use crate::from_json::written;
+use crate::from_json::{Described, written};
 use crate::map_builder::MapBuilder;
 use crate::place_table::Cursor;
 use json::Value;
@@ -19,19 +19,11 @@ use std::collections::BTreeMap;
 use std::mem;
 
 /// What a JSON value describes that goes while it is read.
-///
-/// The ghost members are those of `FromJson`.
-pub(crate) trait FromJsonOwned: Sized {
-    ghost Plain: { Type 0 };
-
-    ghost describes: { Json → Option Plain };
-
-    ghost shown: { Self → Plain };
-
+pub(crate) trait FromJsonOwned: Described {
     /// What the value describes, of which anything may be left.
     fn take(alloc: Global, value: &mut Value<'_>, cursor: Cursor<'_>) -> Result<Self, Fault>
         ensures { IsReadFrom (value_view value.old)
-            (describes (value_view value.old)) shown result };
+            (Self.describes (value_view value.old)) Self.shown result };
 }
 
 /// What a key of an object stands for, under which a map holds what the member describes.
@@ -115,13 +107,15 @@ fn take_entries<K: Key + Drop, T: FromJsonOwned + Drop>(
     all.finish()
 }
 
-impl<K: Key + Drop, T: FromJsonOwned + Drop> FromJsonOwned for BTreeMap<K, T> {
+impl<K: Key, T: Described> Described for BTreeMap<K, T> {
     ghost Plain = { List (K.PlainKey × T.Plain) };
 
     ghost describes = { entries_in K.order K.key_of T.describes };
 
     ghost shown = { λ all. map (λ entry. (K.shown_key entry.0, T.shown entry.1)) all.entries };
+}
 
+impl<K: Key + Drop, T: FromJsonOwned + Drop> FromJsonOwned for BTreeMap<K, T> {
     fn take(
         alloc: Global,
         value: &mut Value<'_>,

@@ -4,7 +4,8 @@
 //! keeps where it stands in the text. A refusal ([`JsonSchemaFault`]) says what is wrong and where
 //! ([`Place`], [`FaultKind`]). [`cedar_extensions`] gives Cedar's own extension types and
 //! functions. [`place_of`] and [`second_place_of`] say where to point in the text for a refusal of
-//! the builder, by a table of what is written in it ([`Places`]).
+//! the builder, by a table of what is written in it ([`Places`]). [`theorems`] has laws of these
+//! places.
 #![tactic(auto)]
 
 mod action_reading;
@@ -24,6 +25,7 @@ mod repeated_keys;
 mod spelling;
 mod stop;
 mod text_reading;
+pub mod theorems;
 mod type_reading;
 mod value_place;
 mod value_reading;

@@ -8,7 +8,7 @@ ghost use Rattle.cedar_json.specs.Words.{Common, Expr, IsReadFrom, IsTrueOf, add
 use crate::annotations::check_annotations;
 use crate::fault::{Fault, Row};
 use crate::fields::{check_fields, field, flag_field, object_field, text_field};
-use crate::from_json::{FromJson, described_field};
+use crate::from_json::{Described, FromJson, described_field};
 use crate::gathering::put_read;
 use crate::place_table::Cursor;
 use crate::spelling::{read_name, read_unreserved_id};
@@ -67,13 +67,15 @@ fn common_type(
     }
 }
 
-impl FromJson for Type<RawName> {
+impl Described for Type<RawName> {
     ghost Plain = { Expr };
 
     ghost describes = { type_of };
 
     ghost shown = { raw_expr None };
+}
 
+impl FromJson for Type<RawName> {
     /// The type that a JSON value describes.
     fn read(alloc: Global, value: &Value<'_>, cursor: Cursor<'_>) -> Result<Type<RawName>, Fault> {
         read_type_of(alloc, value, Row::OfType, cursor)

@@ -1,12 +1,11 @@
 -- The keys of entries whose values pass a test, one entry after another, and their order.
 use Rattle.std.proofs.Common.{◌≡◌, ◌≤◌, Bool, true, false, cond, List, [], ◌∷◌, length, map, ap, refl, arith, inl, inr, ◌∙◌, Contains}
-use Rattle.std.proofs.lemmas.List.{length-map}
 use Rattle.std.specs.List.{AllByRecursion, filter}
 use Rattle.std.specs.List.Sorted.{IsStrictlySortedBy}
 use Rattle.std.specs.declared.cmp.Ordering.{Ordering}
 use Rattle.std.specs.declared.cmp.Ordering.TheVariants.{Less}
 use Rattle.cedar_ast.proofs.Lists.{Contains-cons, Contains-cons_cases}
-use Rattle.cedar_queries.specs.Selected.{keys_where}
+use Rattle.cedar_queries.specs.Selected.{entries_where, keys_where, values_where}
 
 -- the keys of entries in another form are the keys in that form
 pub keys_where-map : {K V L W : Type 0} (f : K → L) (g : V → W) (test : W → Bool) (entries : List (K × V))
@@ -50,11 +49,16 @@ few_kept p (item ∷ rest) =
     elim (p item) as (λ b. length (cond b (item ∷ filter p rest) (filter p rest)) ≤ length (item ∷ rest))
     [ true ↦ omega (arith, others) | false ↦ omega (arith, others) ]
 
--- there are no more keys than entries
-pub few_keys : {K V : Type 0} (test : V → Bool) (entries : List (K × V)) → length (keys_where test entries) ≤ length entries
-few_keys test entries =
-    let kept = few_kept (λ entry. test entry.1) entries in
-    rw (length-map (filter (λ entry. test entry.1) entries) (λ entry. entry.0)) kept
+-- the values of entries that pass a test are those values that pass
+pub entries_where-values : {K V : Type 0} (test : V → Bool) (entries : List (K × V))
+    → map (λ entry. entry.1) (entries_where test entries) ≡ values_where test entries
+entries_where-values test [] = refl
+entries_where-values {K} {V} test (entry ∷ rest) =
+    let others = entries_where-values test rest in
+    let first : List (K × V) = entries_where test rest in
+    let last : List V = values_where test rest in
+    elim (test entry.1) as (λ b. map (λ it. it.1) (cond b (entry ∷ first) first) ≡ cond b (entry.1 ∷ last) last)
+    [ true ↦ ap (λ values. entry.1 ∷ values) others | false ↦ others ]
 
 -- an item of a list that passes a test is kept
 pub Contains-kept : {A : Type 0} (p : A → Bool) (items : List A) (item : A) → Contains items item → p item ≡ true

@@ -49,7 +49,8 @@ lent_declaration (variant.Action action) = unresolved_action action.now
 
 -- what an iterator over unresolved declarations has left
 abbrev pub unresolved_left : UnresolvedDeclarations → List Unresolved
-unresolved_left it = map unresolved_type it.types ++ map unresolved_action it.actions
+unresolved_left it = map unresolved_type (map (λ entry. entry.1) it.types)
+    ++ map unresolved_action (map (λ entry. entry.1) it.actions)
 
 -- where something that is defined elsewhere was declared
 abbrev pub unresolved_loc : Unresolved → Option Loc

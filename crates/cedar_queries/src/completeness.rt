@@ -7,7 +7,7 @@ ghost use Rattle.std.specs.List.Sorted.{IsPermutation, IsSorted};
 ghost use Rattle.cedar_queries.specs.Words.{IsIncomplete, complete_error_text, external_action_text, external_type_text, incomplete_text, loc_of_first, type_name, uid_of, unresolved, values_where};
 
 use crate::descent::{Actions, EntityTypes};
-use crate::selected::Test;
+use crate::selected::{SelectedEntries, Test};
 use crate::tests_of_values::IsExternal;
 use crate::unresolved::{UnresolvedDeclaration, is_complete, unresolved_declarations};
 use cedar_ast::{EntityType, EntityUID, Loc, M, Memory, QuickHash};
@@ -112,10 +112,8 @@ fn selected_names<K: Ord + Hash + QuickHash, V: SchemaNode<K>, T: Test<V>>(
         ≡ map V.node_name (values_where (T.holds test) nodes.now.entries)) }
 {
     let mut names = Vec::new(alloc);
-    for node in nodes.values() {
-        if test.passes(node) {
-            names.push(node.name())?;
-        }
+    for (_, node) in SelectedEntries::new(nodes, test) {
+        names.push(node.name())?;
     }
     Ok(names)
 }

@@ -5,7 +5,7 @@ ghost use Rattle.std.specs.Iterator.{YieldsFirstBy, item_count};
 ghost use Rattle.cedar_queries.specs.Unresolved.{lent_declaration, unresolved, unresolved_left};
 
 use crate::descent::{Actions, EntityTypes};
-use crate::selected::SelectedValues;
+use crate::selected::SelectedEntries;
 use crate::tests_of_values::IsExternal;
 use cedar_ast::{EntityType, EntityUID};
 use cedar_schema_elements::{ValidatorActionId, ValidatorEntityType};
@@ -24,8 +24,8 @@ pub enum UnresolvedDeclaration<'a> {
 /// order.
 #[derive(Drop)]
 pub struct UnresolvedDeclarations<'a> {
-    types: SelectedValues<'a, ValidatorEntityType, IsExternal>,
-    actions: SelectedValues<'a, ValidatorActionId, IsExternal>,
+    types: SelectedEntries<'a, EntityType, ValidatorEntityType, IsExternal>,
+    actions: SelectedEntries<'a, EntityUID, ValidatorActionId, IsExternal>,
 }
 
 impl<'a> Iterator for UnresolvedDeclarations<'a> {
@@ -36,10 +36,10 @@ impl<'a> Iterator for UnresolvedDeclarations<'a> {
     ghost remaining = { item_count unresolved_left };
 
     fn next(&mut self) -> Option<UnresolvedDeclaration<'a>> {
-        if let Some(ty) = self.types.next() {
+        if let Some((_, ty)) = self.types.next() {
             return Some(UnresolvedDeclaration::EntityType(ty));
         }
-        let action = self.actions.next()?;
+        let (_, action) = self.actions.next()?;
         Some(UnresolvedDeclaration::Action(action))
     }
 }
@@ -54,10 +54,9 @@ pub fn unresolved_declarations<'a>(
 ) -> UnresolvedDeclarations<'a>
     ensures { unresolved_left result ≡ unresolved types.now.entries actions.now.entries }
 {
-    UnresolvedDeclarations {
-        types: SelectedValues::new(types, IsExternal),
-        actions: SelectedValues::new(actions, IsExternal),
-    }
+    let types = SelectedEntries::new(types, IsExternal);
+    let actions = SelectedEntries::new(actions, IsExternal);
+    UnresolvedDeclarations { types, actions }
 }
 
 /// Whether nothing is declared elsewhere.

@@ -1,4 +1,5 @@
 mod AllYielded
+mod BuiltNames
 mod BuiltOver
 mod ClosedTwice
 mod CollectedBags

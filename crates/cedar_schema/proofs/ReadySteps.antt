@@ -2,7 +2,7 @@
 use Rattle.std.proofs.Common.{◌≡◌, List, map, ap, sym, subst, Contains}
 use Rattle.cedar_ast.proofs.Lists.{Contains-preimage}
 use Rattle.cedar_schema.proofs.KnownBags.{knows_all}
-use Rattle.cedar_schema.specs.Words.{ActionBody, AreActionsOf, AreDeclaredEntityTypes, AreElaborated, AreTypesOf, Bag, CommonTypesAreSound, EntityBody, EntityType, Entries, Expr, Extensions, HoldsJust, IsNamedOver, IsReady, IsReserved, Names, PlainName, PlainUid, TypeScope, ValidatorEntityType, declared_actions, declared_common, declared_entities, defined_names, definitions, elaborated_types, extension_types, held_names, type_name}
+use Rattle.cedar_schema.specs.Words.{ActionBody, AreActionsOf, AreDeclaredEntityTypes, AreElaborated, AreTypesOf, Bag, CommonTypesAreSound, EntityBody, EntityType, Entries, Expr, Extensions, HoldsJust, IsNamedOver, IsReady, IsReserved, IsScopeOf, Names, PlainName, PlainUid, TypeScope, ValidatorEntityType, declared_actions, declared_common, declared_entities, defined_names, definitions, elaborated_types, extension_types, held_names, type_name}
 use Rattle.cedar_schema_semantics.proofs.BuiltInLemmas.{one_definition}
 use Rattle.cedar_schema_semantics.proofs.TogetherLemmas.{said_is_declared}
 
@@ -29,15 +29,21 @@ module _ (bag : Bag) (given : Extensions) (held : Names) (built_in : List (Plain
         let P : Names → Type 0 = λ each. HoldsJust each (defined_names bag given) in
         subst P (sym known_names) over.names
 
-    -- the entity types can be built
-    pub ready : IsReady bag given entity_types known
-    ready = record {
-      entities = is_entities;
+    -- what is in scope is that of the bag
+    known_of : IsScopeOf bag given known
+    known_of = record {
       names = known_same;
       knows = λ expr counted. knows_all bag given known known_same written expr;
       extensions = ap extension_types extensions_in_scope;
       one_definition = one_definition bag given over.fit sound.once;
       unreserved = unreserved;
+    }
+
+    -- the entity types can be built
+    pub ready : IsReady bag given entity_types known
+    ready = record {
+      entities = is_entities;
+      known = known_of;
     }
 
     -- the actions can be built
@@ -53,9 +59,5 @@ module _ (bag : Bag) (given : Extensions) (held : Names) (built_in : List (Plain
             subst P found.2 (said_is_declared bag (type_name found.0.0) it.body it.says),
         declared.complete name,
       );
-      names = known_same;
-      knows = λ expr counted. knows_all bag given known known_same written expr;
-      extensions = ap extension_types extensions_in_scope;
-      one_definition = one_definition bag given over.fit sound.once;
-      unreserved = unreserved;
+      known = known_of;
     }

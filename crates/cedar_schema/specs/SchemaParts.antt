@@ -6,4 +6,4 @@ use Rattle.cedar_schema_semantics.specs.PlainSchema.{PlainSchema}
 -- what a schema holds, as plain data
 abbrev pub parts_schema : SchemaParts → PlainSchema
 parts_schema parts =
-    schema_listing (map plain_entry parts.entity_types.entries) parts.actions.entries
+    schema_listing (map plain_entry parts.tables.entity_types.entries) parts.tables.actions.entries

@@ -18,10 +18,9 @@ pub use Rattle.cedar_ast.specs.declared.extension.Extensions.{Extensions}
 pub use Rattle.cedar_ast.specs.declared.internal_name.InternalName.{InternalName}
 pub use Rattle.cedar_ast.specs.declared.loc.Loc.{Loc}
 pub use Rattle.cedar_ast.specs.declared.validation_mode.ValidationMode.TheVariants.{Permissive}
-pub use Rattle.cedar_builder.specs.ActionsReady.{AreActionsOf}
 pub use Rattle.cedar_builder.specs.DeclaredActions.{AreDeclaredActions}
 pub use Rattle.cedar_builder.specs.DeclaredEntityTypes.{AreDeclaredEntityTypes}
-pub use Rattle.cedar_builder.specs.EntityTypesReady.{IsReady}
+pub use Rattle.cedar_builder.specs.Ready.{AreActionsOf, IsReady, IsScopeOf}
 pub use Rattle.cedar_builder.specs.SoundActions.{ActionsAreSound}
 pub use Rattle.cedar_builder.specs.SoundEntityTypes.{EntityTypesAreSound}
 pub use Rattle.cedar_elaboration.specs.DeclaredTypes.{AreElaborated, AreTypesOf}

@@ -7,25 +7,22 @@ ghost use Rattle.cedar_schema.specs.Words.{AreKeysLocated, AreShown, AreCollecte
 use crate::collected_fragments::CollectedFragments;
 use crate::collecting::Located;
 use crate::shared::Shared;
-use cedar_ast::{EntityType, EntityUID, Extensions};
+use cedar_ast::Extensions;
 use cedar_builder::{actions, entity_types};
 use cedar_elaboration::{SharedTypes, TypeScope, defined_common_types};
 use cedar_fragments::namespace::ValidatorSchemaFragment;
 use cedar_fragments::{CollectedDeclarations, Declarations};
 use cedar_name_resolution::defs::{AllDefs, WrittenName};
 use cedar_name_resolution::{DeclaredCommonType, DefinedNames, defined_names};
-use cedar_schema_elements::{ValidatorActionId, ValidatorEntityType};
 use cedar_schema_semantics::SchemaError;
-use cedar_table::Table;
+use cedar_validation::Parts;
 use std::alloc::Global;
 
-/// What a schema holds: its entity types and its actions, each under its name.
-#[derive(Debug, Drop)]
+/// What a schema holds, and what it shows of its fragments.
+#[derive(Drop)]
 pub(crate) struct SchemaParts {
-    /// The entity types, each with all its descendants.
-    pub(crate) entity_types: Table<EntityType, ValidatorEntityType>,
-    /// The actions, each with all its descendants.
-    pub(crate) actions: Table<EntityUID, ValidatorActionId>,
+    /// The entity types and the actions, each with all its descendants.
+    pub(crate) tables: Parts,
     /// The common types and namespaces of the fragments, with where these were written.
     pub(crate) located: Shared<Located>,
 }
@@ -48,7 +45,7 @@ fn build_named<N: WrittenName + Drop>(
         (parts_schema parts)) }
     ensures located { IfOk result (λ parts. parts.located ≡ located) }
     ensures keys { IfOk result (λ parts.
-        AreKeysLocated parts.entity_types.entries parts.actions.entries) }
+        AreKeysLocated parts.tables.entity_types.entries parts.tables.actions.entries) }
     ensures well_formed { OnOk result ((fragments : List (Fragment N N))
         → Collects N N.refer (written_bag N N.refer fragments) declarations
         → IsNamedOver (written_bag N N.refer fragments) extensions.now (held_names defs.now)
@@ -78,11 +75,11 @@ fn build_named<N: WrittenName + Drop>(
     let actions = actions(alloc, declared_actions, &entity_types, &known)?;
     entity_types.keys_ascend();
     actions.keys_ascend();
-    Ok(SchemaParts {
+    let tables = Parts {
         entity_types,
         actions,
-        located,
-    })
+    };
+    Ok(SchemaParts { tables, located })
 }
 
 /// What was taken over of fragments gives over some extensions, whose names of extension types have
@@ -104,7 +101,7 @@ pub(crate) fn build_collected<N: WrittenName + Drop>(
     ensures located { IfOk result (λ parts. (fragments : List (Fragment N N))
         → AreCollectedFragments N N.refer fragments taken → AreShown N N fragments parts.located) }
     ensures keys { IfOk result (λ parts.
-        AreKeysLocated parts.entity_types.entries parts.actions.entries) }
+        AreKeysLocated parts.tables.entity_types.entries parts.tables.actions.entries) }
 {
     let CollectedFragments { located, gathered } = taken;
     let CollectedDeclarations {
@@ -133,7 +130,7 @@ pub(crate) fn build<N: WrittenName + Drop>(
         (result_map_both parts_schema fault_of result) }
     ensures located { IfOk result (λ parts. AreShown N N fragments.items parts.located) }
     ensures keys { IfOk result (λ parts.
-        AreKeysLocated parts.entity_types.entries parts.actions.entries) }
+        AreKeysLocated parts.tables.entity_types.entries parts.tables.actions.entries) }
 {
     let mut taken = CollectedFragments::with_room(alloc, fragments.len())?;
     for fragment in fragments {

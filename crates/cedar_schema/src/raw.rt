@@ -30,7 +30,7 @@ pub(crate) fn build_raw(
         NamesAllOfADefinition fragments.items (fault_of error)) }
     ensures located { IfOk result (λ parts. ShowsWritten fragments.items parts.located) }
     ensures keys { IfOk result (λ parts.
-        AreKeysLocated parts.entity_types.entries parts.actions.entries) }
+        AreKeysLocated parts.tables.entity_types.entries parts.tables.actions.entries) }
 {
     let unqualified = UnqualifiedActionType::new(alloc)?;
     let mut taken = CollectedFragments::with_room(alloc, fragments.len())?;

@@ -144,18 +144,20 @@ impl ValidatorSchema {
     /// The schema of what was built, with its environments.
     fn from_parts(alloc: Global, parts: SchemaParts) -> M<Self>
         requires under_names { StandsUnderItsNames (parts_schema parts) }
-        requires keys { AreKeysLocated parts.entity_types.entries parts.actions.entries }
+        requires keys { AreKeysLocated parts.tables.entity_types.entries
+            parts.tables.actions.entries }
         ensures schema { IfOk result (λ schema. schema_of schema ≡ parts_schema parts) }
         ensures entity_types { IfOk result (λ schema.
-            schema_entries schema ≡ parts.entity_types.entries) }
-        ensures actions { IfOk result (λ schema. action_entries schema ≡ parts.actions.entries) }
+            schema_entries schema ≡ parts.tables.entity_types.entries) }
+        ensures actions { IfOk result (λ schema.
+            action_entries schema ≡ parts.tables.actions.entries) }
         ensures located { IfOk result (λ schema. located_of schema ≡ parts.located) }
     {
-        let SchemaParts {
+        let SchemaParts { tables, located } = parts;
+        let Parts {
             entity_types,
             actions,
-            located,
-        } = parts;
+        } = tables;
         let environments = environments(alloc, &actions)?;
         entity_types.keys_ascend();
         actions.keys_ascend();
@@ -375,8 +377,10 @@ impl ValidatorSchema {
         let entity_types = types_by_name(alloc, Vec::from_iter(alloc, entity_types)?)?;
         let actions = actions_by_uid(alloc, Vec::from_iter(alloc, actions)?)?;
         let parts = SchemaParts {
-            entity_types,
-            actions,
+            tables: Parts {
+                entity_types,
+                actions,
+            },
             located: Shared::new(alloc, Located::nothing(alloc))?,
         };
         ValidatorSchema::from_parts(alloc, parts)
@@ -410,15 +414,8 @@ impl ValidatorSchema {
             AreKeysLocated (schema_entries schema) (action_entries schema)) }
     {
         let ValidatorSchema { content, located } = self;
-        let Parts {
-            entity_types,
-            actions,
-        } = validated(alloc, content, extensions)?;
-        let parts = SchemaParts {
-            entity_types,
-            actions,
-            located,
-        };
+        let tables = validated(alloc, content, extensions)?;
+        let parts = SchemaParts { tables, located };
         Ok(ValidatorSchema::from_parts(alloc, parts)?)
     }
 
@@ -442,8 +439,10 @@ impl ValidatorSchema {
         let alloc = *content.environments.allocator();
         let actions = copied_actions(&content.action_ids)?;
         let parts = SchemaParts {
-            entity_types: copied_types(&content.entity_types)?,
-            actions,
+            tables: Parts {
+                entity_types: copied_types(&content.entity_types)?,
+                actions,
+            },
             located: Shared::new(alloc, self.located.value().clone()?)?,
         };
         ValidatorSchema::from_parts(alloc, parts)

@@ -21,11 +21,11 @@ returns-in_err-context-clause-fault g c =
 pub returns-in_err-principals-clause-fault : goal.returns-in_err-principals-clause-fault
 returns-in_err-principals-clause-fault g c =
     let refer = g.N.WrittenName.refer (namespace_name c.args.namespace) in
-    let types = names_in c.args.entity_types.now in
+    let types = names_in c.args.scope.now.entity_types.now in
     let fault = fault_of c.in_err-principals.field-0.0 in
     let it = c.args.requests.now in
     exit_holds _ _ _ c.from_residual-in_err-principals.ensures.1
-    (principals_fault c.args.scope.now types (uid_of c.args.uid) (map (refer Entity) it.principals.items)
+    (principals_fault c.args.scope.now.types.now types (uid_of c.args.uid) (map (refer Entity) it.principals.items)
     (map (refer Entity) it.resources.items) (type_expr g.row.N.Denot refer it.context) fault
     (rw c.deref.ensures.value at c.in_err-principals.ensures.fault))
 
@@ -33,11 +33,11 @@ returns-in_err-principals-clause-fault g c =
 pub returns-in_err-resources-clause-fault : goal.returns-in_err-resources-clause-fault
 returns-in_err-resources-clause-fault g c =
     let refer = g.N.WrittenName.refer (namespace_name c.args.namespace) in
-    let types = names_in c.args.entity_types.now in
+    let types = names_in c.args.scope.now.entity_types.now in
     let fault = fault_of c.in_err-resources.field-0.0 in
     let it = c.args.requests.now in
     exit_holds _ _ _ c.from_residual-in_err-resources.ensures.1
-    (resources_fault c.args.scope.now types (uid_of c.args.uid) (map (refer Entity) it.principals.items)
+    (resources_fault c.args.scope.now.types.now types (uid_of c.args.uid) (map (refer Entity) it.principals.items)
     (map (refer Entity) it.resources.items) (type_expr g.row.N.Denot refer it.context) fault
     (rw c.deref-2.ensures.value at c.in_err-resources.ensures.fault))
 
@@ -51,7 +51,7 @@ returns-clause-elaborates g c =
     let from = made.ensures.descendants in
     record {
       uid = made.ensures.uid;
-      kind = kind_elaborated c.args.scope.now (map (refer Entity) it.principals.items) (map (refer Entity) it.resources.items)
+      kind = kind_elaborated c.args.scope.now.types.now (map (refer Entity) it.principals.items) (map (refer Entity) it.resources.items)
           (type_expr g.row.N.Denot refer it.context) (ty_of c.in_ok-context.context) (action_of made.field-0).kind
           (rw (is, ← c.deref.ensures.value) c.in_ok-principals.ensures.names)
           (rw (is, ← c.deref-2.ensures.value) c.in_ok-resources.ensures.names)

@@ -1,5 +1,6 @@
 use Rattle.std.proofs.Common.{◌≡◌, ℕ, ◌+◌, drop, length}
 use Rattle.std.specs.List.{sum_by}
+use Rattle.cedar_cli.proofs.Places.{index_of}
 use Rattle.cedar_cli.proofs.Weights.{item_weight, place_weight}
 use Rattle.cedar_cli.proofs.layout.+laying_out.Given as goal
 use Rattle.json.specs.Token.{Token}
@@ -22,5 +23,5 @@ invariant-write_items-loop-item l =
 
 abbrev pub invariant-write_members-loop-place : goal.invariant-write_members-loop-place
 invariant-write_members-loop-place l =
-    (weight : Token → ℕ) → sum_by weight l.pretty + sum_by (place_weight weight l.members.items) (drop l.place-index l.place-items)
-    ≡ sum_by weight l.initial.pretty + sum_by (place_weight weight l.members.items) l.place-items
+    (weight : Token → ℕ) → sum_by weight l.pretty + sum_by (place_weight index_of weight l.members.items) (drop l.place-index l.place-items)
+    ≡ sum_by weight l.initial.pretty + sum_by (place_weight index_of weight l.members.items) l.place-items

@@ -9,9 +9,9 @@ use Rattle.json.specs.Value.{value_view}
 -- what the field holds is described, or its fault is found under the field
 pub returns-in-Some : goal.returns-in-Some
 returns-in-Some g c =
-    let describes = g.T.FromJson.describes in
+    let describes = g.T.Described.describes in
     let held = get c.args.name.now (value_view c.args.value.now) in
     let k = value_view c.in-Some.held.now in
-    described_too c.read_held.result (option_map g.T.FromJson.shown) _ _ _ _
+    described_too c.read_held.result (option_map g.T.Described.shown) _ _ _ _
     (ap (field_or None (λ j. option_map Some (describes j))) (sym c.in-Some.ensures))
     (λ refusal true_of j same. true_of j (same ∙ unless_null-held held k (sym c.in-Some.ensures))) c.read_held.ensures

@@ -11,7 +11,7 @@ use Rattle.json.specs.Value.{items_view, value_view}
 -- found in the array at the index of the item
 pub returns-in_err-push_read : goal.returns-in_err-push_read
 returns-in_err-push_read g c =
-    let is = g.T.FromJson in
+    let is = g.T.Described in
     let x = c.item-item.result in
     let items = c.deref-item-items.result.now in
     let all = c.args.items.now.items in
@@ -27,7 +27,7 @@ returns-in_err-push_read g c =
 -- one more item is read
 pub loop-index-preserved : goal.loop-index-preserved
 loop-index-preserved g c =
-    let is = g.T.FromJson in
+    let is = g.T.Described in
     let x = c.item-item.result in
     let all = c.args.items.now.items in
     let here = items_from_index c.deref-item-items.result.now all c.loop-index.index x c.deref-item-items.ensures.value c.loop-index-test.true
@@ -40,5 +40,5 @@ loop-index-preserved g c =
 -- where no item is left, all were read
 pub returns : goal.returns
 returns g c =
-    all_made g.T.FromJson.describes g.T.FromJson.shown c.deref-item-items.result.now c.args.items.now.items c.loop-index.index c.loop-index.all.items
+    all_made g.T.Described.describes g.T.Described.shown c.deref-item-items.result.now c.args.items.now.items c.loop-index.index c.loop-index.all.items
     c.deref-item-items.ensures.value c.loop-index-test.false c.loop-index.invariant

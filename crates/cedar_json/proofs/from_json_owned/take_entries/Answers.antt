@@ -19,7 +19,7 @@ MaybeShared = Bor Text × Value Global
 pub returns-in_err-take_entry : goal.returns-in_err-take_entry
 returns-in_err-take_entry g c =
     let is = g.K.Key in
-    let held = g.T.FromJsonOwned in
+    let held = g.T.Described in
     let x : MaybeShared = c.in-Some.member in
     let all = c.args.members.items in
     let i = enumerate_count c.loop-index.index-iterator in
@@ -45,7 +45,7 @@ returns-in_err-take_entry g c =
 pub loop-index-preserved : goal.loop-index-preserved
 loop-index-preserved g c =
     let is = g.K.Key in
-    let held = g.T.FromJsonOwned in
+    let held = g.T.Described in
     let x : MaybeShared = c.in-Some.member in
     let all = c.args.members.items in
     let i = enumerate_count c.loop-index.index-iterator in
@@ -63,7 +63,7 @@ loop-index-preserved g c =
 pub returns : goal.returns
 returns g c =
     let is = g.K.Key in
-    let held = g.T.FromJsonOwned in
+    let held = g.T.Described in
     let all = c.args.members.items in
     let left = enumerate_source c.loop-index.index-iterator in
     let filled = c.loop-index.all in

@@ -8,7 +8,7 @@ use Rattle.json.specs.Value.{members_view}
 abbrev pub invariant-loop-index : goal.invariant-loop-index
 invariant-loop-index g l =
     let is = g.K.Key in
-    let held = g.T.FromJsonOwned in
+    let held = g.T.Described in
     let all = l.fn.members.items in
     let left = drop (enumerate_count l.index-iterator) all in
     (entries_of is.order is.key_of held.describes (members_view all) []

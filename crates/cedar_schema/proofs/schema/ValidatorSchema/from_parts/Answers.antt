@@ -7,8 +7,8 @@ use Rattle.cedar_schema_elements.specs.Words.{listed_entities}
 
 pub invariant_of-content : goal.invariant_of-content
 invariant_of-content c =
-    let types = c.args.parts.entity_types.entries in
-    let actions = c.args.parts.actions.entries in
+    let types = c.args.parts.tables.entity_types.entries in
+    let actions = c.args.parts.tables.actions.entries in
     let entities = listed_entities (map plain_action_entry actions) in
     record {
       environments_of_actions = merely (c.in_ok-environments.ensures (map plain_entry types) entities);
