@@ -388,7 +388,7 @@ impl ValidatorSchema {
 
     /// The schema, checked, with all its descendants closed.
     ///
-    /// It is refused, memory aside, exactly where it isn't valid, and with a fault of it.
+    /// Unless memory runs out, it is refused exactly where it isn't valid, and with a fault of it.
     /// Descendants count in any number of steps. The kinds of errors are:
     ///
     /// - `UndeclaredEntityTypes`: an entity type that is named in attributes, tags or a context

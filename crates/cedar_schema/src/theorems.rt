@@ -44,8 +44,8 @@ pub fn schemas_compare_by_what_they_declare()
 {}
 
 /// What is built from declarations that say the same, name by name, is two equal schemas or two
-/// refusals, memory aside: whatever the split into fragments, the order, and the order and repeats
-/// of parents, principals and resources.
+/// refusals, unless memory runs out: whatever the split into fragments, the order, and the order
+/// and repeats of parents, principals and resources.
 pub fn declarations_that_say_the_same_build_equal_schemas()
     ensures equal { (bag other : Bag) (extensions : Extensions) (a b : ValidatorSchema)
         → SameBag bag other
