@@ -25,8 +25,9 @@ upper_at = kept_under name_cmp type_name
 abbrev pub action_upper_at : BTreeMap EntityUID EntityUID → EntityUID → Option PlainUid
 action_upper_at = kept_under uid_cmp uid_of
 
--- what is found above a node, but for what is left, where it is given which uids stand above it, and
--- still do, and which are lost there: one that is lost, or that each that stands there still does
+-- what is found above a node, but for what is left, where it is given which uids stand above it,
+-- which still do and which are lost there: one that is lost, or that each that stands there still
+-- does
 abbrev pub IsUpperSoFar : {P : Type 0} → (P → PlainUid → Type 0) → (P → PlainUid → Type 0)
     → (P → PlainUid → Type 0) → (PlainUid → Type 0) → P → Option PlainUid → Type 0
 IsUpperSoFar IsAbove IsStill IsLost IsLeft lower None = (upper : PlainUid)
