@@ -44,7 +44,7 @@ returns-clause-well_formed g c fragments is over =
     let written = c.in_ok-common.ensures.elaborates _ common in
     let sound = c.in_ok-common.ensures.sound _ common in
     let built = c.in_ok-entity_types.ensures.declared _ _ (types_ready fragments is over _ refl refl written sound) in
-    pieces_well _ _ _ _ over (written_have_no_fault _ _ fragments) sound
+    pieces_well _ _ _ _ over (written_have_no_fault _ g.N.WrittenName.refer fragments) sound
     (c.in_ok-entity_types.ensures.sound _ _ (types_ready fragments is over _ refl refl written sound))
     (c.in_ok-actions.ensures.sound _ _ (actions_ready fragments is over _ refl refl written sound c.in_ok-entity_types.entity_types built))
 
