@@ -434,7 +434,7 @@ def rows():
             "20000 entity types below one, whose names hash alike",
             lambda: below_one(f"{FLOOD}{number:08}" for number in range(20_000)),
             [("build", has_line("entity types: 20001, 0 of them external"))],
-            seconds=10,
+            seconds=2,
         ),
         Row(
             "100000 actions in a ring",
