@@ -20,6 +20,9 @@ pub chosen : {A : Type 0} (b : Bool) (x y z : A) → (if b then x else y) ≡ z 
 chosen true x y z e = inl (refl, e)
 chosen false x y z e = inr (refl, e)
 
+pub other_byte : (x k : ℕ) → (x ≡ k → ⊥) → (x == k) ≡ false
+other_byte x k other = grind (arith, nat_tests)
+
 -- ---- runs
 
 pub split_passes : (p : ℕ → Bool) (x : ℕ) (xs : List ℕ) → p x ≡ true → split_while p (x ∷ xs) ≡ (x ∷ (split_while p xs).0, (split_while p xs).1)

@@ -13,7 +13,7 @@ use Rattle.cedar_schema_tokens.specs.Token.{Lexeme, ident, text, symbol}
 use Rattle.cedar_schema_tokens.specs.Lexical.{Outcome, and_then, first, first_char, split_while, is_start, is_word, symbol_of, one_symbol, quoted, quoted_from, bad_character, other_lexeme, lexeme_at}
 use Rattle.cedar_schema_tokens.specs.Written.{Piece, spelling, is_id, ArePieces, IsWritten}
 use Rattle.cedar_schema_tokens.specs.Refused.{NoToken, IsBegunText, StopsAt}
-use Rattle.cedar_schema_tokens.proofs.Runs.{chosen, split_passes, split_stops, run_all, run_parts, Ends, run_ends, run_again, begins_with, begins_as, begins_with_two}
+use Rattle.cedar_schema_tokens.proofs.Runs.{chosen, other_byte, split_passes, split_stops, run_all, run_parts, Ends, run_ends, run_again, begins_with, begins_as, begins_with_two}
 use Rattle.cedar_schema_tokens.proofs.Quoted.{given, Tells, StopsPart, quoted_tells, quoted_again, pieces_shorter}
 
 -- ---- outcomes
@@ -137,16 +137,13 @@ lexeme_takes all rest t e =
       ]
     ]
 
-not_58 : (x : ℕ) → x ≢ 58 → x == 58 ≡ false
-not_58 x other = grind (arith, nat_tests)
-
 abbrev by_symbol : Symbol → List ℕ → Type 0
 by_symbol m rest = lexeme_at (spelling m ++ rest) ≡ Ok (symbol m, rest)
 
 symbol_again : (m : Symbol) (rest : List ℕ) → (m ≡ sign.Colon → first rest ≢ 58) → by_symbol m rest
 unfolding lexeme_at
 symbol_again sign.PathSeparator rest h = refl
-symbol_again sign.Colon rest h = ap (λ b. if b then given (symbol sign.PathSeparator) (drop 1 rest) else given (symbol sign.Colon) rest) (not_58 (first rest) (h refl))
+symbol_again sign.Colon rest h = ap (λ b. if b then given (symbol sign.PathSeparator) (drop 1 rest) else given (symbol sign.Colon) rest) (other_byte (first rest) 58 (h refl))
 symbol_again sign.Comma rest h = refl
 symbol_again sign.Semicolon rest h = refl
 symbol_again sign.Question rest h = refl
