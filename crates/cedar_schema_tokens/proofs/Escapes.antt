@@ -8,8 +8,8 @@ use Rattle.std.specs.Char.{is_ascii_hexdigit, digit_value, IsScalar}
 use Rattle.std.specs.List.{list_all}
 use lib.Utf8.{scalar}
 use Rattle.cedar_schema_tokens.specs.Lexical.{first, split_while, simple, hex_from, char_of, byte_escape, with_rest, code_escape, escape}
-use Rattle.cedar_schema_tokens.specs.Written.{IsSimple, IsByte, IsCode, IsEscape}
-use Rattle.cedar_schema_tokens.proofs.Runs.{chosen, run_all, run_parts, run_again, begins_with, begins_as, begins_with_two}
+use Rattle.cedar_schema_tokens.specs.Written.{IsEscape}
+use Rattle.cedar_schema_tokens.proofs.Runs.{chosen, run_all, run_parts, run_again, begins_as, begins_with_two}
 
 abbrev Found : Type 0
 Found = Option (ℕ × List ℕ)
@@ -126,8 +126,8 @@ second all next b e f = sym (ap (λ us. slice_index us 1) e) ∙ f
 -- the rest of an escape that begins with a letter
 letter_takes : (all rest : List ℕ) (c : ℕ) → first all ≡ 92
     → (if slice_index all 1 == 120 then byte_escape (drop 2 all)
-      else (if slice_index all 1 == 117 then (if slice_index all 2 == 123 then code_escape (drop 3 all) else None)
-      else with_rest (drop 2 all) (simple (slice_index all 1)))) ≡ Some (c, rest)
+    else (if slice_index all 1 == 117 then (if slice_index all 2 == 123 then code_escape (drop 3 all) else None)
+    else with_rest (drop 2 all) (simple (slice_index all 1)))) ≡ Some (c, rest)
     → IsEscape c all rest
 letter_takes all rest c begins read =
     elim (chosen (slice_index all 1 == 120) _ _ _ read) [
@@ -193,7 +193,7 @@ code_again : (ds rest : List ℕ) (c : ℕ) → list_all is_ascii_hexdigit ds �
     → code_escape (ds ++ 125 ∷ rest) ≡ Some (c, rest)
 code_again ds rest c hexes some few is scalar_c =
     let by : List ℕ × List ℕ → Found = λ parts.
-        if (nat_lt 0 (length parts.0) && nat_le (length parts.0) 6) && first parts.1 == 125 then with_rest (drop 1 parts.1) (char_of parts.0) else None in
+    if (nat_lt 0 (length parts.0) && nat_le (length parts.0) 6) && first parts.1 == 125 then with_rest (drop 1 parts.1) (char_of parts.0) else None in
     let one : scalar (hex_from 0 ds) ≡ true = ap scalar (sym is) ∙ scalar_c in
     ap by (run_again is_ascii_hexdigit ds (125 ∷ rest) hexes refl)
     ∙ ap (λ b. if (b && nat_le (length ds) 6) && true then with_rest rest (char_of ds) else None) (lt_to 0 (length ds) some)

@@ -1,5 +1,5 @@
 -- Reading all tokens, how they are written, and where reading stops.
-use Rattle.std.proofs.Common.{◌≡◌, ◌≢◌, ℕ, zero, suc, ◌-◌, ◌<◌, ◌≤◌, true, false, ◌==◌, List, [], ◌∷◌, ◌++◌, length, Result, Ok, Err, inl, inr, refl, sym, ap, ap₂, ◌∙◌, subst, arith, append_assoc, append-nil, eqb-true}
+use Rattle.std.proofs.Common.{◌≡◌, ◌≢◌, ℕ, zero, suc, ◌-◌, ◌<◌, ◌≤◌, true, false, ◌==◌, List, [], ◌∷◌, ◌++◌, length, Result, Ok, Err, inl, inr, refl, sym, ap, ◌∙◌, subst, arith, append_assoc, append-nil, eqb-true}
 use Rattle.std.specs.Prelude.{if◌then◌else◌}
 use Rattle.std.proofs.lemmas.Bool.{cases_Bool}
 use Rattle.std.proofs.lemmas.Bool.Decides.{nat_tests}
@@ -7,7 +7,7 @@ use Rattle.cedar_schema_tokens.specs.declared.fault.Stop.{Stop}
 use Rattle.cedar_schema_tokens.specs.declared.fault.Stop.TheVariants.{At, Memory}
 use Rattle.cedar_schema_tokens.specs.declared.fault.Wrong.TheVariants as wrong
 use Rattle.cedar_schema_tokens.specs.Token.{Lexeme, Token}
-use Rattle.cedar_schema_tokens.specs.Lexical.{Outcome, gap_from, after_gap, lexeme_at, place, fault_of, token_between, onward, tokens_from, tokens}
+use Rattle.cedar_schema_tokens.specs.Lexical.{Outcome, after_gap, lexeme_at, place, fault_of, token_between, onward, tokens_from, tokens}
 use Rattle.cedar_schema_tokens.specs.Written.{IsWritten, Begin, AreTokens}
 use Rattle.cedar_schema_tokens.specs.Refused.{StopsAt, IsFaultOf, IsRefused, HasNoTokens}
 use Rattle.cedar_schema_tokens.proofs.Gaps.{after_gap_shorter, gap_none_left}

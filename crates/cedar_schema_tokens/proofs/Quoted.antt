@@ -1,5 +1,5 @@
 -- Quoted texts: what is read is written so, what is written so is read, and where reading stops.
-use Rattle.std.proofs.Common.{◌≡◌, ◌≢◌, ℕ, zero, suc, ◌+◌, ◌-◌, ◌<◌, ◌≤◌, Bool, true, false, not, ◌&&◌, ◌||◌, List, [], ◌∷◌, ◌++◌, length, drop, Option, Some, None, Ok, Err, ◌⊎◌, inl, inr, refl, sym, ap, ◌∙◌, subst, arith, append_assoc, append-nil, eqb-true, length-append}
+use Rattle.std.proofs.Common.{◌≡◌, ◌≢◌, ℕ, zero, suc, ◌+◌, ◌-◌, ◌<◌, ◌≤◌, true, false, not, ◌&&◌, ◌||◌, List, [], ◌∷◌, ◌++◌, length, drop, Option, Some, None, Ok, Err, ◌⊎◌, inl, inr, refl, sym, ap, ◌∙◌, subst, arith, append_assoc, append-nil, eqb-true, length-append}
 use Rattle.std.proofs.lemmas.Bool.{and_parts, cases_Bool}
 use Rattle.std.proofs.lemmas.Bool.Decides.{nat_tests}
 use Rattle.std.specs.Prelude.{if◌then◌else◌, ◌==◌, nat_le}
@@ -11,7 +11,7 @@ use Rattle.cedar_schema_tokens.specs.declared.fault.Wrong.TheVariants as wrong
 use Rattle.cedar_schema_tokens.specs.Lexical.{Outcome, first, first_char, split_while, is_plain, escape, part_stop, on_escape, quoted_from}
 use Rattle.cedar_schema_tokens.specs.Written.{Piece, plain, escaped, IsEscape, ArePieces}
 use Rattle.cedar_schema_tokens.specs.Refused.{IsBadPart}
-use Rattle.cedar_schema_tokens.proofs.Runs.{chosen, split_passes, split_stops, run_all, run_parts, Ends, run_ends, begins_as}
+use Rattle.cedar_schema_tokens.proofs.Runs.{split_passes, split_stops, run_all, run_parts, Ends, run_ends, begins_as}
 use Rattle.cedar_schema_tokens.proofs.Escapes.{escape_takes, escape_again, escape_begins, escape_shorter}
 
 abbrev pub given : {A : Type 0} → A → List ℕ → Outcome A

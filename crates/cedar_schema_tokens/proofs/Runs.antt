@@ -1,5 +1,5 @@
 -- Runs of bytes, and where a text may be cut.
-use Rattle.std.proofs.Common.{◌≡◌, ℕ, zero, suc, map, ◌+◌, ◌-◌, ◌<◌, ◌≤◌, Bool, true, false, ◌&&◌, List, [], ◌∷◌, ◌++◌, length, get_or, take, drop, slice_index, IsUtf8, refl, sym, ap, ◌∙◌, subst, inl, inr, ◌⊎◌, arith, add-one, eqb-true, append_assoc}
+use Rattle.std.proofs.Common.{◌≡◌, ℕ, zero, suc, map, ◌+◌, ◌-◌, ◌<◌, ◌≤◌, Bool, true, false, ◌&&◌, List, [], ◌∷◌, ◌++◌, length, get_or, drop, slice_index, IsUtf8, refl, sym, ap, ◌∙◌, subst, inl, inr, ◌⊎◌, arith, add-one, eqb-true}
 use Rattle.std.proofs.lemmas.Bool.{and_parts, cases_Bool, cases_lt}
 use Rattle.std.proofs.lemmas.Bool.Decides.{nat_tests}
 use Rattle.std.proofs.lemmas.List.{take-append-drop, get_or_past, map-append}
@@ -8,7 +8,7 @@ use Rattle.std.proofs.lemmas.Str.{IsCharBoundary-start, IsCharBoundary-end, IsCh
 use Rattle.std.specs.Prelude.{if◌then◌else◌, ◌==◌}
 use Rattle.std.specs.Char.{is_ascii_hexdigit, is_whitespace, encode_utf8, len_utf8}
 use Rattle.std.specs.List.{prefix_len, list_all}
-use Rattle.std.specs.Str.{IsCharBoundary, chars, encode_utf8_all}
+use Rattle.std.specs.Str.{IsCharBoundary, encode_utf8_all}
 use Rattle.cedar_schema_tokens.specs.declared.steps.Class.{Class}
 use Rattle.cedar_schema_tokens.specs.declared.steps.Class.TheVariants.{Word, Plain, Line, Hex}
 use Rattle.cedar_schema_tokens.specs.Class.{class_test}

@@ -1,20 +1,20 @@
 -- Single tokens: what is read is written so, what is written so is read, and where reading stops.
-use Rattle.std.proofs.Common.{◌≡◌, ◌≢◌, ℕ, suc, ◌-◌, ◌<◌, ◌≤◌, Bool, true, false, ◌&&◌, ◌==◌, List, [], ◌∷◌, ◌++◌, length, drop, slice_index, Option, Some, None, Ok, Err, ◌⊎◌, inl, inr, refl, sym, ap, ◌∙◌, subst, arith, eqb-true, length-append}
-use Rattle.std.proofs.lemmas.Bool.{and_parts, cases_Bool}
+use Rattle.std.proofs.Common.{◌≡◌, ◌≢◌, ℕ, suc, ◌-◌, ◌<◌, ◌≤◌, true, false, ◌&&◌, ◌==◌, List, [], ◌∷◌, ◌++◌, length, drop, slice_index, Option, Some, None, Ok, Err, ◌⊎◌, inl, inr, refl, sym, ap, ◌∙◌, subst, arith, eqb-true, length-append}
+use Rattle.std.proofs.lemmas.Bool.{and_parts}
 use Rattle.std.proofs.lemmas.Bool.Decides.{nat_tests}
 use Rattle.std.specs.Prelude.{if◌then◌else◌}
 use Rattle.std.specs.List.{list_all}
 use Rattle.cedar_schema_tokens.specs.declared.fault.Stop.{Stop}
-use Rattle.cedar_schema_tokens.specs.declared.fault.Stop.TheVariants.{At, Memory}
+use Rattle.cedar_schema_tokens.specs.declared.fault.Stop.TheVariants.{At}
 use Rattle.cedar_schema_tokens.specs.declared.fault.Wrong.TheVariants as wrong
 use Rattle.cedar_schema_tokens.specs.declared.token.Symbol.{Symbol}
 use Rattle.cedar_schema_tokens.specs.declared.token.Symbol.TheVariants as sign
 use Rattle.cedar_schema_tokens.specs.Token.{Lexeme, ident, text, symbol}
-use Rattle.cedar_schema_tokens.specs.Lexical.{Outcome, and_then, first, first_char, split_while, is_start, is_word, symbol_of, one_symbol, quoted, quoted_from, bad_character, other_lexeme, lexeme_at}
-use Rattle.cedar_schema_tokens.specs.Written.{Piece, spelling, is_id, ArePieces, IsWritten}
+use Rattle.cedar_schema_tokens.specs.Lexical.{Outcome, and_then, first, split_while, is_start, is_word, symbol_of, one_symbol, quoted, bad_character, other_lexeme, lexeme_at}
+use Rattle.cedar_schema_tokens.specs.Written.{spelling, is_id, ArePieces, IsWritten}
 use Rattle.cedar_schema_tokens.specs.Refused.{NoToken, IsBegunText, StopsAt}
-use Rattle.cedar_schema_tokens.proofs.Runs.{chosen, other_byte, split_passes, split_stops, run_all, run_parts, Ends, run_ends, run_again, begins_with, begins_as, begins_with_two}
-use Rattle.cedar_schema_tokens.proofs.Quoted.{given, Tells, StopsPart, quoted_tells, quoted_again, pieces_shorter}
+use Rattle.cedar_schema_tokens.proofs.Runs.{chosen, other_byte, split_passes, run_all, run_parts, Ends, run_ends, run_again, begins_with, begins_as, begins_with_two}
+use Rattle.cedar_schema_tokens.proofs.Quoted.{given, Tells, quoted_tells, quoted_again, pieces_shorter}
 
 -- ---- outcomes
 

@@ -1,5 +1,5 @@
 -- What a refusal says of a text.
-use Rattle.std.specs.Prelude.{◌≡◌, ◌≢◌, ℕ, ◌+◌, ◌-◌, ◌^◌, ◌≤◌, ◌⊎◌, List, [], ◌∷◌, length, drop, ⊤}
+use Rattle.std.specs.Prelude.{◌≡◌, ◌≢◌, ℕ, ◌+◌, ◌-◌, ◌^◌, ◌≤◌, ◌⊎◌, List, [], ◌∷◌, length, ⊤}
 use Rattle.std.specs.Char.{len_utf8}
 use Rattle.cedar_schema_tokens.specs.declared.fault.Stop.{Stop}
 use Rattle.cedar_schema_tokens.specs.declared.fault.Stop.TheVariants.{At, Memory}

@@ -86,7 +86,11 @@ pub(crate) fn escape(s: &str) -> Option<(char, &str)>
         return byte_escape(skip(s, 2));
     }
     if letter == b'u' {
-        return if byte_at(s, 2) == b'{' { code_escape(skip(s, 3)) } else { None };
+        return if byte_at(s, 2) == b'{' {
+            code_escape(skip(s, 3))
+        } else {
+            None
+        };
     }
     match simple(letter) {
         Some(c) => Some((c, skip(s, 2))),

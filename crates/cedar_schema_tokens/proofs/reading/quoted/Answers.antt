@@ -1,4 +1,4 @@
-use Rattle.std.proofs.Common.{◌≡◌, ℕ, ◌==◌, true, false, None, Some, Ok, Err, ◌++◌, length, string_bytes, drop, sym, ap, ap₂, ◌+◌, ◌-◌, ◌∙◌, rules, arith}
+use Rattle.std.proofs.Common.{◌≡◌, ℕ, ◌==◌, true, false, None, Some, Err, ◌++◌, length, string_bytes, sym, ap, ap₂, ◌+◌, ◌-◌, ◌∙◌, rules, arith}
 use Rattle.std.proofs.lemmas.Grind.{common_steps}
 use Rattle.std.specs.Char.{encode_utf8}
 use Rattle.cedar_schema_tokens.specs.Lexical.{quoted, quoted_from, first, escape}
