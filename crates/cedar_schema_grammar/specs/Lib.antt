@@ -1,0 +1,5 @@
+pub mod Tree
+pub mod Grammar
+pub mod Reading
+pub mod Cursor
+pub mod Plain
