@@ -37,6 +37,9 @@ is_more_none (t ∷ ts) none = absurd (omega arith)
 
 -- ---- steps
 
+abbrev pub given : {A : Type 0} → A → List Token → Outcome A
+given x ts = Ok (x, ts)
+
 pub bind_on : {A B : Type 0} (o : Outcome A) (f : A → Reader B) (x : A) (mid : List Token) → o ≡ Ok (x, mid) → and_then o f ≡ f x mid
 bind_on o f x mid e = ap (λ r. and_then r f) e
 

@@ -280,10 +280,10 @@ body limit = do
     expect sign.OpenBracket
     texts ← some_until quoted sign.CloseBracket
     pure (choices texts)) else (do
-    parents ← below
-    form ← shape limit
-    of_tags ← tags limit
-    pure (standard parents form of_tags))
+      parents ← below
+      form ← shape limit
+      of_tags ← tags limit
+      pure (standard parents form of_tags))
 
 -- ---- actions
 

@@ -17,11 +17,7 @@ use std::alloc::Global;
 
 /// The type of a parent, behind its first id and `::`, up to the parent's text.
 #[tactic(auto, unfolding(crate::specs::Reading::qualifier_from))]
-fn read_qualifier(
-    alloc: Global,
-    tokens: &mut Cursor<'_, '_>,
-    first: Name,
-) -> Result<Path, Stop>
+fn read_qualifier(alloc: Global, tokens: &mut Cursor<'_, '_>, first: Name) -> Result<Path, Stop>
     ensures { Reads path_of (spec.qualifier (name_of first) tokens.old) result tokens.new }
 {
     let from = first.loc;
@@ -43,11 +39,7 @@ fn read_qualifier(
 
 /// A parent with a type, behind its first id and `::`.
 #[tactic(auto, unfolding(crate::specs::Reading::qualified))]
-fn read_qualified(
-    alloc: Global,
-    tokens: &mut Cursor<'_, '_>,
-    first: Name,
-) -> Result<Parent, Stop>
+fn read_qualified(alloc: Global, tokens: &mut Cursor<'_, '_>, first: Name) -> Result<Parent, Stop>
     ensures { Reads parent_of (spec.qualified (name_of first) tokens.old) result tokens.new }
 {
     let from = first.loc;
@@ -148,11 +140,7 @@ fn read_said_paths(alloc: Global, tokens: &mut Cursor<'_, '_>) -> Result<Vec<Pat
 
 /// A colon and the type of a context.
 #[tactic(auto, unfolding(crate::specs::Reading::said_context))]
-fn read_said_context(
-    alloc: Global,
-    tokens: &mut Cursor<'_, '_>,
-    limit: usize,
-) -> Result<Type, Stop>
+fn read_said_context(alloc: Global, tokens: &mut Cursor<'_, '_>, limit: usize) -> Result<Type, Stop>
     ensures { Reads type_of (spec.said_context limit tokens.old) result tokens.new }
 {
     tokens.expect(Symbol::Colon)?;
@@ -178,11 +166,7 @@ fn read_part(alloc: Global, tokens: &mut Cursor<'_, '_>, limit: usize) -> Result
 
 /// Parts of an `appliesTo`, up to the closing brace.
 #[tactic(auto, unfolding(crate::specs::Reading::until_from))]
-fn read_parts(
-    alloc: Global,
-    tokens: &mut Cursor<'_, '_>,
-    limit: usize,
-) -> Result<Vec<Part>, Stop>
+fn read_parts(alloc: Global, tokens: &mut Cursor<'_, '_>, limit: usize) -> Result<Vec<Part>, Stop>
     ensures { Reads (λ all. map part_of all.items)
         (spec.until (spec.part limit) sign.CloseBrace tokens.old) result tokens.new }
 {

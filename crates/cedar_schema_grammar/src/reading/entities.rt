@@ -80,11 +80,7 @@ fn read_shape(
 
 /// The type of an entity type's tags, where one is written.
 #[tactic(auto, unfolding(crate::specs::Reading::tags))]
-fn read_tags(
-    alloc: Global,
-    tokens: &mut Cursor<'_, '_>,
-    limit: usize,
-) -> Result<Option<Type>, Stop>
+fn read_tags(alloc: Global, tokens: &mut Cursor<'_, '_>, limit: usize) -> Result<Option<Type>, Stop>
     ensures { Reads (option_map type_of) (spec.tags limit tokens.old) result tokens.new }
 {
     if tokens.eat_word("tags") {
