@@ -2,6 +2,7 @@
 
 ghost use Rattle.std.specs.Prelude.{◌≡◌, ◌-◌, length, drop, map, string_bytes};
 ghost use Rattle.std.specs.Option.{option_map};
+ghost use Rattle.cedar_schema_grammar.specs.Exact.{first_or, loc_at};
 ghost use Rattle.cedar_schema_grammar.specs.Grammar.{first_loc, span, between};
 ghost use Rattle.cedar_schema_grammar.specs.Reading as spec;
 ghost use Rattle.cedar_schema_grammar.specs.Cursor.{Reads};
@@ -254,6 +255,23 @@ pub(crate) fn between(tokens: &[Token<'_>], rest: &[Token<'_>]) -> Loc
     let taken = tokens.len().saturating_sub(rest.len());
     let last = past(tokens, taken.saturating_sub(1));
     span(first_loc(tokens), first_loc(last))
+}
+
+/// The place of the token with which so many are left, or the end.
+pub(crate) fn loc_at(tokens: &[Token<'_>], left: usize, end: Loc) -> Loc
+    ensures { result ≡ loc_at end left (map token_of tokens.now) }
+{
+    first_or(past(tokens, tokens.len().saturating_sub(left)), end)
+}
+
+/// The place of the first token, or the end where there is none.
+fn first_or(tokens: &[Token<'_>], end: Loc) -> Loc
+    ensures { result ≡ first_or end (map token_of tokens.now) }
+{
+    match tokens {
+        [next, ..] => next.loc,
+        [] => end,
+    }
 }
 
 fn same_symbol(a: Symbol, b: Symbol) -> bool

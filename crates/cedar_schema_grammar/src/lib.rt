@@ -11,6 +11,7 @@ mod reading;
 mod tree;
 
 pub use fault::GrammarFault;
+pub use reading::schema::{one_reading, read};
 pub use tree::{
     Applies, Attribute, Body, Declaration, Item, Member, Name, Parent, Part, Path, Says, Type,
 };

@@ -4,11 +4,13 @@ ghost use Rattle.std.specs.Prelude.{◌≡◌, ◌≤◌, List, map, IfOk, IfErr
 ghost use Rattle.cedar_schema_tokens.specs.Token.{Token as PlainToken, token_of};
 ghost use Rattle.cedar_schema_tokens.specs.declared.token.Symbol.TheVariants as sign;
 ghost use Rattle.cedar_schema_grammar.specs.Tree.{Member as Plain, highest, level_of_member};
+ghost use Rattle.cedar_schema_grammar.specs.Exact.{Refuses, located};
+ghost use Rattle.cedar_schema_grammar.specs.Grammar.{IsSchema};
 ghost use Rattle.cedar_schema_grammar.specs.Reading as spec;
 ghost use Rattle.cedar_schema_grammar.specs.Cursor.{Reads};
 ghost use Rattle.cedar_schema_grammar.specs.Plain.{declaration_of, item_of, member_of, name_of};
 
-use crate::cursor::{Cursor, between, first_loc};
+use crate::cursor::{Cursor, between, loc_at};
 use crate::fault::{GrammarFault, Stop};
 use crate::reading::actions::{read_applies, read_inside, read_no_values};
 use crate::reading::entities::read_body;
@@ -212,3 +214,47 @@ fn read_members(
     }
     Ok(found)
 }
+
+/// Why reading stopped, with its place.
+fn located(stop: Stop, tokens: &[Token<'_>], end: Loc) -> GrammarFault
+    ensures { result ≡ located end (map token_of tokens.now) stop }
+{
+    match stop {
+        Stop::Memory => GrammarFault::Memory,
+        Stop::Unexpected(left) => GrammarFault::Unexpected(loc_at(tokens, left, end)),
+        Stop::TooDeep(left) => GrammarFault::TooDeep(loc_at(tokens, left, end)),
+    }
+}
+
+/// The schema that the tokens are, all of them, with types that are at most at a level.
+///
+/// A refusal names the token at which no schema within the limit goes on, or the end of the text,
+/// which is at `end`.
+///
+/// Source: Cedar reference, "Schema format".
+pub fn read(
+    alloc: Global,
+    tokens: &[Token<'_>],
+    limit: usize,
+    end: Loc,
+) -> Result<Vec<Member>, GrammarFault>
+    // What is read is written so.
+    ensures found { IfOk result (λ all. IsSchema (map member_of all.items)
+        (map token_of tokens.now)) }
+    // Its types are at most at the limit.
+    ensures nests { IfOk result (λ all. highest level_of_member (map member_of all.items)
+        ≤ limit) }
+    // What is refused is no schema within the limit.
+    ensures refused { IfErr result (Refuses limit end (map token_of tokens.now)) }
+{
+    match read_members(alloc, &mut Cursor::new(tokens), limit) {
+        Ok(members) => Ok(members),
+        Err(stop) => Err(located(stop, tokens, end)),
+    }
+}
+
+/// Tokens are read one way at most, whatever the limit.
+pub fn one_reading()
+    ensures { (ms ns : List Plain) (ts : List PlainToken)
+        → IsSchema ms ts → IsSchema ns ts → ms ≡ ns }
+{}
