@@ -1,0 +1,9 @@
+pub mod Turns
+pub mod Steps
+pub mod Lists
+pub mod Takes
+pub mod Places
+pub mod TakesDeclarations
+pub mod Again
+pub mod AgainDeclarations
+pub mod Exact

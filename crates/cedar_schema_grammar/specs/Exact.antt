@@ -1,0 +1,39 @@
+-- What a refusal says of the tokens.
+use Rattle.std.specs.Prelude.{◌≡◌, ℕ, ◌-◌, ◌<◌, List, [], ◌∷◌, length, drop, ⊤}
+use Rattle.cedar_ast.specs.declared.loc.Loc.{Loc}
+use Rattle.cedar_schema_tokens.specs.Token.{Token}
+use Rattle.cedar_schema_grammar.specs.declared.fault.GrammarFault.{GrammarFault}
+use Rattle.cedar_schema_grammar.specs.declared.fault.GrammarFault.TheVariants.{Memory, Unexpected, TooDeep}
+use Rattle.cedar_schema_grammar.specs.declared.fault.Stop.{Stop}
+use Rattle.cedar_schema_grammar.specs.declared.fault.Stop.TheVariants as stop
+use Rattle.cedar_schema_grammar.specs.Tree.{Member, highest, level_of_member}
+use Rattle.cedar_schema_grammar.specs.Grammar.{IsSchema}
+
+-- the place of the first token, or this one where there is none
+abbrev pub first_or : Loc → List Token → Loc
+first_or end [] = end
+first_or end (t ∷ ts) = t.loc
+
+-- the place of the token with which so many are left
+abbrev pub loc_at : Loc → ℕ → List Token → Loc
+loc_at end left ts = first_or end (drop (length ts - left) ts)
+
+-- the tokens are no schema's, or only of one with types beyond the limit
+abbrev pub NoSchema : ℕ → List Token → Type 0
+NoSchema limit ts = (members : List Member) → IsSchema members ts → limit < highest level_of_member members
+
+-- one of the tokens stands at the place, or the end of the text
+abbrev pub IsPlace : Loc → List Token → Loc → Type 0
+IsPlace end ts loc = (n : ℕ) × (loc ≡ first_or end (drop n ts))
+
+-- the tokens are no schema within the limit, and one of them or the end is named
+abbrev pub Refuses : ℕ → Loc → List Token → GrammarFault → Type 0
+Refuses limit end ts Memory = ⊤
+Refuses limit end ts (Unexpected loc) = NoSchema limit ts × IsPlace end ts loc
+Refuses limit end ts (TooDeep loc) = NoSchema limit ts × IsPlace end ts loc
+
+-- why reading stopped, with its place
+abbrev pub located : Loc → List Token → Stop → GrammarFault
+located end ts stop.Memory = Memory
+located end ts (stop.Unexpected left) = Unexpected (loc_at end left ts)
+located end ts (stop.TooDeep left) = TooDeep (loc_at end left ts)

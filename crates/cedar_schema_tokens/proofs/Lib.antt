@@ -1,0 +1,6 @@
+pub mod Runs
+pub mod Gaps
+pub mod Escapes
+pub mod Quoted
+pub mod Single
+pub mod Exact

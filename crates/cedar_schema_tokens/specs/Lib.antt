@@ -1,0 +1,6 @@
+pub mod Token
+pub mod Lexical
+pub mod Class
+pub mod Reads
+pub mod Written
+pub mod Refused
