@@ -265,8 +265,7 @@ unfolding qualifier_from
 qualifier_again start zero found more last us vs q h says le = absurd (omega (arith, text_some vs says, many_most One one_id_less more us vs h))
 qualifier_again start (suc n) found [] last us vs q h says le =
     let P : List (List ℕ) → Type 0 = λ xs. Qualifies start xs last vs in
-    let Q : List Token → Type 0 = λ ws. Qualifies start found last ws in
-    (
+    let Q : List Token → Type 0 = λ ws. Qualifies start found last ws in (
       last,
       subst P (sym (append-nil found)) (subst Q h q),
       picks (sees_text us) _ _ (ap sees_text h ∙ says) ∙ ap₂ (λ xs ws. given (record { ids = xs; loc = span (first_loc start) last }) ws) (sym (append-nil found)) h,
@@ -275,13 +274,12 @@ qualifier_again start (suc n) found (x ∷ xs) last us vs q (k, (j, w, sep), h) 
     let this : Name = record { text = x; loc = w.0 } in
     let here = qualifies_on start found last us this j k q w.1 sep in
     let r = qualifier_again start n (found ++ x ∷ []) xs w.0 k vs here h says (omega (arith, word_less x us j w, one_less sign.PathSeparator j k sep)) in
-    let P : List (List ℕ) → Type 0 = λ ys. Qualifies start ys r.0 vs in
-    (
+    let P : List (List ℕ) → Type 0 = λ ys. Qualifies start ys r.0 vs in (
       r.0,
       subst P (append_assoc found (x ∷ []) xs) r.1,
       leaves (sees_text us) _ _ (ap sees_text w.1) ∙ bind_on (id us) _ this j (id_on this us j w.1)
-      ∙ bind_on (expect sign.PathSeparator j) _ tt k (expect_on (sees sign.PathSeparator) j k (opens sign.PathSeparator j k sep)) ∙ r.2
-      ∙ ap (λ ys. given (record { ids = ys; loc = span (first_loc start) r.0 }) vs) (append_assoc found (x ∷ []) xs),
+          ∙ bind_on (expect sign.PathSeparator j) _ tt k (expect_on (sees sign.PathSeparator) j k (opens sign.PathSeparator j k sep)) ∙ r.2
+          ∙ ap (λ ys. given (record { ids = ys; loc = span (first_loc start) r.0 }) vs) (append_assoc found (x ∷ []) xs),
     )
 
 -- a place depends only on how much is left

@@ -105,9 +105,9 @@ unfolding spec.shape
 shape_takes limit t ts rest e =
     let behind : (us : List Token) → optional (mark sign.Equals) ts us → spec.some_of limit (record_type limit) us ≡ Ok (t, rest) → Bounded level_if limit IsShape t ts rest =
     λ us before f.
-        let r = bind_ok (record_type limit us) (λ x. pure (Some x)) t rest f in
-        let is = record_type_takes limit r.0 us r.1 r.2 in
-        finish (Bounded level_if limit IsShape) t (Some r.0) ts r.1 rest r.3 ((us, before, is.0), is.1) in
+    let r = bind_ok (record_type limit us) (λ x. pure (Some x)) t rest f in
+    let is = record_type_takes limit r.0 us r.1 r.2 in
+    finish (Bounded level_if limit IsShape) t (Some r.0) ts r.1 rest r.3 ((us, before, is.0), is.1) in
     elim (eaten (sees sign.Equals) _ _ ts _ e) [
       | inl p ↦ behind (drop 1 ts) (inl (sees_is sign.Equals ts p.0)) p.1
       | inr q ↦ elim (chosen_at (sees sign.OpenBrace (after (sees sign.Equals) ts)) _ _ ts _ q.1) [
@@ -172,8 +172,7 @@ pub qualifies_on : (start : List Token) (ids : List (List ℕ)) (last : Loc) (us
 qualifies_on start ids last us x mid next q is sep =
     let colons : Token = record { lexeme = symbol sign.PathSeparator; loc = q.2.0 } in
     let this : Token = record { lexeme = ident x.text; loc = x.loc } in
-    let whole : start ≡ q.3 ++ q.4 ∷ colons ∷ this ∷ mid = q.5 ∙ ap (λ vs. q.3 ++ q.4 ∷ vs) (q.2.1 ∙ ap (λ vs. colons ∷ vs) is) in
-    (
+    let whole : start ≡ q.3 ++ q.4 ∷ colons ∷ this ∷ mid = q.5 ∙ ap (λ vs. q.3 ++ q.4 ∷ vs) (q.2.1 ∙ ap (λ vs. colons ∷ vs) is) in (
       mid,
       longer ids x.text start q.0 us mid q.1 q.2 (x.loc, is),
       sep,
