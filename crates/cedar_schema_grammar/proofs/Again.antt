@@ -44,7 +44,7 @@ pub optional_most : (m : Symbol) → Most (optional (mark m))
 optional_most m ts rest (inl h) = omega (arith, one_less m ts rest h)
 optional_most m ts rest (inr h) = omega (arith, ap length h)
 
-annotation_less : (x : Name) → Less (IsAnnotation x)
+pub annotation_less : (x : Name) → Less (IsAnnotation x)
 annotation_less x ts rest (a, start, (b, is, inl v)) =
     omega (arith, one_less sign.At ts a start, id_less x a b is, one_less sign.OpenParenthesis b v.0 v.1, ap length v.2.1.1.1, one_less sign.CloseParenthesis v.2.0 rest v.2.2)
 annotation_less x ts rest (a, start, (b, is, inr e)) = omega (arith, one_less sign.At ts a start, id_less x a b is, ap length e)

@@ -580,7 +580,7 @@ declaration_again limit d ts rest (h, le) ends =
     (annotations_again d.annotations ts h.0 h.1 (item_not (is_symbol sign.OpenParenthesis) d.item h.0 k.0 k.1 refl refl refl refl) (item_not (is_symbol sign.At) d.item h.0 k.0 k.1 refl refl refl refl))
     ∙ annotated_again limit d h.0 rest k.0 k.1 k.2 h.2.1 le
 
-declaration_less : (d : Declaration) → Less (IsDeclaration d)
+pub declaration_less : (d : Declaration) → Less (IsDeclaration d)
 declaration_less d ts rest h =
     let k = h.2.0 in omega (arith, annotations_most d.annotations ts h.0 h.1, item_less d.item h.0 k.0 k.1, one_less sign.Semicolon k.0 rest k.2)
 

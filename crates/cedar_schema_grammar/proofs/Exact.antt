@@ -1,5 +1,5 @@
 -- Reading and the grammar, together.
-use Rattle.std.proofs.Common.{◌≡◌, ℕ, zero, suc, ◌-◌, ◌<◌, ◌≤◌, max, true, false, List, [], ◌∷◌, length, Result, Ok, Err, IfOk, IfErr, ◌⊎◌, inl, inr, refl, sym, ap, ◌∙◌, subst, arith}
+use Rattle.std.proofs.Common.{◌≡◌, ℕ, zero, suc, ◌-◌, ◌<◌, ◌≤◌, max, true, false, List, [], ◌∷◌, ◌++◌, length, drop, Result, Ok, Err, IfOk, IfErr, ◌⊎◌, inl, inr, refl, sym, ap, ◌∙◌, subst, arith, length-append}
 use Rattle.cedar_ast.specs.declared.loc.Loc.{Loc}
 use Rattle.cedar_schema_tokens.specs.Token.{Token}
 use Rattle.cedar_schema_grammar.specs.declared.fault.GrammarFault.{GrammarFault}
@@ -7,11 +7,14 @@ use Rattle.cedar_schema_grammar.specs.declared.fault.Stop.{Stop}
 use Rattle.cedar_schema_grammar.specs.declared.fault.Stop.TheVariants.{Memory, Unexpected, TooDeep}
 use Rattle.cedar_schema_grammar.specs.Tree.{Member, highest, level_of_member}
 use Rattle.cedar_schema_grammar.specs.Grammar.{IsSchema, IsMember, many}
-use Rattle.cedar_schema_grammar.specs.Reading.{members, member, is_more}
+use Rattle.cedar_schema_grammar.specs.Reading.{Outcome, members, member, is_more}
 use Rattle.cedar_schema_grammar.specs.Cursor.{Reads}
-use Rattle.cedar_schema_grammar.specs.Exact.{NoSchema, Refuses, located}
+use Rattle.cedar_schema_grammar.specs.Exact.{Peek, StopsAt, NoSchema, Refuses, first_or, loc_at, located}
 use Rattle.cedar_schema_grammar.proofs.Steps.{same_pair}
 use Rattle.cedar_schema_grammar.proofs.Lists.{while_done}
+use Rattle.cedar_schema_grammar.proofs.Places.{past}
+use Rattle.cedar_schema_grammar.proofs.Like.{Any, Match, part}
+use Rattle.cedar_schema_grammar.proofs.LikeGrammar.{like_members}
 use Rattle.cedar_schema_grammar.proofs.TakesDeclarations.{member_takes, members_take}
 use Rattle.cedar_schema_grammar.proofs.AgainDeclarations.{member_less, members_again}
 
@@ -48,6 +51,29 @@ no_schema : (limit : ℕ) (ts : List Token) (stop : Stop) → members limit ts �
 no_schema limit ts stop e ms h =
     elim (either_way (highest level_of_member ms) limit) [ inl le ↦ absurd (let never = members_again limit ms ts [] h refl le in cc) | inr less ↦ less ]
 
+-- up to the token that isn't expected, reading tells the same of whatever comes behind, at each higher limit
+seen : (limit m : ℕ) → limit ≤ m → (ts : List Token) (left : ℕ) → members limit ts ≡ Err (Unexpected left) → Match Any (Err (Unexpected left)) ts (members m)
+seen limit m le ts left e = let P : Outcome (List Member) → Type 0 = λ o. Match Any o ts (members m) in subst P e (like_members limit m le ts)
+
+begins_none : (limit : ℕ) (ts : List Token) (left : ℕ) (before rest : List Token) → ts ≡ before ++ rest → left ≡ length rest → members limit ts ≡ Err (Unexpected left)
+    → (us : List Token) → Peek rest us → (ms : List Member) → IsSchema ms (before ++ us) → ⊥
+begins_none limit ts left before rest s l e us peek ms h =
+    let m = max limit (highest level_of_member ms) in
+    let it = seen limit m (omega arith) ts left e in
+    let same = part it.0 before it.1 rest (sym it.2 ∙ s) (sym it.3 ∙ l) in
+    let P : List Token → Type 0 = λ vs. Peek vs us in
+    let Q : List Token → Type 0 = λ vs. IsSchema ms (vs ++ us) in
+    let never = it.4 us (subst P (sym same.1) peek) tt in
+    let read = members_again m ms (it.0 ++ us) [] (subst Q (sym same.0) h) refl (omega arith) in
+    absurd (cc)
+
+stops_at : (limit : ℕ) (end : Loc) (ts : List Token) (left : ℕ) → members limit ts ≡ Err (Unexpected left) → StopsAt end ts (loc_at end left ts)
+stops_at limit end ts left e =
+    let one = seen limit limit (omega arith) ts left e in
+    let many : length (one.0 ++ one.1) - left ≡ length one.0 = omega (arith, length-append one.0 one.1, one.3) in
+    let there : drop (length ts - left) ts ≡ one.1 = ap (λ us. drop (length us - left) us) one.2 ∙ ap (λ n. drop n (one.0 ++ one.1)) many ∙ past one.0 one.1 in
+    (one.0, one.1, one.2, ap (first_or end) there, begins_none limit ts left one.0 one.1 one.2 one.3 e)
+
 -- what reading says of a result
 pub record Tells {A : Type 0} (view : A → List Member) (limit : ℕ) (end : Loc) (ts : List Token) (r : Result A Stop) : Type 0 where
   pub found : IfOk r (λ all. IsSchema (view all) ts)
@@ -58,6 +84,6 @@ pub tells : {A : Type 0} (view : A → List Member) (limit : ℕ) (end : Loc) (t
 tells view limit end ts new (Ok all) e = let p = read limit (view all) ts new e in record { found = p.0; nests = p.1; refused = tt }
 tells view limit end ts new (Err Memory) e = record { found = tt; nests = tt; refused = tt }
 tells view limit end ts new (Err (Unexpected left)) e =
-    record { found = tt; nests = tt; refused = (no_schema limit ts (Unexpected left) (e (λ same. cc)), (length ts - left, refl)) }
+    record { found = tt; nests = tt; refused = stops_at limit end ts left (e (λ same. cc)) }
 tells view limit end ts new (Err (TooDeep left)) e =
     record { found = tt; nests = tt; refused = (no_schema limit ts (TooDeep left) (e (λ same. cc)), (length ts - left, refl)) }

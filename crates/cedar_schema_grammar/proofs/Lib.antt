@@ -6,4 +6,6 @@ pub mod Places
 pub mod TakesDeclarations
 pub mod Again
 pub mod AgainDeclarations
+pub mod Like
+pub mod LikeGrammar
 pub mod Exact

@@ -10,7 +10,7 @@ use Rattle.cedar_schema_grammar.specs.Grammar.{separated, mark, word, IsPath, fi
 abbrev pub last_loc : List Token → List Token → Loc
 last_loc ts rest = first_loc (drop ((length ts - length rest) - 1) ts)
 
-past : (pre ys : List Token) → drop (length pre) (pre ++ ys) ≡ ys
+pub past : (pre ys : List Token) → drop (length pre) (pre ++ ys) ≡ ys
 past [] ys = refl
 past (t ∷ pre) ys = past pre ys
 

@@ -412,7 +412,7 @@ annotated_takes limit notes d ts us rest h e =
     finish (Bounded level_of_declaration limit IsDeclaration) d (record { annotations = notes; item = it.0; loc = between us close.1 }) ts close.1 rest close.3
     ((us, h, ((it.1, is.0, expect_ok sign.Semicolon it.1 close.1 close.0 close.2), refl)), is.1)
 
-declaration_takes : (limit : ℕ) → Takes (spec.declaration limit) (Bounded level_of_declaration limit IsDeclaration)
+pub declaration_takes : (limit : ℕ) → Takes (spec.declaration limit) (Bounded level_of_declaration limit IsDeclaration)
 unfolding spec.declaration
 declaration_takes limit d ts rest e =
     let notes = bind_ok (annotations ts) _ d rest e in

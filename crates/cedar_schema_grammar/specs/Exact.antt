@@ -1,5 +1,5 @@
 -- What a refusal says of the tokens.
-use Rattle.std.specs.Prelude.{◌≡◌, ℕ, ◌-◌, ◌<◌, List, [], ◌∷◌, length, drop, ⊤}
+use Rattle.std.specs.Prelude.{◌≡◌, ℕ, ◌-◌, ◌<◌, List, [], ◌∷◌, ◌++◌, length, drop, ⊤}
 use Rattle.cedar_ast.specs.declared.loc.Loc.{Loc}
 use Rattle.cedar_schema_tokens.specs.Token.{Token}
 use Rattle.cedar_schema_grammar.specs.declared.fault.GrammarFault.{GrammarFault}
@@ -18,18 +18,34 @@ first_or end (t ∷ ts) = t.loc
 abbrev pub loc_at : Loc → ℕ → List Token → Loc
 loc_at end left ts = first_or end (drop (length ts - left) ts)
 
+-- both begin with the same token, or both are none
+abbrev pub Peek : List Token → List Token → Type 0
+Peek [] [] = ⊤
+Peek [] (u ∷ us) = ⊥
+Peek (t ∷ ts) [] = ⊥
+Peek (t ∷ ts) (u ∷ us) = t ≡ u
+
 -- the tokens are no schema's, or only of one with types beyond the limit
 abbrev pub NoSchema : ℕ → List Token → Type 0
-NoSchema limit ts = (members : List Member) → IsSchema members ts → limit < highest level_of_member members
+NoSchema limit ts =
+    (members : List Member) → IsSchema members ts → limit < highest level_of_member members
 
 -- one of the tokens stands at the place, or the end of the text
 abbrev pub IsPlace : Loc → List Token → Loc → Type 0
 IsPlace end ts loc = (n : ℕ) × (loc ≡ first_or end (drop n ts))
 
--- the tokens are no schema within the limit, and one of them or the end is named
+-- The tokens before the place and the one there begin no schema, whatever its levels; at the end of
+-- the text they are none.
+abbrev pub StopsAt : Loc → List Token → Loc → Type 0
+StopsAt end ts loc =
+    (before : List Token) × (rest : List Token) × (ts ≡ before ++ rest) × (loc ≡ first_or end rest)
+    × ((others : List Token) → Peek rest others → (members : List Member)
+    → IsSchema members (before ++ others) → ⊥)
+
+-- no schema goes on so, or none does within the limit
 abbrev pub Refuses : ℕ → Loc → List Token → GrammarFault → Type 0
 Refuses limit end ts Memory = ⊤
-Refuses limit end ts (Unexpected loc) = NoSchema limit ts × IsPlace end ts loc
+Refuses limit end ts (Unexpected loc) = StopsAt end ts loc
 Refuses limit end ts (TooDeep loc) = NoSchema limit ts × IsPlace end ts loc
 
 -- why reading stopped, with its place

@@ -228,8 +228,8 @@ fn located(stop: Stop, tokens: &[Token<'_>], end: Loc) -> GrammarFault
 
 /// The schema that the tokens are, all of them, with types that are at most at a level.
 ///
-/// A refusal names the token at which no schema within the limit goes on, or the end of the text,
-/// which is at `end`.
+/// Where a token is refused as unexpected, no schema's tokens begin with those up to it, levels
+/// aside. The place behind the last token, where the text ends too early, is `end`.
 ///
 /// Source: Cedar reference, "Schema format".
 pub fn read(
@@ -244,7 +244,7 @@ pub fn read(
     // Its types are at most at the limit.
     ensures nests { IfOk result (λ all. highest level_of_member (map member_of all.items)
         ≤ limit) }
-    // What is refused is no schema within the limit.
+    // What is refused goes on as no schema does, or is none within the limit.
     ensures refused { IfErr result (Refuses limit end (map token_of tokens.now)) }
 {
     match read_members(alloc, &mut Cursor::new(tokens), limit) {
