@@ -319,9 +319,9 @@ module _ {A : Type 0} (item other : Reader A) (alike : Like item other) where
         (λ x mid pre e s. (
           Turns (suc n) (suc k) mid,
           eat_match (Turns n k (drop 1 mid)) (Turns (suc n) (suc k) mid) (is_symbol m) (separated_from item m n (found ++ x ∷ [])) (pure (found ++ x ∷ []))
-          (separated_from other m k (found ++ x ∷ [])) (pure (found ++ x ∷ [])) mid (λ t rest us same turns. one_fewer n k mid t rest us same turns)
-          (λ sep. again (found ++ x ∷ []) (drop 1 mid) (omega (arith, dropped (is_symbol m) mid sep, ap length s, length-append pre mid)))
-          (free (Turns (suc n) (suc k) mid) (given (found ++ x ∷ []) mid) mid (pure (found ++ x ∷ [])) (like_pure (found ++ x ∷ []) mid)),
+              (separated_from other m k (found ++ x ∷ [])) (pure (found ++ x ∷ [])) mid (λ t rest us same turns. one_fewer n k mid t rest us same turns)
+              (λ sep. again (found ++ x ∷ []) (drop 1 mid) (omega (arith, dropped (is_symbol m) mid sep, ap length s, length-append pre mid)))
+              (free (Turns (suc n) (suc k) mid) (given (found ++ x ∷ []) mid) mid (pure (found ++ x ∷ [])) (like_pure (found ++ x ∷ []) mid)),
           λ us turns. fewer (suc n) (suc k) ts pre mid us s turns,
         ))
 
@@ -360,9 +360,9 @@ module _ {A : Type 0} (item other : Reader A) (alike : Like item other) where
         (λ x mid pre e s. (
           Turns (suc n) (suc k) mid,
           eat_match (Turns n k (drop 1 mid)) (Turns (suc n) (suc k) mid) (is_symbol sign.Comma) (until_from item close n (found ++ x ∷ [])) (λ us. and_then (expect close us) (λ _. pure (found ++ x ∷ [])))
-          (until_from other close k (found ++ x ∷ [])) (λ us. and_then (expect close us) (λ _. pure (found ++ x ∷ []))) mid (λ t rest us same turns. one_fewer n k mid t rest us same turns)
-          (λ sep. again (found ++ x ∷ []) (drop 1 mid) (omega (arith, dropped (is_symbol sign.Comma) mid sep, ap length s, length-append pre mid)))
-          (free (Turns (suc n) (suc k) mid) (and_then (expect close mid) (λ _. pure (found ++ x ∷ []))) mid (λ us. and_then (expect close us) (λ _. pure (found ++ x ∷ []))) (closes (found ++ x ∷ []) mid)),
+              (until_from other close k (found ++ x ∷ [])) (λ us. and_then (expect close us) (λ _. pure (found ++ x ∷ []))) mid (λ t rest us same turns. one_fewer n k mid t rest us same turns)
+              (λ sep. again (found ++ x ∷ []) (drop 1 mid) (omega (arith, dropped (is_symbol sign.Comma) mid sep, ap length s, length-append pre mid)))
+              (free (Turns (suc n) (suc k) mid) (and_then (expect close mid) (λ _. pure (found ++ x ∷ []))) mid (λ us. and_then (expect close us) (λ _. pure (found ++ x ∷ []))) (closes (found ++ x ∷ []) mid)),
           λ us turns. fewer (suc n) (suc k) ts pre mid us s turns,
         )))
 

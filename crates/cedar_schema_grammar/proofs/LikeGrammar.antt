@@ -348,11 +348,11 @@ module _ (start : Loc) where
       bind_match (Turns (suc n) (suc k) mid) (expect sign.PathSeparator) (λ _. qualifier_from start n (found ++ x.text ∷ []) x.loc) (λ _. qualifier_from start k (found ++ x.text ∷ []) x.loc) mid
       (expect sign.PathSeparator mid) (like_expect (is_symbol sign.PathSeparator) mid)
       (λ u rest front r s.
-          let sep = expect_ok sign.PathSeparator mid rest u r in (
-            Turns n k rest,
-            again (found ++ x.text ∷ []) x.loc rest (omega (arith, one_less sign.PathSeparator mid rest sep, ap length e, length-append pre mid)),
-            λ us turns. omega (arith, fewer (suc n) (suc k) mid front rest us s turns, one_less sign.PathSeparator mid rest sep),
-          ))
+      let sep = expect_ok sign.PathSeparator mid rest u r in (
+        Turns n k rest,
+        again (found ++ x.text ∷ []) x.loc rest (omega (arith, one_less sign.PathSeparator mid rest sep, ap length e, length-append pre mid)),
+        λ us turns. omega (arith, fewer (suc n) (suc k) mid front rest us s turns, one_less sign.PathSeparator mid rest sep),
+      ))
 
   turn_match : (n k : ℕ) (found : List (List ℕ)) (ts : List Token) → length ts ≤ suc n → ((more : List (List ℕ)) (place : Loc) (us : List Token) → length us ≤ n → Qualifier n k us more place)
       → Match (Turns (suc n) (suc k) ts) (qualifier_turn (qualifier_from start n) found ts) ts (qualifier_turn (qualifier_from start k) found)
