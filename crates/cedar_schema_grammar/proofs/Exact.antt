@@ -9,7 +9,7 @@ use Rattle.cedar_schema_grammar.specs.Tree.{Member, highest, level_of_member}
 use Rattle.cedar_schema_grammar.specs.Grammar.{IsSchema, IsMember, many}
 use Rattle.cedar_schema_grammar.specs.Reading.{Outcome, members, member, is_more}
 use Rattle.cedar_schema_grammar.specs.Cursor.{Reads}
-use Rattle.cedar_schema_grammar.specs.Exact.{Peek, StopsAt, NoSchema, Refuses, first_or, loc_at, located}
+use Rattle.cedar_schema_grammar.specs.Exact.{Peek, BeginsNoSchema, NoSchema, Refuses, first_or, loc_at, located}
 use Rattle.cedar_schema_grammar.proofs.Steps.{same_pair}
 use Rattle.cedar_schema_grammar.proofs.Lists.{while_done}
 use Rattle.cedar_schema_grammar.proofs.Places.{past}
@@ -67,7 +67,7 @@ begins_none limit ts left before rest s l e us peek ms h =
     let read = members_again m ms (it.0 ++ us) [] (subst Q (sym same.0) h) refl (omega arith) in
     absurd (cc)
 
-stops_at : (limit : ℕ) (end : Loc) (ts : List Token) (left : ℕ) → members limit ts ≡ Err (Unexpected left) → StopsAt end ts (loc_at end left ts)
+stops_at : (limit : ℕ) (end : Loc) (ts : List Token) (left : ℕ) → members limit ts ≡ Err (Unexpected left) → BeginsNoSchema end ts (loc_at end left ts)
 stops_at limit end ts left e =
     let one = seen limit limit (omega arith) ts left e in
     let many : length (one.0 ++ one.1) - left ≡ length one.0 = omega (arith, length-append one.0 one.1, one.3) in

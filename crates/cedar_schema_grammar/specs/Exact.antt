@@ -36,8 +36,8 @@ IsPlace end ts loc = (n : ℕ) × (loc ≡ first_or end (drop n ts))
 
 -- The tokens before the place and the one there begin no schema, whatever its levels; at the end of
 -- the text they are none.
-abbrev pub StopsAt : Loc → List Token → Loc → Type 0
-StopsAt end ts loc =
+abbrev pub BeginsNoSchema : Loc → List Token → Loc → Type 0
+BeginsNoSchema end ts loc =
     (before : List Token) × (rest : List Token) × (ts ≡ before ++ rest) × (loc ≡ first_or end rest)
     × ((others : List Token) → Peek rest others → (members : List Member)
     → IsSchema members (before ++ others) → ⊥)
@@ -45,7 +45,7 @@ StopsAt end ts loc =
 -- no schema goes on so, or none does within the limit
 abbrev pub Refuses : ℕ → Loc → List Token → GrammarFault → Type 0
 Refuses limit end ts Memory = ⊤
-Refuses limit end ts (Unexpected loc) = StopsAt end ts loc
+Refuses limit end ts (Unexpected loc) = BeginsNoSchema end ts loc
 Refuses limit end ts (TooDeep loc) = NoSchema limit ts × IsPlace end ts loc
 
 -- why reading stopped, with its place

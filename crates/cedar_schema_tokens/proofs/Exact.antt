@@ -9,7 +9,7 @@ use Rattle.cedar_schema_tokens.specs.declared.fault.Wrong.TheVariants as wrong
 use Rattle.cedar_schema_tokens.specs.Token.{Lexeme, Token}
 use Rattle.cedar_schema_tokens.specs.Lexical.{Outcome, after_gap, lexeme_at, place, fault_of, token_between, onward, tokens_from, tokens}
 use Rattle.cedar_schema_tokens.specs.Written.{IsWritten, Begin, AreTokens}
-use Rattle.cedar_schema_tokens.specs.Refused.{StopsAt, IsFaultOf, IsRefused, HasNoTokens}
+use Rattle.cedar_schema_tokens.specs.Refused.{IsStop, IsFaultOf, IsRefused, HasNoTokens}
 use Rattle.cedar_schema_tokens.proofs.Gaps.{after_gap_shorter, gap_none_left}
 use Rattle.cedar_schema_tokens.proofs.Single.{lexeme_takes, lexeme_again, lexeme_stops, written_shorter}
 
@@ -44,7 +44,7 @@ token_turn source total n found more all front rest t is some e same =
 
 abbrev pub Tells : ℕ → ℕ → List Token → List ℕ → Read → Type 0
 Tells source total found all (Ok out) = (ts : List Token) × (rest : List ℕ) × (out ≡ found ++ ts) × Begin source total ts all rest × (after_gap rest ≡ [])
-Tells source total found all (Err stop) = (ts : List Token) × (rest : List ℕ) × Begin source total ts all rest × StopsAt stop (after_gap rest)
+Tells source total found all (Err stop) = (ts : List Token) × (rest : List ℕ) × Begin source total ts all rest × IsStop stop (after_gap rest)
 
 none_of : (all : List ℕ) → length all ≤ 0 → all ≡ []
 none_of [] e = refl

@@ -12,7 +12,7 @@ use Rattle.cedar_schema_tokens.specs.declared.token.Symbol.TheVariants as sign
 use Rattle.cedar_schema_tokens.specs.Token.{Lexeme, ident, text, symbol}
 use Rattle.cedar_schema_tokens.specs.Lexical.{Outcome, and_then, first, split_while, is_start, is_word, symbol_of, one_symbol, quoted, bad_character, other_lexeme, lexeme_at}
 use Rattle.cedar_schema_tokens.specs.Written.{spelling, is_id, ArePieces, IsWritten}
-use Rattle.cedar_schema_tokens.specs.Refused.{NoToken, IsBegunText, StopsAt}
+use Rattle.cedar_schema_tokens.specs.Refused.{NoToken, IsBegunText, IsStop}
 use Rattle.cedar_schema_tokens.proofs.Runs.{chosen, other_byte, split_passes, run_all, run_parts, Ends, run_ends, run_again, begins_with, begins_as, begins_with_two}
 use Rattle.cedar_schema_tokens.proofs.Quoted.{given, Tells, quoted_tells, quoted_again, pieces_shorter}
 
@@ -176,9 +176,9 @@ bind_stops : {A B : Type 0} (o : Outcome A) (f : A → List ℕ → Outcome B) (
 bind_stops (Ok p) f stop never e = absurd (never p.0 p.1 e)
 bind_stops (Err d) f stop never e = cc
 
-text_stops : (all : List ℕ) (stop : Stop) → all ≡ 34 ∷ drop 1 all → Tells (length all) [] (drop 1 all) (Err stop) → StopsAt stop all
+text_stops : (all : List ℕ) (stop : Stop) → all ≡ 34 ∷ drop 1 all → Tells (length all) [] (drop 1 all) (Err stop) → IsStop stop all
 text_stops all stop begins h =
-    let P : Stop → Type 0 = λ s. StopsAt s all in
+    let P : Stop → Type 0 = λ s. IsStop s all in
     let begun : IsBegunText all h.2 = (h.1, h.0, drop 1 all, begins, h.3) in
     elim h.4 [
       | inl p ↦ subst P (sym p.1) (h.2, begun, p.0, refl, refl)
@@ -191,14 +191,14 @@ not_34 x e is = grind (arith, nat_tests)
 no_token : (all : List ℕ) (stop : Stop) → all ≢ [] → first all == 34 ≡ false → lexeme_at all ≡ Err stop → NoToken all
 no_token all stop some unclosed e = (some, not_34 (first all) unclosed, λ t rest h. (let again = lexeme_again t all rest h in absurd (cc)))
 
-symbol_stops : (all : List ℕ) (stop : Stop) (o : Option Symbol) → NoToken all → one_symbol all o ≡ Err stop → StopsAt stop all
+symbol_stops : (all : List ℕ) (stop : Stop) (o : Option Symbol) → NoToken all → one_symbol all o ≡ Err stop → IsStop stop all
 symbol_stops all stop (Some m) none e = absurd (cc)
 symbol_stops all stop None none e =
     let same : bad_character all ≡ stop = cc in
-    let P : Stop → Type 0 = λ s. StopsAt s all in
+    let P : Stop → Type 0 = λ s. IsStop s all in
     subst P same (none, refl, refl)
 
-pub lexeme_stops : (all : List ℕ) (stop : Stop) → all ≢ [] → lexeme_at all ≡ Err stop → StopsAt stop all
+pub lexeme_stops : (all : List ℕ) (stop : Stop) → all ≢ [] → lexeme_at all ≡ Err stop → IsStop stop all
 unfolding lexeme_at
 lexeme_stops all stop some e =
     elim (chosen (is_start (first all)) _ _ _ e) [

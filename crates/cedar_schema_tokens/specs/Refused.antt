@@ -26,18 +26,18 @@ IsBegunText all rest = (ps : List Piece) × (bytes : List ℕ) × (inner : List 
 
 -- Reading stops at these bytes: a character begins no token; a quoted text goes on to the end; or it has no part where one should begin. The numbers
 -- count the bytes from the fault on, and those behind it.
-abbrev pub StopsAt : Stop → List ℕ → Type 0
-StopsAt (At wrong.Character left behind) all = NoToken all × (left ≡ length all) × (behind ≡ length all - len_utf8 (first_char all))
-StopsAt (At wrong.Quote left behind) all =
+abbrev pub IsStop : Stop → List ℕ → Type 0
+IsStop (At wrong.Character left behind) all = NoToken all × (left ≡ length all) × (behind ≡ length all - len_utf8 (first_char all))
+IsStop (At wrong.Quote left behind) all =
     (rest : List ℕ) × IsBegunText all rest × ((rest ≡ []) ⊎ (rest ≡ 92 ∷ [])) × (left ≡ length all) × (behind ≡ 0)
-StopsAt (At wrong.Part left behind) all =
+IsStop (At wrong.Part left behind) all =
     (rest : List ℕ) × (width : ℕ) × IsBegunText all rest × IsBadPart width rest × (left ≡ length rest) × (behind ≡ length rest - width)
-StopsAt Memory all = ⊤
+IsStop Memory all = ⊤
 
 -- Tokens begin the text, and reading stops behind them.
 abbrev pub IsFaultOf : ℕ → List ℕ → TokenFault → Type 0
 IsFaultOf source all it =
-    (ts : List Token) × (rest : List ℕ) × (stop : Stop) × Begin source (length all) ts all rest × StopsAt stop (after_gap rest)
+    (ts : List Token) × (rest : List ℕ) × (stop : Stop) × Begin source (length all) ts all rest × IsStop stop (after_gap rest)
     × (it ≡ fault_of source (length all) stop)
 
 -- The fault that is named is in the text, at the place that is named.
