@@ -1,4 +1,5 @@
--- The grammar of a schema's text (Cedar reference, "Schema format"). A part says of some tokens that they begin with it, and of the rest that
+-- The grammar of a schema's text (Cedar reference, "Schema format"). A part says of some tokens
+-- that they begin with it, and of the rest that
 -- they go on after it.
 use Rattle.std.specs.Prelude.{◌≡◌, ℕ, ◌-◌, List, [], ◌∷◌, length, drop, Bool, true, false, Option, None, Some, ◌⊎◌, codes}
 use Rattle.cedar_ast.specs.declared.loc.Loc.{Loc}
@@ -112,7 +113,9 @@ any_text ts rest = (s : List ℕ) × token (text s) ts rest
 
 -- "@" ID ["(" TEXT ")"]
 abbrev pub IsAnnotation : Name → Form
-IsAnnotation x = mark sign.At then IsId x then optional (mark sign.OpenParenthesis then any_text then mark sign.CloseParenthesis)
+IsAnnotation x =
+    mark sign.At then IsId x
+    then optional (mark sign.OpenParenthesis then any_text then mark sign.CloseParenthesis)
 
 -- annotations = {"@" ID ["(" TEXT ")"]}
 abbrev pub AreAnnotations : List Name → Form
@@ -129,20 +132,24 @@ unfoldable mutual
   -- type = path | "Set" "<" type ">" | record
   pub IsType : Ty → List Token → List Token → Type 0
   IsType (named path) = IsPath path
-  IsType (set_of element) = word (codes "Set") then mark sign.Less then IsType element then mark sign.Greater
-  IsType (record_of all loc) = (mark sign.OpenBrace then AreAttributes all then mark sign.CloseBrace) at loc
+  IsType (set_of element) =
+      word (codes "Set") then mark sign.Less then IsType element then mark sign.Greater
+  IsType (record_of all loc) =
+      (mark sign.OpenBrace then AreAttributes all then mark sign.CloseBrace) at loc
 
   -- [attribute {"," attribute} [","]], where attribute = annotations name ["?"] ":" type
   pub AreAttributes : Attributes → List Token → List Token → Type 0
   AreAttributes no_attributes = nothing
   AreAttributes (attribute annotations name is_required ty more) =
-      AreAnnotations annotations then IsName name then IsPresence is_required then mark sign.Colon then IsType ty then AreMore more
+      AreAnnotations annotations then IsName name then IsPresence is_required then mark sign.Colon
+      then IsType ty then AreMore more
 
   -- {"," attribute} [","]
   pub AreMore : Attributes → List Token → List Token → Type 0
   AreMore no_attributes = optional (mark sign.Comma)
   AreMore (attribute annotations name is_required ty more) =
-      mark sign.Comma then AreAnnotations annotations then IsName name then IsPresence is_required then mark sign.Colon then IsType ty then AreMore more
+      mark sign.Comma then AreAnnotations annotations then IsName name then IsPresence is_required
+      then mark sign.Colon then IsType ty then AreMore more
 
 -- record = "{" [attribute {"," attribute} [","]] "}"
 abbrev pub IsRecord : Ty → Form
@@ -178,7 +185,9 @@ AreTags (Some ty) = word (codes "tags") then IsType ty
 
 -- "enum" "[" TEXT {"," TEXT} [","] "]" | ["in" paths] [["="] record] ["tags" type]
 abbrev pub IsBody : Body → Form
-IsBody (choices texts) = word (codes "enum") then mark sign.OpenBracket then some IsText texts then mark sign.CloseBracket
+IsBody (choices texts) =
+    word (codes "enum") then mark sign.OpenBracket then some IsText texts
+    then mark sign.CloseBracket
 IsBody (standard parents shape tags) = IsBelow parents then IsShape shape then AreTags tags
 
 -- ---- actions
@@ -193,13 +202,17 @@ IsParent p = IsReference p.ty p.id at p.loc
 
 -- parents = parent | "[" [parent {"," parent} [","]] "]"
 abbrev pub AreParents : List Parent → Form
-AreParents ps = only IsParent ps or mark sign.OpenBracket then any IsParent ps then mark sign.CloseBracket
+AreParents ps =
+    only IsParent ps or mark sign.OpenBracket then any IsParent ps then mark sign.CloseBracket
 
 -- part = ("principal"|"resource") ":" paths | "context" ":" (path|record)
 abbrev pub SaysSo : Says → Loc → Form
-SaysSo (principals ps) loc = token_at (ident (codes "principal")) loc then mark sign.Colon then ArePaths ps
-SaysSo (resources ps) loc = token_at (ident (codes "resource")) loc then mark sign.Colon then ArePaths ps
-SaysSo (context ty) loc = token_at (ident (codes "context")) loc then mark sign.Colon then IsContext ty
+SaysSo (principals ps) loc =
+    token_at (ident (codes "principal")) loc then mark sign.Colon then ArePaths ps
+SaysSo (resources ps) loc =
+    token_at (ident (codes "resource")) loc then mark sign.Colon then ArePaths ps
+SaysSo (context ty) loc =
+    token_at (ident (codes "context")) loc then mark sign.Colon then IsContext ty
 
 abbrev pub IsPart : Part → Form
 IsPart p = SaysSo p.says p.loc
@@ -212,7 +225,9 @@ IsIn (Some ps) = word (codes "in") then AreParents ps
 -- ["appliesTo" "{" part {"," part} [","] "}"]
 abbrev pub IsApplies : Option Applies → Form
 IsApplies None = nothing
-IsApplies (Some it) = (word (codes "appliesTo") then mark sign.OpenBrace then some IsPart it.parts then mark sign.CloseBrace) at it.loc
+IsApplies (Some it) =
+    (word (codes "appliesTo") then mark sign.OpenBrace then some IsPart it.parts
+    then mark sign.CloseBrace) at it.loc
 
 -- ["attributes" "{" "}"]
 abbrev pub no_values : Form
@@ -229,21 +244,28 @@ IsExternal false = nothing
 -- action = "action" name {"," name} ["in" parents] ["appliesTo" ..] ["attributes" "{" "}"]
 -- common = "type" ID "=" type
 abbrev pub IsItem : Item → Form
-IsItem (entity external names body) = IsExternal external then word (codes "entity") then separated sign.Comma IsId names then IsBody body
+IsItem (entity external names body) =
+    IsExternal external then word (codes "entity") then separated sign.Comma IsId names
+    then IsBody body
 IsItem (action external names parents applies) =
-    IsExternal external then word (codes "action") then separated sign.Comma IsName names then IsIn parents then IsApplies applies then no_values
+    IsExternal external then word (codes "action") then separated sign.Comma IsName names
+    then IsIn parents then IsApplies applies then no_values
 IsItem (common name ty) = word (codes "type") then IsId name then mark sign.Equals then IsType ty
 
 -- annotations declaration, where declaration = (["external"] (entity|action) | common) ";"
 abbrev pub IsDeclaration : Declaration → Form
-IsDeclaration d = AreAnnotations d.annotations then ((IsItem d.item then mark sign.Semicolon) at d.loc)
+IsDeclaration d =
+    AreAnnotations d.annotations then ((IsItem d.item then mark sign.Semicolon) at d.loc)
 
 -- annotations ("namespace" path "{" {annotations declaration} "}" | declaration)
 abbrev pub IsMember : Member → Form
 IsMember (namespace annotations path declarations loc) =
-    AreAnnotations annotations then word (codes "namespace") then IsPath path then ((mark sign.OpenBrace then many IsDeclaration declarations then mark sign.CloseBrace) at loc)
+    AreAnnotations annotations then word (codes "namespace") then IsPath path
+    then ((mark sign.OpenBrace then many IsDeclaration declarations
+    then mark sign.CloseBrace) at loc)
 IsMember (alone d) = IsDeclaration d
 
--- schema = {annotations ("namespace" path "{" {annotations declaration} "}" | declaration)}, all of the tokens
+-- schema = {annotations ("namespace" path "{" {annotations declaration} "}" | declaration)}, all of
+-- the tokens
 abbrev pub IsSchema : List Member → List Token → Type 0
 IsSchema members ts = many IsMember members ts []

@@ -29,7 +29,13 @@ abbrev pub path_of : code_path.Path → Path
 path_of p = record { ids = map string_bytes p.ids.items; loc = p.loc }
 
 abbrev pub attribute_step : code_attribute.Attribute Ty → Attribute
-attribute_step a = record { annotations = map name_of a.annotations.items; name = name_of a.name; is_required = a.is_required; of = a.of }
+attribute_step a =
+    record {
+      annotations = map name_of a.annotations.items;
+      name = name_of a.name;
+      is_required = a.is_required;
+      of = a.of;
+    }
 
 -- one level, with what the types inside stand for in their places
 abbrev pub type_step : layer.Type-F Ty → Ty
@@ -41,7 +47,13 @@ abbrev pub type_of : code.Type → Ty
 type_of = code.fold-Type Ty type_step
 
 abbrev pub attribute_of : code_attribute.Attribute code.Type → Attribute
-attribute_of a = record { annotations = map name_of a.annotations.items; name = name_of a.name; is_required = a.is_required; of = type_of a.of }
+attribute_of a =
+    record {
+      annotations = map name_of a.annotations.items;
+      name = name_of a.name;
+      is_required = a.is_required;
+      of = type_of a.of;
+    }
 
 abbrev pub parent_of : code_parent.Parent → Parent
 parent_of p = record { ty = option_map path_of p.ty; id = name_of p.id; loc = p.loc }
@@ -59,18 +71,23 @@ applies_of it = record { parts = map part_of it.parts.items; loc = it.loc }
 
 abbrev pub body_of : code_body.Body → Body
 body_of (bodies.Choices names) = choices (map name_of names.items)
-body_of (bodies.Standard parents shape tags) = standard (map path_of parents.items) (option_map type_of shape) (option_map type_of tags)
+body_of (bodies.Standard parents shape tags) =
+    standard (map path_of parents.items) (option_map type_of shape) (option_map type_of tags)
 
 abbrev pub item_of : code_item.Item → Item
-item_of (items.Entity external names body) = entity external (map name_of names.items) (body_of body)
+item_of (items.Entity external names body) =
+    entity external (map name_of names.items) (body_of body)
 item_of (items.Action external names parents applies) =
-    action external (map name_of names.items) (option_map (λ v. map parent_of v.items) parents) (option_map applies_of applies)
+    action external (map name_of names.items) (option_map (λ v. map parent_of v.items) parents)
+    (option_map applies_of applies)
 item_of (items.Common name of) = common (name_of name) (type_of of)
 
 abbrev pub declaration_of : code_declaration.Declaration → Declaration
-declaration_of d = record { annotations = map name_of d.annotations.items; item = item_of d.item; loc = d.loc }
+declaration_of d =
+    record { annotations = map name_of d.annotations.items; item = item_of d.item; loc = d.loc }
 
 abbrev pub member_of : code_member.Member → Member
 member_of (member.Namespace annotations path declarations loc) =
-    namespace (map name_of annotations.items) (path_of path) (map declaration_of declarations.items) loc
+    namespace (map name_of annotations.items) (path_of path)
+    (map declaration_of declarations.items) loc
 member_of (member.Alone d) = alone (declaration_of d)

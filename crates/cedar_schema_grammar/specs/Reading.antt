@@ -171,7 +171,8 @@ module _ {A : Type 0} (item : Reader A) where
   unfoldable pub while_from : (List Token → Bool) → ℕ → List A → Reader (List A)
   while_from go zero found = pure found
   while_from go (suc n) found =
-      λ ts. if go ts then and_then (item ts) (λ x. while_from go n (found ++ x ∷ [])) else Ok (found, ts)
+      λ ts. if go ts then and_then (item ts) (λ x. while_from go n (found ++ x ∷ []))
+      else Ok (found, ts)
 
   abbrev pub while : (List Token → Bool) → Reader (List A)
   while go = λ ts. while_from go (length ts) [] ts
@@ -215,16 +216,20 @@ module _ (inner : Reader Ty) where
 
   -- from `Set <` on
   unfoldable pub set_with : Reader Ty
-  set_with = λ ts. and_then (inner (drop 2 ts)) (λ element. expect sign.Greater >> pure (set_of element))
+  set_with =
+      λ ts. and_then (inner (drop 2 ts)) (λ element. expect sign.Greater >> pure (set_of element))
 
   -- from `{` on
   unfoldable pub record_with : Reader Ty
-  record_with = λ ts. and_then (until attribute_with sign.CloseBrace (drop 1 ts)) (λ all rest. Ok (record_of (attributes_from all) (between ts rest), rest))
+  record_with =
+      λ ts. and_then (until attribute_with sign.CloseBrace (drop 1 ts))
+      (λ all rest. Ok (record_of (attributes_from all) (between ts rest), rest))
 
 -- by what it begins with
 abbrev pub type_by : Reader Ty → Reader Ty → Reader Ty
 type_by set whole = λ ts.
-    if sees sign.OpenBrace ts then whole ts else (if begins_set ts then set ts else and_then (path ts) (λ p. pure (named p)))
+    if sees sign.OpenBrace ts then whole ts
+    else (if begins_set ts then set ts else and_then (path ts) (λ p. pure (named p)))
 
 -- sets and records nest no deeper than the number
 unfoldable pub type_at : ℕ → Reader Ty
@@ -238,7 +243,9 @@ module _ (limit : ℕ) where
 
   -- a path or a record
   abbrev pub context_type : Reader Ty
-  context_type = λ ts. if sees sign.OpenBrace ts then type_at limit ts else and_then (path ts) (λ p. pure (named p))
+  context_type =
+      λ ts. if sees sign.OpenBrace ts then type_at limit ts
+      else and_then (path ts) (λ p. pure (named p))
 
   -- ---- entity types
 
@@ -250,7 +257,8 @@ module _ (limit : ℕ) where
   shape = do
     equals ← eat sign.Equals
     ts ← here
-    if equals then some_of record_type else (if sees sign.OpenBrace ts then some_of record_type else pure None)
+    if equals then some_of record_type
+        else (if sees sign.OpenBrace ts then some_of record_type else pure None)
 
   -- ["tags" type]
   unfoldable pub tags : Reader (Option Ty)
@@ -290,10 +298,11 @@ body limit = do
 -- {ID "::"}, before a text, behind ids that begin and end at these places
 unfoldable pub qualifier_from : Loc → ℕ → List (List ℕ) → Loc → Reader Path
 qualifier_from from zero found last = unexpected
-qualifier_from from (suc n) found last = λ ts. if sees_text ts then Ok (record { ids = found; loc = span from last }, ts) else (do
-  x ← id
-  expect sign.PathSeparator
-  qualifier_from from n (found ++ x.text ∷ []) x.loc) ts
+qualifier_from from (suc n) found last =
+    λ ts. if sees_text ts then Ok (record { ids = found; loc = span from last }, ts) else (do
+      x ← id
+      expect sign.PathSeparator
+      qualifier_from from n (found ++ x.text ∷ []) x.loc) ts
 
 -- the path of a parent, behind its first id and `::`
 abbrev pub qualifier : Name → Reader Path

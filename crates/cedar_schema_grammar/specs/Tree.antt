@@ -32,7 +32,8 @@ pub record Attribute : Type 0 where
 
 abbrev pub attributes_from : List Attribute → Attributes
 attributes_from [] = no_attributes
-attributes_from (a ∷ more) = attribute a.annotations a.name a.is_required a.of (attributes_from more)
+attributes_from (a ∷ more) =
+    attribute a.annotations a.name a.is_required a.of (attributes_from more)
 
 -- a parent of an action: its id, and the type where one is written
 pub record Parent : Type 0 where
@@ -55,7 +56,8 @@ pub record Applies : Type 0 where
   pub parts : List Part
   pub loc : Loc
 
--- the body of an entity type: the ids of its entities; or its parents, its shape and the type of its tags
+-- the body of an entity type: the ids of its entities; or its parents, its shape and the type of
+-- its tags
 pub data Body : Type 0 where
   choices : List Name → Body
   standard : List Path → Option Ty → Option Ty → Body
@@ -124,5 +126,6 @@ abbrev pub level_of_declaration : Declaration → ℕ
 level_of_declaration d = level_of_item d.item
 
 abbrev pub level_of_member : Member → ℕ
-level_of_member (namespace annotations path declarations loc) = highest level_of_declaration declarations
+level_of_member (namespace annotations path declarations loc) =
+    highest level_of_declaration declarations
 level_of_member (alone d) = level_of_declaration d

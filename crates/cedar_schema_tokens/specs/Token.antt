@@ -6,7 +6,8 @@ use Rattle.cedar_schema_tokens.specs.declared.token.Lexeme as code
 use Rattle.cedar_schema_tokens.specs.declared.token.Lexeme.TheVariants as variants
 use Rattle.cedar_schema_tokens.specs.declared.token.Token as code_token
 
--- What a token is: the bytes of an id, those of a quoted text with its escapes resolved, or a symbol.
+-- What a token is: the bytes of an id, those of a quoted text with its escapes resolved, or a
+-- symbol.
 pub data Lexeme : Type 0 where
   ident : List ℕ → Lexeme
   text : List ℕ → Lexeme
