@@ -1,6 +1,5 @@
 -- The grammar of a schema's text (Cedar reference, "Schema format"). A part says of some tokens
--- that they begin with it, and of the rest that
--- they go on after it.
+-- that they begin with it, and of the rest that they go on after it.
 use Rattle.std.specs.Prelude.{◌≡◌, ℕ, ◌-◌, List, [], ◌∷◌, length, drop, Bool, true, false, Option, None, Some, ◌⊎◌, codes}
 use Rattle.cedar_ast.specs.declared.loc.Loc.{Loc}
 use Rattle.cedar_schema_tokens.specs.Token.{Lexeme, ident, text, symbol, Token}

@@ -30,8 +30,8 @@ IsBegunText all rest =
     × ArePieces ps bytes inner rest
 
 -- Reading stops at these bytes: a character begins no token; a quoted text goes on to the end; or
--- it has no part where one should begin. The numbers
--- count the bytes from the fault on, and those behind it.
+-- it has no part where one should begin. The numbers count the bytes from the fault on, and those
+-- behind it.
 abbrev pub IsStop : Stop → List ℕ → Type 0
 IsStop (At wrong.Character left behind) all =
     NoToken all × (left ≡ length all) × (behind ≡ length all - len_utf8 (first_char all))

@@ -1,6 +1,5 @@
 -- How tokens are written (Cedar reference, "Schema format"). A relation says of some bytes that
--- they begin with a part, and of the rest that
--- they go on after it.
+-- they begin with a part, and of the rest that they go on after it.
 use Rattle.std.specs.Prelude.{◌≡◌, ◌≢◌, ℕ, ◌+◌, ◌*◌, ◌-◌, ◌<◌, ◌≤◌, Bool, true, false, ◌&&◌, ◌⊎◌, List, [], ◌∷◌, ◌++◌, length, Some}
 use Rattle.std.specs.List.{list_all}
 use Rattle.std.specs.Char.{is_ascii_hexdigit, encode_utf8, IsScalar}
@@ -33,8 +32,8 @@ is_id [] = false
 is_id (b ∷ bs) = is_start b && list_all is_word bs
 
 -- A backslash and a letter; `\x` and two hexadecimal digits, up to 7F; or `\u{`, one to six
--- hexadecimal digits, and `}`, where these are the code
--- of a character. The escape stands for the character c.
+-- hexadecimal digits, and `}`, where these are the code of a character. The escape stands for the
+-- character c.
 abbrev pub IsSimple : ℕ → List ℕ → List ℕ → Type 0
 IsSimple c all rest = (letter : ℕ) × (simple letter ≡ Some c) × (all ≡ 92 ∷ letter ∷ rest)
 
