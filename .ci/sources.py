@@ -148,7 +148,7 @@ class Types:
         while found := WRAPPED.match(ty):
             ty = ty[found.end() :].strip()
         if found := LISTED.match(ty):
-            return "[]" + self.head(ty[found.end() :], own)
+            return "[]" + (self.head(ty[found.end() :], own) or "")
         name = re.match(r"\w*", ty)[0]
         return own if name == "Self" else self.aliases.get(name, name)
 

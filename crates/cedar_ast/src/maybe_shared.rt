@@ -1,6 +1,6 @@
 //! Values that have one owner, or are shared by several.
 
-ghost use Rattle.std.specs.Prelude.{◌≡◌, ◌↔◌, IfOk, IfSome, IsSome, IsTrue, None, Some, false, true};
+ghost use Rattle.std.specs.Prelude.{◌≡◌, ◌↔◌, IfErr, IfOk, IfSome, IsSome, IsTrue, None, Some, false, true};
 ghost use Rattle.std.specs.Cmp.{on_equiv, on_per, on_po, on_total};
 ghost use Rattle.cedar_ast.specs.MaybeShared.{Kept};
 
@@ -91,6 +91,23 @@ impl<T: Drop> MaybeShared<T> {
         match form {
             Form::Owned(value) => Some(value),
             Form::Shared(_) => None,
+        }
+    }
+
+    /// The value, where this is its only owner, be it shared or not.
+    pub fn into_value(self) -> Result<T, Self>
+        ensures alone { IfOk result (λ value. value ≡ self.value) }
+        ensures among_others { IfErr result (λ kept. kept ≡ self) }
+    {
+        let MaybeShared { form } = self;
+        match form {
+            Form::Owned(value) => Ok(value),
+            Form::Shared(shared) => match Rc::try_unwrap(shared) {
+                Ok(value) => Ok(value),
+                Err(shared) => Err(MaybeShared {
+                    form: Form::Shared(shared),
+                }),
+            },
         }
     }
 

@@ -2,7 +2,7 @@
 
 ghost use Rattle.std.specs.Prelude.{◌≡◌, ◌↔◌, ◌∷◌, [], Contains, IfOk, IsTrue, map};
 ghost use Rattle.std.specs.Option.{option_map};
-ghost use Rattle.cedar_compare.specs.Words.{ActionEntity, AreKept, AreAncestorsLost, AreVersions, IsAnswer, IsBelowAnswer, IsBesideAnswer, IsChoiceAnswer, IsChoiceOf, IsEntityIn, IsFreshEntity, IsSampleOf, IsStandard, IsTagOutside, IsTypeCause, IsAncestorCause, MayStandAbove, SchemaEntityType, bare_entity, choice_texts, eid_text, entity_type_of, enumerated_kind, kind_fields, kind_openness, kind_tags, named_values, new_of, no_entry, old_of, one_tag, plain_action_entity, plain_cause, plain_difference, plain_outside, plain_type, type_name, type_subject, uid_of, value_tree};
+ghost use Rattle.cedar_compare.specs.Words.{ActionEntity, AreKept, AreAncestorsLost, AreVersions, IsAnswer, IsBelowAnswer, IsBesideAnswer, IsChoiceAnswer, IsChoiceOf, IsEntityIn, IsFreshEntity, IsSampleOf, IsStandard, IsTagOutside, IsTypeCause, IsAncestorCause, MayStandAbove, SchemaEntityType, bare_entity, choice_texts, eid_text, entity_type_of, enumerated_kind, fields_of, kind_fields, kind_openness, kind_tags, named_values, new_of, no_entry, old_of, one_tag, plain_action_entity, plain_cause, plain_difference, plain_outside, plain_type, type_name, type_subject, uid_of, value_tree};
 
 use crate::ancestors::Ancestors;
 use crate::bare::{is_bare_of_type, is_without_ancestors};
@@ -11,7 +11,9 @@ use crate::difference::{Cause, Difference};
 use crate::fresh::fresh_uid;
 use crate::versions::{Versions, find_type, is_enumerated_at, lists_type};
 use cedar_ast::{Eid, Entity, EntityType, EntityUID, M, NonEmpty, Value};
-use cedar_counterexample::{Outside, attributes_outside, outside, sample_attributes, sample_value};
+use cedar_counterexample::{
+    Outside, RecordShape, attributes_outside, outside, sample_attributes, sample_value,
+};
 use cedar_schema::{ValidatorEntityType, ValidatorEntityTypeKind};
 use std::collections::{BTreeMap, BTreeSet};
 
@@ -222,6 +224,18 @@ fn is_standard(ty: &ValidatorEntityType) -> bool
     }
 }
 
+/// The shape of the entities of a type.
+fn shape(ty: &ValidatorEntityType) -> RecordShape<'_>
+    ensures attributes { fields_of result.attributes.now
+        ≡ kind_fields (entity_type_of ty.now).kind }
+    ensures openness { result.openness ≡ kind_openness (entity_type_of ty.now).kind }
+{
+    RecordShape {
+        attributes: ty.attributes(),
+        openness: ty.open_attributes(),
+    }
+}
+
 /// What is lost of a standard entity type.
 fn lost_standard(
     versions: &Versions<'_>,
@@ -247,10 +261,8 @@ fn lost_standard(
     }
     let found = attributes_outside(
         versions.alloc,
-        old.attributes(),
-        old.open_attributes(),
-        new.attributes(),
-        new.open_attributes(),
+        shape(old),
+        shape(new),
         versions.extensions,
         versions.samples,
     )?;

@@ -38,6 +38,7 @@ pub use Rattle.cedar_types.specs.declared.types.Type.{fold-roll-Type}
 unfoldable pub use Rattle.cedar_types.specs.declared.types.Type.{roll-Type}
 pub use Rattle.cedar_counterexample.specs.Counterexample.{IsCounterexample, IsCounterexampleAnswer, IsOutsideAnswer, IsValueOf, PlainFound, PlainStart, empty_start, found_element, found_of, record_found, start_of, start_through}
 pub use Rattle.cedar_counterexample.specs.Filling.{IsAttributeStart, IsFieldStart, IsFilled, IsPut, IsRecordStart, IsStart}
+pub use Rattle.cedar_counterexample.specs.RecordShape.{shape_type}
 pub use Rattle.cedar_counterexample.specs.Search.{AreSampledIn, IsSampledIn}
 pub use Rattle.cedar_counterexample.specs.Steps.{IsOutsideAt, PlainStep, ShareNoParts, step_of, steps_of}
 pub use Rattle.cedar_counterexample.specs.ValueEntries.{value_entries}

@@ -1,15 +1,16 @@
 //! Values of one type that another hasn't.
 
 ghost use Rattle.std.specs.Prelude.{◌≡◌, ◌↔◌, IfOk, IfSome, None};
-ghost use Rattle.cedar_counterexample.specs.Words.{AreInhabitedWith, Below, Has, IsInhabitedWith, IsOutsideAt, IsStatedWith, IsValue, Permissive, ValuesIncluded, fields_of, map_value, record_of, steps_of, ty_of, value_entries, value_tree, value_trees};
+ghost use Rattle.cedar_counterexample.specs.Words.{AreInhabitedWith, Below, Has, IsInhabitedWith, IsOutsideAt, IsStatedWith, IsValue, Permissive, ValuesIncluded, fields_of, map_value, shape_type, steps_of, ty_of, value_entries, value_tree, value_trees};
 
 use crate::found::{AttributesOutside, Found, Outside, Start};
 use crate::named::named_values;
+use crate::record_shape::RecordShape;
 use crate::search::Search;
 use crate::separating::{separating_expr, separating_values};
 use crate::steps::turned;
 use cedar_ast::{Extensions, M, Value};
-use cedar_types::{Attributes, OpenTag, Type};
+use cedar_types::Type;
 use std::alloc::Global;
 
 /// A value that the one type has and the other hasn't, with the steps down both types to where they
@@ -90,40 +91,36 @@ pub fn value_outside(
 /// The values of a record that the one record type has and the other hasn't, by name, with the
 /// steps down both types to where they part, if there is one.
 ///
-/// It answers what `outside` does of the record types that have these attributes and are open or
-/// closed as is said, and is for attributes that aren't yet part of a type. The types of those of
-/// the first have to be inhabited by the samples. Out of memory is the only refusal.
+/// It answers what `outside` does of the record types of these shapes, and is for attributes that
+/// aren't yet part of a type. The types of those of the first have to be inhabited by the samples.
+/// Out of memory is the only refusal.
 pub fn attributes_outside(
     alloc: Global,
-    a: &Attributes,
-    openness: OpenTag,
-    b: &Attributes,
-    upper_openness: OpenTag,
+    a: RecordShape<'_>,
+    b: RecordShape<'_>,
     extensions: &Extensions,
     samples: &[Value],
 ) -> M<Option<AttributesOutside>>
-    requires { AreInhabitedWith extensions.now (value_trees samples.now) (fields_of a.now) }
+    requires { AreInhabitedWith extensions.now (value_trees samples.now)
+        (fields_of a.attributes.now) }
     ensures none { IfOk result (λ found. (found ≡ None)
-        ↔ ValuesIncluded extensions.now (record_of (fields_of a.now) openness)
-        (record_of (fields_of b.now) upper_openness)) }
+        ↔ ValuesIncluded extensions.now (shape_type a.entry) (shape_type b.entry)) }
     ensures real { IfOk result (λ found.
         IfSome found (λ it. IsValue (map_value (value_entries it.attributes)))) }
     ensures has { IfOk result (λ found. IfSome found (λ it.
-        Has extensions.now (map_value (value_entries it.attributes))
-        (record_of (fields_of a.now) openness))) }
+        Has extensions.now (map_value (value_entries it.attributes)) (shape_type a.entry))) }
     ensures lacks { IfOk result (λ found. IfSome found (λ it.
-        ¬ Has extensions.now (map_value (value_entries it.attributes))
-        (record_of (fields_of b.now) upper_openness))) }
+        ¬ Has extensions.now (map_value (value_entries it.attributes)) (shape_type b.entry))) }
     ensures steps { IfOk result (λ found. IfSome found (λ it.
-        IsOutsideAt extensions.now (steps_of it.steps) (record_of (fields_of a.now) openness)
-        (record_of (fields_of b.now) upper_openness))) }
+        IsOutsideAt extensions.now (steps_of it.steps) (shape_type a.entry)
+        (shape_type b.entry))) }
 {
     let search = Search {
         alloc,
         extensions,
         samples,
     };
-    match separating_values(&search, a, openness, b, upper_openness)? {
+    match separating_values(&search, a.attributes, a.openness, b.attributes, b.openness)? {
         Some(start) => {
             let Start { values, steps } = start;
             let steps = turned(steps);

@@ -8,6 +8,7 @@
 
 pub use divergence::{attributes_outside, outside, separating_value, value_outside};
 pub use found::{AttributesOutside, Outside};
+pub use record_shape::RecordShape;
 pub use sampling::{sample_attributes, sample_value};
 pub use steps::Step;
 
@@ -17,6 +18,7 @@ mod fresh;
 mod leaves;
 mod named;
 mod putting;
+mod record_shape;
 mod samples;
 mod sampling;
 mod search;

@@ -1,6 +1,7 @@
 //! What keys reach, converted back to edges of nodes.
 
-ghost use Rattle.std.specs.Prelude.{◌≡◌, ℕ, ◌<◌, ◌≤◌, Contains, IsTrue, OnOk, vec_len};
+ghost use Rattle.std.specs.Prelude.{◌≡◌, ℕ, ◌<◌, ◌≤◌, Contains, IfOk, IsTrue, OnOk, vec_len};
+ghost use Rattle.std.specs.List.{list_any};
 ghost use Rattle.std.specs.HashMap.{get, keys, ContainsKey};
 ghost use Rattle.cedar_graph.specs.Words.{GrowsAt, GrowsBy, HasEdge, IsTarget, ListHas, StandsIn};
 
@@ -9,14 +10,20 @@ use cedar_ast::M;
 use std::collections::HashMap;
 use std::hash::Hash;
 
-/// Adds an edge to the key.
-fn add_edge<K: Eq + Hash + Drop, V: TCNode<K>>(node: &mut V, name: &K) -> M<()>
-    ensures grows { GrowsBy V.has_edge V.is_alike node.old node.new (λ to.
-        IsTrue (K.eq to name.now)) }
-    ensures complete { OnOk result
-        ((to : K) → IsTrue (K.eq to name.now) → IsTrue (V.has_edge node.new to)) }
+/// Copies of the names whose numbers stand in the list.
+fn named<K: Eq + Hash + Drop, V: TCNode<K>>(numbers: &[usize], names: &Vec<K>) -> M<Vec<K>>
+    requires { (number : ℕ) → Contains numbers.now number → number < vec_len names.now }
+    ensures sound { IfOk result (λ keys. (to : K) → IsTrue (list_any (K.eq to) keys.items)
+        → StandsIn K.eq names.now.items numbers.now to) }
+    ensures complete { IfOk result (λ keys. (to : K)
+        → StandsIn K.eq names.now.items numbers.now to
+        → IsTrue (list_any (K.eq to) keys.items)) }
 {
-    node.add_edge_to(V::copy_key(name)?)
+    let mut keys = Vec::with_capacity(*names.allocator(), numbers.len())?;
+    for number in numbers {
+        keys.push(V::copy_key(&names[*number])?)?;
+    }
+    Ok(keys)
 }
 
 /// Adds to the node an edge to each name whose number stands in the list.
@@ -31,10 +38,7 @@ pub(crate) fn add_edges<K: Eq + Hash + Drop, V: TCNode<K>>(
     ensures complete { OnOk result ((to : K) → StandsIn K.eq names.now.items numbers.now to
         → IsTrue (V.has_edge node.new to)) }
 {
-    for number in numbers {
-        add_edge(node, &names[*number])?;
-    }
-    Ok(())
+    node.add_edges_to(named::<K, V>(numbers, names)?)
 }
 
 /// Adds to the node at the name an edge to each name whose number stands in the list.

@@ -35,6 +35,15 @@ pub trait TCNode<K: Eq + Hash> {
             → has_edge self.new other ≡ has_edge self.old other) }
         ensures alike { is_alike self.old self.new };
 
+    /// Adds an edge to each of the keys and changes nothing else. Out of memory is the only
+    /// refusal, after which the node has the edges it had.
+    fn add_edges_to(&mut self, keys: Vec<K>) -> M<()>
+        ensures added { OnOk result ((other : K) → has_edge self.new other
+            ≡ (list_any (K.eq other) keys.items || has_edge self.old other)) }
+        ensures err { OnErr result ((other : K)
+            → has_edge self.new other ≡ has_edge self.old other) }
+        ensures alike { is_alike self.old self.new };
+
     /// The keys that the node has an edge to.
     fn out_edges(&self) -> btree_set::Iter<'_, K>
         ensures { (other : K) → list_any (K.eq other) result ≡ has_edge self.now other };

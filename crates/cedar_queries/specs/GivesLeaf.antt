@@ -8,11 +8,11 @@ use Rattle.cedar_type_rules.specs.Ty.{Ty}
 use Rattle.cedar_types.specs.Meaning.{ty_of}
 use Rattle.cedar_types.specs.declared.types.Type.{«Type»}
 
--- the types that are yet to be gone over
+-- the types that are yet to be visited
 abbrev pub pending_types : TypeIterator → List Ty
 pending_types it = shown_types it.pending.items
 
--- one step over the leaves of some types, to the types that are yet to be gone over: one leaf, with
+-- one step over the leaves of some types, to the types that are yet to be visited: one leaf, with
 -- all others left; or the end, where there are none; or out of memory, after which nothing is left
 abbrev pub GivesLeaf : List Ty → Option (Result (Bor «Type») Memory) → List Ty → Type 0
 GivesLeaf before None after = (leaves_of before ≡ []) × (after ≡ [])

@@ -27,7 +27,7 @@ pub record CarriesUnresolved (declared : List (EntityType × ValidatorEntityType
   pub actions_in_order : IsSorted uid_cmp (map uid_of error.actions.items)
   pub loc : error.loc ≡ loc_of_first (unresolved declared known)
 
--- memory aside, the error says what is external
+-- the error says what is external, unless memory runs out
 abbrev pub IsIncomplete : List (EntityType × ValidatorEntityType)
     → List (EntityUID × ValidatorActionId) → CompleteError → Type 0
 IsIncomplete types actions (variant.Incomplete error) = CarriesUnresolved types actions error

@@ -4,7 +4,6 @@ pub mod LocatedType
 pub mod NamedOver
 pub mod SchemaKeys
 pub mod SchemaParts
-pub mod Shared
 pub mod ShownCommonTypes
 pub mod ShownNamespaces
 pub mod TypeLocations

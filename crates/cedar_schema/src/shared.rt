@@ -2,38 +2,26 @@
 
 ghost use Rattle.std.specs.Prelude.{◌≡◌, IfErr, IfOk, IfSome};
 
-use cedar_ast::M;
+use cedar_ast::{M, MaybeShared};
 use std::alloc::Global;
 use std::fmt;
 use std::marker::Model;
-use std::rc::Rc;
-
-/// The form that a value is kept in.
-#[derive(Drop)]
-enum Form<T> {
-    /// A value with one owner.
-    Owned(T),
-    /// A value that others may own too.
-    Shared(Rc<T>),
-}
 
 /// A value that has one owner, or is shared by several, and is seen as the value itself.
 pub struct Shared<T> {
-    form: Form<T>,
+    kept: MaybeShared<T>,
 }
 
 impl<T> Model for Shared<T> {
-    ghost use Rattle.cedar_schema.specs.Shared.{value_of};
-
     ghost Value = { T };
 
-    ghost view = { λ shared. value_of shared.form };
+    ghost view = { λ shared. shared.kept.value };
 }
 
-// Written out: proofs see one call where a derived drop shows them each form.
+// Written out: proofs see one call where a derived drop shows them its parts.
 impl<T: Drop> Drop for Shared<T> {
     fn drop(self) {
-        let Shared { form: _form } = self;
+        let Shared { kept: _kept } = self;
     }
 }
 
@@ -43,7 +31,7 @@ impl<T> Shared<T> {
         ensures { result ≡ value }
     {
         Shared {
-            form: Form::Owned(value),
+            kept: MaybeShared::new(value),
         }
     }
 
@@ -51,10 +39,7 @@ impl<T> Shared<T> {
     pub(crate) fn value(&self) -> &T
         ensures { result.now ≡ self.now }
     {
-        match &self.form {
-            Form::Owned(value) => value,
-            Form::Shared(shared) => shared.as_ref(),
-        }
+        self.kept.value()
     }
 }
 
@@ -64,7 +49,7 @@ impl<T: Drop> Shared<T> {
         ensures { IfOk result (λ shared. shared ≡ value) }
     {
         Ok(Shared {
-            form: Form::Shared(Rc::new(alloc, value)?),
+            kept: MaybeShared::new(value).into_shared(alloc)?,
         })
     }
 
@@ -73,11 +58,9 @@ impl<T: Drop> Shared<T> {
     pub(crate) fn other_owner(&self) -> M<Option<Self>>
         ensures { IfOk result (λ found. IfSome found (λ other. other ≡ self.now)) }
     {
-        match &self.form {
-            Form::Owned(_) => Ok(None),
-            Form::Shared(shared) => Ok(Some(Shared {
-                form: Form::Shared(shared.clone()?),
-            })),
+        match self.kept.other_owner()? {
+            Some(kept) => Ok(Some(Shared { kept })),
+            None => Ok(None),
         }
     }
 
@@ -86,15 +69,10 @@ impl<T: Drop> Shared<T> {
         ensures alone { IfOk result (λ value. value ≡ self) }
         ensures among_others { IfErr result (λ shared. shared ≡ self) }
     {
-        let Shared { form } = self;
-        match form {
-            Form::Owned(value) => Ok(value),
-            Form::Shared(shared) => match Rc::try_unwrap(shared) {
-                Ok(value) => Ok(value),
-                Err(shared) => Err(Shared {
-                    form: Form::Shared(shared),
-                }),
-            },
+        let Shared { kept } = self;
+        match kept.into_value() {
+            Ok(value) => Ok(value),
+            Err(kept) => Err(Shared { kept }),
         }
     }
 }

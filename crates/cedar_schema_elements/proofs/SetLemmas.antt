@@ -68,6 +68,14 @@ AnswersAlike-insert {eq = eq} laws before old new x copy answers same inserted q
     ∙ ap (cond (eq q x) true) (answers q) ∙ cond-last (eq q x) (list_any (eq q) before)
     ∙ sym (list_any-append (eq q) before (x ∷ []))
 
+-- where an equal item is pushed, the lists still answer alike
+pub AnswersAlike-push : {K : Type 0} {eq : K → K → Bool} → IsEquivalence eq → (before all : List K) (x copy : K)
+    → AnswersAlike eq all before → eq copy x ≡ true → AnswersAlike eq (all ++ copy ∷ []) (before ++ x ∷ [])
+AnswersAlike-push {eq = eq} laws before all x copy answers same q =
+    let equal : eq q copy ≡ eq q x = laws.symm q copy ∙ laws.congr copy x q same ∙ laws.symm x q in
+    list_any-append (eq q) all (copy ∷ []) ∙ (λ i. answers q i || (equal i || false))
+    ∙ sym (list_any-append (eq q) before (x ∷ []))
+
 -- items that are equal exactly where they stand for the same
 module _ {K B : Type 0} (eq : K → K → Bool) (f : K → B) (laws : IsEquivalence eq)
     (same : (a b : K) → Decides (eq a b) (f a ≡ f b)) where

@@ -34,6 +34,14 @@ name_loc it = uid_loc (parts_of it).name
 abbrev pub name_type_loc : ValidatorActionId → Option Loc
 name_type_loc it = uid_type_loc (parts_of it).name
 
+-- an action has this uid, which was written where it says, and was declared at this place
+pub record IsAction (name : EntityUID) (loc : Option Loc) (action : ValidatorActionId)
+    : Type 0 where
+  pub uid : (action_of action).uid ≡ uid_of name
+  pub written : name_loc action ≡ uid_loc name
+  pub type_written : name_type_loc action ≡ uid_type_loc name
+  pub declared : action_loc action ≡ loc
+
 -- the type of the context of a kind
 abbrev pub borrowed_context : ValidatorActionKind → Option «Type»
 borrowed_context (variant.Defined requests) = Some requests.value.context

@@ -56,7 +56,7 @@ pub use Rattle.cedar_schema_elements.specs.RequestEnv.{LocatedEnvironment, envir
 pub use Rattle.cedar_schema_elements.specs.RequestEnvironments.{action_environments, kind_environments, with_principals, with_resources}
 pub use Rattle.cedar_schema_elements.specs.Requests.{kind_of_requests, requested_principals, requested_resources}
 pub use Rattle.cedar_schema_elements.specs.TypeSet.{empty_name, set_name_at, set_names, set_types}
-pub use Rattle.cedar_schema_elements.specs.ValidatorActionId.{action_loc, action_of, borrowed_context, context_of, name_type_loc, plain_action_entry}
+pub use Rattle.cedar_schema_elements.specs.ValidatorActionId.{IsAction, action_loc, action_of, borrowed_context, context_of, name_type_loc, plain_action_entry}
 pub use Rattle.cedar_schema_elements.specs.ValidatorApplySpec.{principal_names, principal_references, principal_types, resource_names, resource_references, resource_types}
 pub use Rattle.cedar_schema_elements.specs.ValidatorEntityType.{AreLocatedAsKeys, IsLocatedAsKey, PlainEntityType, attributes_of, descendant_names, entity_type_of, kind_attributes, name_loc, plain_entry, tags_of}
 pub use Rattle.cedar_schema_elements.specs.declared.action_id.ValidatorActionId.{ValidatorActionId}

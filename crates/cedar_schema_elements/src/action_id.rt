@@ -55,7 +55,7 @@ impl Drop for ActionParts {
 impl ValidatorActionId {
     ghost use Rattle.std.specs.Prelude.{◌≡◌, ◌≢◌, ◌↔◌, map, IsTrue, IfOk, Some, Contains, AllPairs};
     ghost use Rattle.std.specs.List.Sorted.{IsStrictlySortedBy};
-    ghost use Rattle.cedar_schema_elements.specs.Words.{HoldsOfAll, IsFiniteIterable, SameActionKind, SameItems, action_loc, action_of, borrowed_context, context_of, defined_action, external_action, kind_context, kind_principals, kind_resources, name_cmp, name_type_loc, option_copied, option_map, set_names, ty_of, type_name, uid_loc, uid_of, uid_type_loc};
+    ghost use Rattle.cedar_schema_elements.specs.Words.{HoldsOfAll, IsAction, IsFiniteIterable, SameActionKind, SameItems, action_loc, action_of, borrowed_context, context_of, defined_action, external_action, kind_context, kind_principals, kind_resources, name_cmp, name_type_loc, option_copied, option_map, set_names, ty_of, type_name, uid_loc, uid_of, uid_type_loc};
     ghost use Rattle.cedar_schema_elements.specs.ActionKind.{plain_kind};
     ghost use Rattle.cedar_schema_elements.specs.ValidatorActionId.{name_loc};
 
@@ -69,15 +69,12 @@ impl ValidatorActionId {
     ) -> M<Self>
         requires { IsFiniteIterable D.into_iter_gives D.IntoIter.can_next
             D.IntoIter.remaining descendants }
-        ensures uid { IfOk result (λ action. (action_of action).uid ≡ uid_of name) }
-        ensures name_loc { IfOk result (λ action. name_loc action ≡ uid_loc name) }
-        ensures name_type_loc { IfOk result (λ action. name_type_loc action ≡ uid_type_loc name) }
+        ensures action { IfOk result (IsAction name loc) }
         ensures kind { IfOk result (λ action. (action_of action).kind ≡ plain_kind kind) }
         ensures borrowed { IfOk result (λ action. context_of action ≡ borrowed_context kind) }
         ensures descendants { IfOk result (λ action.
             HoldsOfAll D.into_iter_gives D.IntoIter.next_gives descendants
             (λ xs. SameItems (action_of action).descendants (map uid_of xs))) }
-        ensures loc { IfOk result (λ action. action_loc action ≡ loc) }
     {
         let parts = ActionParts {
             name,
@@ -112,9 +109,7 @@ impl ValidatorActionId {
             R.IntoIter.remaining resources }
         requires descendants { IsFiniteIterable D.into_iter_gives D.IntoIter.can_next
             D.IntoIter.remaining descendants }
-        ensures uid { IfOk result (λ action. (action_of action).uid ≡ uid_of name) }
-        ensures name_loc { IfOk result (λ action. name_loc action ≡ uid_loc name) }
-        ensures name_type_loc { IfOk result (λ action. name_type_loc action ≡ uid_type_loc name) }
+        ensures action { IfOk result (IsAction name loc) }
         ensures principals { IfOk result (λ action.
             HoldsOfAll P.into_iter_gives P.IntoIter.next_gives principals
             (λ xs. SameItems (kind_principals (action_of action).kind) (map type_name xs))) }
@@ -127,7 +122,6 @@ impl ValidatorActionId {
         ensures descendants { IfOk result (λ action.
             HoldsOfAll D.into_iter_gives D.IntoIter.next_gives descendants
             (λ xs. SameItems (action_of action).descendants (map uid_of xs))) }
-        ensures loc { IfOk result (λ action. action_loc action ≡ loc) }
     {
         let principals = type_set(alloc, principals)?;
         let resources = type_set(alloc, resources)?;
@@ -156,16 +150,13 @@ impl ValidatorActionId {
     ) -> M<Self>
         requires { IsFiniteIterable D.into_iter_gives D.IntoIter.can_next
             D.IntoIter.remaining descendants }
-        ensures uid { IfOk result (λ action. (action_of action).uid ≡ uid_of name) }
-        ensures name_loc { IfOk result (λ action. name_loc action ≡ uid_loc name) }
-        ensures name_type_loc { IfOk result (λ action. name_type_loc action ≡ uid_type_loc name) }
+        ensures action { IfOk result (IsAction name loc) }
         ensures kind { IfOk result (λ action. (action_of action).kind
             ≡ defined_action (set_names principals) (set_names resources) (ty_of context)) }
         ensures borrowed { IfOk result (λ action. context_of action ≡ Some context) }
         ensures descendants { IfOk result (λ action.
             HoldsOfAll D.into_iter_gives D.IntoIter.next_gives descendants
             (λ xs. SameItems (action_of action).descendants (map uid_of xs))) }
-        ensures loc { IfOk result (λ action. action_loc action ≡ loc) }
     {
         let requests = DefinedRequests {
             action: name.clone()?,
@@ -189,14 +180,11 @@ impl ValidatorActionId {
     ) -> M<Self>
         requires { IsFiniteIterable D.into_iter_gives D.IntoIter.can_next
             D.IntoIter.remaining descendants }
-        ensures uid { IfOk result (λ action. (action_of action).uid ≡ uid_of name) }
-        ensures name_loc { IfOk result (λ action. name_loc action ≡ uid_loc name) }
-        ensures name_type_loc { IfOk result (λ action. name_type_loc action ≡ uid_type_loc name) }
+        ensures action { IfOk result (IsAction name loc) }
         ensures kind { IfOk result (λ action. (action_of action).kind ≡ external_action) }
         ensures descendants { IfOk result (λ action.
             HoldsOfAll D.into_iter_gives D.IntoIter.next_gives descendants
             (λ xs. SameItems (action_of action).descendants (map uid_of xs))) }
-        ensures loc { IfOk result (λ action. action_loc action ≡ loc) }
     {
         Self::with_kind(alloc, name, descendants, ValidatorActionKind::External, loc)
     }

@@ -1,8 +1,8 @@
 //! Actions as nodes of the hierarchy: each has an edge to each of its descendants.
 
-ghost use Rattle.std.specs.Prelude.{◌≡◌};
+ghost use Rattle.std.specs.Prelude.{◌≡◌, ◌||◌, OnErr, OnOk};
 ghost use Rattle.std.specs.List.{list_any};
-ghost use Rattle.cedar_schema_elements.specs.Words.{PlainUid, action_of, duplicate_action, external_action, uid_cmp, uid_loc, uid_of, uid_type_loc};
+ghost use Rattle.cedar_schema_elements.specs.Words.{EntityUID, PlainUid, action_of, duplicate_action, external_action, uid_cmp, uid_loc, uid_of, uid_type_loc};
 ghost use Rattle.std.proofs.Common.{refl, ◌∙◌, ap, sym};
 ghost use Rattle.cedar_ast.proofs.Lists.{Contains-preimage, list_any-Contains};
 ghost use Rattle.cedar_ast.proofs.PlainNames.{uid_cmp-total};
@@ -12,6 +12,7 @@ ghost use Rattle.cedar_schema_elements.specs.ValidatorActionId.{IsLocatedAsKey, 
 
 use crate::action_id::ValidatorActionId;
 use crate::schema_node::SchemaNode;
+use crate::sets::joined;
 use cedar_ast::{EntityUID, M};
 use cedar_graph::TCNode;
 use cedar_schema_semantics::SchemaError;
@@ -37,6 +38,27 @@ impl TCNode<EntityUID> for ValidatorActionId {
 
     fn add_edge_to(&mut self, key: EntityUID) -> M<()> {
         self.parts.descendants.insert(key)?;
+        Ok(())
+    }
+
+    fn add_edges_to(&mut self, keys: Vec<EntityUID>) -> M<()>
+        ensures added { OnOk result ((other : EntityUID)
+            → list_any (⟦<EntityUID as PartialEq>⟧.eq other)
+            (parts_of self.new).descendants.keys
+            ≡ (list_any (⟦<EntityUID as PartialEq>⟧.eq other) keys.items
+            || list_any (⟦<EntityUID as PartialEq>⟧.eq other)
+            (parts_of self.old).descendants.keys)) }
+        ensures err { OnErr result ((other : EntityUID)
+            → list_any (⟦<EntityUID as PartialEq>⟧.eq other)
+            (parts_of self.new).descendants.keys
+            ≡ list_any (⟦<EntityUID as PartialEq>⟧.eq other)
+            (parts_of self.old).descendants.keys) }
+        ensures alike { ((parts_of self.old).name ≡ (parts_of self.new).name)
+            × ((parts_of self.old).kind ≡ (parts_of self.new).kind)
+            × ((parts_of self.old).loc ≡ (parts_of self.new).loc) }
+    {
+        let all = joined(&self.parts.descendants, keys, EntityUID::clone)?;
+        self.parts.descendants = all;
         Ok(())
     }
 

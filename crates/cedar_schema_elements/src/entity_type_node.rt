@@ -1,8 +1,8 @@
 //! Entity types as nodes of the hierarchy: each has an edge to each of its descendants.
 
-ghost use Rattle.std.specs.Prelude.{◌≡◌};
+ghost use Rattle.std.specs.Prelude.{◌≡◌, ◌||◌, OnErr, OnOk};
 ghost use Rattle.std.specs.List.{list_any};
-ghost use Rattle.cedar_schema_elements.specs.Words.{IsLocatedAsKey, PlainName, descendant_names, duplicate_entity_type, entity_type_of, external_kind, name_cmp, plain_kind, type_loc, type_name};
+ghost use Rattle.cedar_schema_elements.specs.Words.{EntityType, IsLocatedAsKey, PlainName, descendant_names, duplicate_entity_type, entity_type_of, external_kind, name_cmp, plain_kind, type_loc, type_name};
 ghost use Rattle.std.proofs.Common.{refl, ◌∙◌, ap, sym};
 ghost use Rattle.cedar_ast.proofs.Names.{entity_type_eq-same, entity_type_ord-Equal, entity_type_ord-name_cmp, entity_type_searches-respect_eq};
 ghost use Rattle.cedar_ast.proofs.PlainNames.{name_cmp-total};
@@ -10,6 +10,7 @@ ghost use Rattle.cedar_types.proofs.MemberLemmas.{Contains-named, list_any-names
 
 use crate::entity_type::ValidatorEntityType;
 use crate::schema_node::SchemaNode;
+use crate::sets::joined;
 use cedar_ast::{EntityType, M};
 use cedar_graph::TCNode;
 use cedar_schema_semantics::SchemaError;
@@ -34,6 +35,21 @@ impl TCNode<EntityType> for ValidatorEntityType {
 
     fn add_edge_to(&mut self, key: EntityType) -> M<()> {
         self.descendants.insert(key)?;
+        Ok(())
+    }
+
+    fn add_edges_to(&mut self, keys: Vec<EntityType>) -> M<()>
+        ensures added { OnOk result ((other : EntityType)
+            → list_any (⟦<EntityType as PartialEq>⟧.eq other) self.new.descendants.keys
+            ≡ (list_any (⟦<EntityType as PartialEq>⟧.eq other) keys.items
+            || list_any (⟦<EntityType as PartialEq>⟧.eq other) self.old.descendants.keys)) }
+        ensures err { OnErr result ((other : EntityType)
+            → list_any (⟦<EntityType as PartialEq>⟧.eq other) self.new.descendants.keys
+            ≡ list_any (⟦<EntityType as PartialEq>⟧.eq other) self.old.descendants.keys) }
+        ensures alike { (self.old.name ≡ self.new.name) × (self.old.kind ≡ self.new.kind)
+            × (self.old.loc ≡ self.new.loc) }
+    {
+        self.descendants = joined(&self.descendants, keys, EntityType::clone)?;
         Ok(())
     }
 

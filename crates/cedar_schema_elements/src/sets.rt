@@ -1,6 +1,8 @@
 //! Sets of entity types and of uids, collected and copied.
 
-ghost use Rattle.std.specs.Prelude.{◌≡◌, IsTrue, IfOk, Result, map};
+ghost use Rattle.std.specs.Prelude.{◌≡◌, ◌++◌, IsTrue, IfOk, Result, map};
+ghost use Rattle.std.specs.List.{list_any};
+ghost use Rattle.std.specs.Ordering.{eq_by_cmp};
 ghost use Rattle.std.specs.BTreeSet.{IsOrdered, contains as has_key};
 ghost use Rattle.cedar_schema_elements.specs.Words.{FnReturnsAt, HoldsOfAll, IsFiniteIterable, Equal, Memory, SameItems, contains, set_names, type_name, uid_of};
 
@@ -68,4 +70,26 @@ pub(crate) fn copied_in_order<K: Ord + Drop, F: Fn(&K) -> M<K> + Drop>(
         set.insert(copy(item)?)?;
     }
     Ok(set)
+}
+
+/// The ordered set of some keys, and of copies of those of another set. Each copy has to be as its
+/// key in the order. The set is made at once, so that it takes no more room than it needs.
+pub(crate) fn joined<K: Ord + Drop, F: Fn(&K) -> M<K> + Drop>(
+    items: &BTreeSet<K>,
+    keys: Vec<K>,
+    copy: F,
+) -> M<BTreeSet<K>>
+    requires callable { F.IsAlwaysCallable copy }
+    requires equal { (item : K) (answer : Result K Memory) → FnReturnsAt F.Fn copy item answer
+        → IfOk answer (λ other. K.cmp other item ≡ Equal) }
+    ensures keys { IfOk result (λ set. (other : K) → has_key K.cmp set other
+        ≡ list_any (eq_by_cmp K.cmp other) (keys.items ++ items.now.keys)) }
+    ensures in_order { IfOk result (IsOrdered K.cmp) }
+{
+    let alloc = *keys.allocator();
+    let mut all = keys;
+    for item in items {
+        all.push(copy(item)?)?;
+    }
+    Ok(BTreeSet::from_iter(alloc, all)?)
 }

@@ -37,9 +37,9 @@ pub record TypesAdmitTheDeclared (bag : Bag) (extensions : Extensions)
       → it.kind ≡ defined_action principal_types resource_types ty
       → AdmitsTheSame bag extensions context ty
 
--- what a builder answers for a bag is right, memory aside: a refusal names a fault of the bag;
--- otherwise nothing is at fault, the schema is the declared one and the only one, its types have
--- just the declared values, and its environments are the declared ones
+-- what a builder answers for a bag is right, unless memory runs out: a refusal names a fault of
+-- the bag; otherwise nothing is at fault, the schema is the declared one and the only one, its
+-- types have just the declared values, and its environments are the declared ones
 pub record IsBuiltFrom (bag : Bag) (extensions : Extensions)
     (answer : Result PlainSchema Fault) : Type 0 where
   pub fault : IfErr answer (λ fault. (fault ≡ out_of_memory) ⊎ IsFault bag extensions fault)

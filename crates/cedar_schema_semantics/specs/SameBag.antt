@@ -22,7 +22,7 @@ SameRequests (requests principals resources context)
 SameRequests elsewhere elsewhere = Unit {0}
 SameRequests _ _ = ⊥
 
--- what the one bag says, name by name, the other says too, however it is told in declarations
+-- what the one bag says, name by name, the other says too, however declarations say it
 pub record SaysAll (bag other : Bag) : Type 0 where
   pub common : Included (declared_common bag) (declared_common other)
   pub common_twice : (name : PlainName) → Twice (map (λ it. it.0) (declared_common bag)) name

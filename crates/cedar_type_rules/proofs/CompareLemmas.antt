@@ -57,7 +57,7 @@ open_tag-Decides OpenAttributes ClosedAttributes = none (λ e. cc)
 open_tag-Decides ClosedAttributes OpenAttributes = none (λ e. cc)
 open_tag-Decides ClosedAttributes ClosedAttributes = (λ _. refl, λ _. refl)
 
--- whether a record is open is told by a test
+-- a test decides whether a record is open
 pub is_open-eq : (a : OpenTag) → is_open a ≡ (open_tag_eq.ghosts).eq a OpenAttributes
 is_open-eq OpenAttributes = refl
 is_open-eq ClosedAttributes = refl

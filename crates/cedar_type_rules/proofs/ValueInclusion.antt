@@ -1,4 +1,4 @@
--- Inclusion of values of inhabited types is told by their parts, and permissive subtyping is
+-- Inclusion of values of inhabited types follows from their parts, and permissive subtyping is
 -- inclusion of values and of names.
 use Rattle.std.proofs.Common.{◌≡◌, inl, inr, Bool, true, false, refl, sym, ◌∙◌, pos, [], Some, Contains, IsTrue}
 use Rattle.cedar_ast.proofs.Inclusion.{Included-cons}

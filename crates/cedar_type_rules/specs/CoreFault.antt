@@ -17,14 +17,14 @@ abbrev pub IsWideUnion : Ty → Type 0
 IsWideUnion (union_of (name ∷ other ∷ rest)) = Unit {0}
 IsWideUnion _ = ⊥
 
--- what a fault names stands in the type, memory aside
+-- what a fault names stands in the type, unless memory runs out
 abbrev pub IsCoreFault : Ty → CoreTypeFault → Type 0
 IsCoreFault ty fault.NeverType = StandsIn IsNever ty
 IsCoreFault ty fault.AnyEntityType = StandsIn IsAnyEntity ty
 IsCoreFault ty fault.UnionType = StandsIn IsWideUnion ty
 IsCoreFault ty fault.Memory = Unit {0}
 
--- what a fault names stands in the type of an attribute, memory aside
+-- what a fault names stands in the type of an attribute, unless memory runs out
 abbrev pub IsFieldsFault : Fields → CoreTypeFault → Type 0
 IsFieldsFault fields fault.NeverType = StandsInFields IsNever fields
 IsFieldsFault fields fault.AnyEntityType = StandsInFields IsAnyEntity fields

@@ -62,7 +62,7 @@ SomeEntry P (Some value) = P value
 
 abbrev mutual
   -- a value meets an unknown function at a type: a call of it stands where an extension type is
-  -- asked for
+  -- expected
   pub Meets : Extensions → PlainName → Tree → Ty → Type 0
   Meets extensions unknown (call_value function args) (extension_of name) =
       (function ≡ unknown) × IsUnknown extensions unknown

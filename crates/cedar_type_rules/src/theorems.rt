@@ -46,7 +46,7 @@ pub fn permissive_subtyping_is_inclusion()
     ensures with_optional { SubtypingIsInclusionAndNames }
 {}
 
-/// Inclusion of values is told by the parts of two well-formed plain types of which the first is
+/// Inclusion of values follows from the parts of two well-formed plain types of which the first is
 /// inhabited throughout; and what permissive subtyping allows is included.
 pub fn parts_tell_inclusion_of_values()
     ensures inclusion { PartsTellInclusion }

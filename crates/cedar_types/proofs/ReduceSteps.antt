@@ -24,7 +24,7 @@ types-reduced mode start all result is =
     (λ answer right.
     rw (ap ty_of is ∙ ty_of-never) at (joined_reduced ty_of IsWellFormed-type mode start all answer right))
 
--- what clean types are reduced to is what they are in another order, memory aside
+-- what clean types are reduced to is what they are in another order, unless memory runs out
 pub reduced_in_any_order : (mode : ValidationMode) (types others : List «Type») (join : «Type») (answer : Result «Type» JoinError)
     → AllByRecursion IsClean (map ty_of types) → Included (map ty_of types) (map ty_of others)
     → Included (map ty_of others) (map ty_of types) → IsReduceAnswer mode never (map ty_of types) (Ok (ty_of join))

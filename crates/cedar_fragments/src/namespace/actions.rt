@@ -1,7 +1,7 @@
 //! The actions of a namespace.
 
 ghost use Rattle.std.specs.Prelude.{◌≡◌, ◌⊎◌, IfOk, IfErr, OnOk, map, string_bytes, [], Option};
-ghost use Rattle.cedar_fragments.specs.Words.{IsDefinitionFault, IsReserved, IsSound, NamesAllWithAttributes, PlainName, Reference, ReferenceType, action_body, action_declarations, action_defs, action_fragment_body, action_fragment_declarations, action_word, applies_to, fault_of, fragment_parent, fragment_requests, id_text, name_of, name_within, namespace_name, out_of_memory, parent_action, parent_actions, positional_reference, raw_reference, reserved_name, text_cmp, uid_of, with_attributes};
+ghost use Rattle.cedar_fragments.specs.Words.{IsDefinitionFault, IsReserved, NamesAllWithAttributes, PlainName, Reference, ReferenceType, action_body, action_declarations, action_defs, action_fragment_body, action_fragment_declarations, action_word, applies_to, fault_of, fragment_parent, fragment_requests, id_text, name_of, name_within, namespace_name, out_of_memory, parent_action, parent_actions, raw_reference, reserved_name, text_cmp, uid_of, with_attributes};
 ghost use Rattle.std.specs.List.{AllByRecursion};
 ghost use Rattle.std.specs.Slice.Iter.{iter_rest};
 ghost use Rattle.std.specs.List.Sorted.{IsStrictlySortedBy};
@@ -9,7 +9,7 @@ ghost use Rattle.cedar_schema_ast.specs.declared.json_schema.conditional_name.Co
 ghost use Rattle.cedar_schema_ast.specs.declared.json_schema.raw_name.RawName.{RawName as Raw};
 
 use crate::namespace::action_def::ActionDef;
-use crate::namespace::entity_types::entity_references;
+use crate::namespace::taken_names::TakenOver;
 use cedar_ast::{Eid, EntityType, EntityUID, Id, InternalName, Loc, M, identifier};
 use cedar_name_resolution::full_name::full_name;
 use cedar_schema_ast::json_schema::{
@@ -188,32 +188,14 @@ impl ActionFragment<RawName, RawName> {
     }
 }
 
-/// References to the parents of an action, by names that are written in a namespace.
-fn conditional_parents(
-    alloc: Global,
-    namespace: Option<&InternalName>,
-    written: Vec<ActionParent<RawName>>,
-) -> M<Vec<ActionParent<ConditionalName>>>
-    ensures { IfOk result (λ it. map (fragment_parent Conditional positional_reference) it.items
-        ≡ map (fragment_parent Raw (raw_reference (namespace_name namespace.entry)))
-        written.items) }
-{
-    let mut parents = Vec::with_capacity(alloc, written.len())?;
-    for parent in written {
-        let ActionParent { id, ty, loc } = parent;
-        let ty = ty.conditionally_qualify_with(alloc, namespace, ReferenceType::Entity)?;
-        parents.push(ActionParent { id, ty, loc })?;
-    }
-    Ok(parents)
-}
-
-/// The requests of an action by references, of those by names that are written in a namespace.
-fn conditional_requests(
+/// The requests of an action, which are written in a namespace.
+fn taken_requests<N: TakenOver>(
     alloc: Global,
     namespace: Option<&InternalName>,
     requests: ActionRequests<RawName>,
-) -> M<ActionRequests<ConditionalName>>
-    ensures { IfOk result (λ it. fragment_requests Conditional positional_reference (Some it)
+) -> M<ActionRequests<N>>
+    ensures { IfOk result (λ it.
+        fragment_requests N (N.refer (namespace_name namespace.entry)) (Some it)
         ≡ fragment_requests Raw (raw_reference (namespace_name namespace.entry)) (Some requests)) }
 {
     let ActionRequests {
@@ -221,9 +203,9 @@ fn conditional_requests(
         resources,
         context,
     } = requests;
-    let principals = entity_references(alloc, namespace, principals)?;
-    let resources = entity_references(alloc, namespace, resources)?;
-    let context = context.conditionally_qualify_type_references(alloc, namespace)?;
+    let principals = N::taken_names(alloc, namespace, principals)?;
+    let resources = N::taken_names(alloc, namespace, resources)?;
+    let context = N::taken_type(alloc, namespace, context)?;
     Ok(ActionRequests {
         principals,
         resources,
@@ -231,17 +213,17 @@ fn conditional_requests(
     })
 }
 
-impl ActionFragment<ConditionalName, ConditionalName> {
+impl<N: TakenOver> ActionFragment<N, N> {
     /// What is declared of an action without attributes that is written in a namespace.
-    pub(crate) fn from_raw_action(
+    pub(crate) fn taken_over(
         alloc: Global,
         namespace: Option<&InternalName>,
         written: ActionType<RawName>,
     ) -> M<Self>
         requires { written.attributes ≡ None }
         ensures { IfOk result (λ it.
-            action_fragment_body Conditional positional_reference Conditional positional_reference
-            it
+            action_fragment_body N (N.refer (namespace_name namespace.entry)) N
+            (N.refer (namespace_name namespace.entry)) it
             ≡ action_body Raw (raw_reference (namespace_name namespace.entry))
             (namespace_name namespace.entry) written) }
     {
@@ -250,10 +232,10 @@ impl ActionFragment<ConditionalName, ConditionalName> {
             parents,
             loc,
         } = ActionFragment::as_written(alloc, written)?;
-        let parents = conditional_parents(alloc, namespace, parents)?;
+        let parents = N::taken_parents(alloc, namespace, parents)?;
         let requests = match requests {
             None => None,
-            Some(requests) => Some(conditional_requests(alloc, namespace, requests)?),
+            Some(requests) => Some(taken_requests::<N>(alloc, namespace, requests)?),
         };
         Ok(ActionFragment {
             requests,
@@ -329,40 +311,4 @@ pub(crate) fn refuse_attributes(
         return Err(SchemaError::UnsupportedFeature(feature));
     }
     Ok(())
-}
-
-impl ActionsDef<ConditionalName, ConditionalName> {
-    /// The actions that are written in a namespace.
-    pub(crate) fn from_raw_actions(
-        alloc: Global,
-        namespace: Option<&InternalName>,
-        written: BTreeMap<String, ActionType<RawName>>,
-    ) -> Result<Self, SchemaError>
-        ensures declarations { IfOk result (λ it.
-            action_fragment_declarations Conditional positional_reference Conditional
-            positional_reference it
-            ≡ action_declarations Raw (raw_reference (namespace_name namespace.entry))
-            (namespace_name namespace.entry) written.entries) }
-        ensures sound { OnOk result (AllByRecursion IsSound
-            (action_declarations Raw (raw_reference (namespace_name namespace.entry))
-            (namespace_name namespace.entry) written.entries)) }
-        ensures fault { IfErr result (λ error. (fault_of error ≡ out_of_memory)
-            ⊎ IsDefinitionFault (action_declarations Raw
-            (raw_reference (namespace_name namespace.entry)) (namespace_name namespace.entry)
-            written.entries) (fault_of error)) }
-        ensures all_named { IfErr result (λ error. NamesAllWithAttributes
-            (action_declarations Raw (raw_reference (namespace_name namespace.entry))
-            (namespace_name namespace.entry) written.entries)
-            (namespace_name namespace.entry) (fault_of error)) }
-    {
-        refuse_attributes(alloc, &written)?;
-        let mut defs = Vec::new(alloc);
-        let ty = action_type_name(alloc, namespace)?;
-        for (id, declared) in written {
-            let uid = action_uid(&ty, id, declared.defn_loc)?;
-            let fragment = ActionFragment::from_raw_action(alloc, namespace, declared)?;
-            defs.push(ActionDef { uid, fragment })?;
-        }
-        Ok(ActionsDef { defs })
-    }
 }

@@ -6,6 +6,7 @@ ghost use Rattle.std.specs.Option.{option_copied, option_map};
 ghost use Rattle.cedar_fragments.specs.Words.{HasNoDefinitionFault, IsDefinitionFault, IsSound, NamesAllWithAttributes, conditional_definition, definition_common_names, definition_loc, definition_name, definition_namespace, fault_of, located_name, name_of, namespace_name, out_of_memory, raw_declarations, written_common_names};
 ghost use Rattle.cedar_schema_ast.specs.declared.json_schema.conditional_name.ConditionalName.{ConditionalName as Conditional};
 
+use crate::namespace::action_type::UnqualifiedActionType;
 use crate::namespace::actions::ActionsDef;
 use crate::namespace::common_types::CommonTypeDefs;
 use crate::namespace::entity_types::EntityTypesDef;
@@ -79,22 +80,7 @@ impl ValidatorNamespaceDef<ConditionalName, ConditionalName> {
             (raw_declarations (option_map name_of namespace) definition)
             (option_map name_of namespace) (fault_of error)) }
     {
-        let NamespaceDefinition {
-            common_types,
-            entity_types,
-            actions,
-            loc,
-        } = definition;
-        let within = lend(&namespace);
-        let common_types = CommonTypeDefs::from_raw_common_types(alloc, within, common_types)?;
-        let entity_types = EntityTypesDef::from_raw_entity_types(alloc, within, entity_types)?;
-        let actions = ActionsDef::from_raw_actions(alloc, within, actions)?;
-        Ok(ValidatorNamespaceDef {
-            namespace,
-            common_types,
-            entity_types,
-            actions,
-            loc,
-        })
+        let unqualified = UnqualifiedActionType::new(alloc)?;
+        Self::taken_over(alloc, namespace, definition, &unqualified)
     }
 }

@@ -3,13 +3,14 @@
 ghost use Rattle.std.specs.Prelude.{◌≡◌, ◌⊎◌, IfOk, IfErr, OnOk, Option, map, Contains, []};
 ghost use Rattle.std.specs.List.{AllByRecursion};
 ghost use Rattle.std.specs.Slice.Iter.{iter_rest};
-ghost use Rattle.cedar_fragments.specs.Words.{IsActionType, IsDefinitionFault, IsEntityTypeNameFault, IsSound, NamesNoAttributes, PlainName, Reference, ReferenceType, entity_declarations, entity_parents, entity_type_declarations, entity_type_defs, fault_of, fragment_body, name_within, namespace_name, out_of_memory, path_within, positional_expr, positional_reference, raw_entity_body, raw_expr, raw_reference, reserved_word, type_name, unreserved_id_text};
+ghost use Rattle.cedar_fragments.specs.Words.{IsActionType, IsEntityTypeNameFault, PlainName, Reference, ReferenceType, entity_parents, entity_type_declarations, entity_type_defs, fault_of, fragment_body, name_within, namespace_name, path_within, raw_entity_body, raw_expr, raw_reference, reserved_word, type_expr, type_name, unreserved_id_text};
 ghost use Rattle.cedar_schema_ast.specs.declared.json_schema.raw_name.RawName.{RawName as Raw};
 ghost use Rattle.std.specs.Option.{option_map};
 ghost use Rattle.cedar_schema_ast.specs.declared.json_schema.conditional_name.ConditionalName.{ConditionalName as Conditional};
 ghost use Rattle.cedar_schema_ast.specs.declared.json_schema.reference_type.ReferenceType.TheVariants.{Entity as entity};
 
 use crate::namespace::entity_type_def::EntityTypeDef;
+use crate::namespace::taken_names::TakenOver;
 use cedar_ast::{Eid, EntityType, InternalName, Loc, M, NonEmpty, UnreservedId};
 use cedar_name_resolution::full_name::full_name;
 use cedar_schema_ast::json_schema;
@@ -82,41 +83,6 @@ impl<N> EntityTypeFragment<N> {
     }
 }
 
-/// References to entity types, by names that are written in a namespace.
-pub(crate) fn entity_references(
-    alloc: Global,
-    namespace: Option<&InternalName>,
-    names: Vec<RawName>,
-) -> M<Vec<ConditionalName>>
-    ensures { IfOk result (λ it. map (positional_reference entity) it.items
-        ≡ map (raw_reference (namespace_name namespace.entry) entity) names.items) }
-{
-    let mut references = Vec::with_capacity(alloc, names.len())?;
-    for name in names {
-        let kind = ReferenceType::Entity;
-        references.push(name.conditionally_qualify_with(alloc, namespace, kind)?)?;
-    }
-    Ok(references)
-}
-
-/// A shape, the type of tags or a context that may not be written, by names in a namespace.
-fn tags_type(
-    alloc: Global,
-    namespace: Option<&InternalName>,
-    tags: Option<Type<RawName>>,
-) -> M<Option<Type<ConditionalName>>>
-    ensures { IfOk result (λ it. option_map positional_expr it
-        ≡ option_map (raw_expr (namespace_name namespace.entry)) tags) }
-{
-    match tags {
-        None => Ok(None),
-        Some(ty) => {
-            let ty = ty.conditionally_qualify_type_references(alloc, namespace)?;
-            Ok(Some(ty))
-        }
-    }
-}
-
 impl EntityTypeFragment<RawName> {
     /// What is declared of an entity type, by the names that are written.
     pub(crate) fn as_written(alloc: Global, written: json_schema::EntityType<RawName>) -> Self
@@ -141,14 +107,31 @@ impl EntityTypeFragment<RawName> {
     }
 }
 
-impl EntityTypeFragment<ConditionalName> {
+/// The type of tags, if one is written in a namespace.
+fn taken_tags<N: TakenOver>(
+    alloc: Global,
+    namespace: Option<&InternalName>,
+    tags: Option<Type<RawName>>,
+) -> M<Option<Type<N>>>
+    ensures { IfOk result (λ it.
+        option_map (type_expr N (N.refer (namespace_name namespace.entry))) it
+        ≡ option_map (raw_expr (namespace_name namespace.entry)) tags) }
+{
+    match tags {
+        None => Ok(None),
+        Some(ty) => Ok(Some(N::taken_type(alloc, namespace, ty)?)),
+    }
+}
+
+impl<N: TakenOver> EntityTypeFragment<N> {
     /// What is declared of an entity type that is written in a namespace.
-    pub(crate) fn from_raw_entity_type(
+    pub(crate) fn taken_over(
         alloc: Global,
         namespace: Option<&InternalName>,
         written: json_schema::EntityType<RawName>,
     ) -> M<Self>
-        ensures { IfOk result (λ it. fragment_body Conditional positional_reference it
+        ensures { IfOk result (λ it.
+            fragment_body N (N.refer (namespace_name namespace.entry)) it
             ≡ raw_entity_body (namespace_name namespace.entry) written) }
     {
         match EntityTypeFragment::as_written(alloc, written) {
@@ -157,11 +140,9 @@ impl EntityTypeFragment<ConditionalName> {
                 parents,
                 tags,
             } => {
-                let parents = entity_references(alloc, namespace, parents)?;
-                let attributes = attributes
-                    .0
-                    .conditionally_qualify_type_references(alloc, namespace)?;
-                let tags = tags_type(alloc, namespace, tags)?;
+                let parents = N::taken_names(alloc, namespace, parents)?;
+                let attributes = N::taken_type(alloc, namespace, attributes.0)?;
+                let tags = taken_tags::<N>(alloc, namespace, tags)?;
                 Ok(EntityTypeFragment::Standard {
                     attributes: AttributesOrContext(attributes),
                     parents,
@@ -170,7 +151,7 @@ impl EntityTypeFragment<ConditionalName> {
             }
             EntityTypeFragment::Enum(choices) => Ok(EntityTypeFragment::Enum(choices)),
             EntityTypeFragment::External { parents } => {
-                let parents = entity_references(alloc, namespace, parents)?;
+                let parents = N::taken_names(alloc, namespace, parents)?;
                 Ok(EntityTypeFragment::External { parents })
             }
         }
@@ -204,34 +185,4 @@ pub(crate) fn entity_type_name(
         return Err(SchemaError::ActionEntityTypeDeclared(name));
     }
     Ok(ty)
-}
-
-impl EntityTypesDef<ConditionalName> {
-    /// The entity types that are written in a namespace.
-    pub(crate) fn from_raw_entity_types(
-        alloc: Global,
-        namespace: Option<&InternalName>,
-        written: BTreeMap<UnreservedId, json_schema::EntityType<RawName>>,
-    ) -> Result<Self, SchemaError>
-        ensures declarations { IfOk result (λ it.
-            entity_type_declarations Conditional positional_reference it
-            ≡ entity_declarations Raw (raw_reference (namespace_name namespace.entry))
-            (namespace_name namespace.entry) written.entries) }
-        ensures sound { OnOk result (AllByRecursion IsSound
-            (entity_declarations Raw (raw_reference (namespace_name namespace.entry))
-            (namespace_name namespace.entry) written.entries)) }
-        ensures fault { IfErr result (λ error. (fault_of error ≡ out_of_memory)
-            ⊎ IsDefinitionFault (entity_declarations Raw
-            (raw_reference (namespace_name namespace.entry)) (namespace_name namespace.entry)
-            written.entries) (fault_of error)) }
-        ensures no_actions { IfErr result (λ error. NamesNoAttributes (fault_of error)) }
-    {
-        let mut defs = Vec::new(alloc);
-        for (id, declared) in written {
-            let name = entity_type_name(alloc, namespace, id, declared.loc)?;
-            let fragment = EntityTypeFragment::from_raw_entity_type(alloc, namespace, declared)?;
-            defs.push(EntityTypeDef { name, fragment })?;
-        }
-        Ok(EntityTypesDef { defs })
-    }
 }

@@ -6,6 +6,7 @@ ghost use Rattle.std.specs.Option.{option_map};
 ghost use Rattle.cedar_fragments.specs.Words.{HasNoDefinitionFault, IsDefinitionFault, IsSound, NamesAllOfADefinition, conditional_fragment, conditional_pairwise, fault_of, fragment_common_names, located_name, located_namespaces, located_plain_name, name_of, named_namespaces, out_of_memory, plain_name, raw_common_names, raw_fragment, raw_located_namespaces, raw_namespaces, raw_pairwise};
 ghost use Rattle.cedar_schema_ast.specs.declared.json_schema.conditional_name.ConditionalName.{ConditionalName as Conditional};
 
+use crate::namespace::action_type::UnqualifiedActionType;
 use crate::namespace::definition::ValidatorNamespaceDef;
 use cedar_ast::{InternalName, Name};
 use cedar_schema_ast::json_schema::{ConditionalName, Fragment, RawName};
@@ -60,14 +61,7 @@ impl ValidatorSchemaFragment<ConditionalName, ConditionalName> {
         ensures all_named { IfErr result (λ error.
             NamesAllOfADefinition (fragment ∷ []) (fault_of error)) }
     {
-        let mut definitions = Vec::new(alloc);
-        for (name, written) in fragment.0 {
-            let namespace = internal_namespace(name);
-            let definition = ValidatorNamespaceDef::from_namespace_definition(
-                alloc, namespace, written,
-            )?;
-            definitions.push(definition)?;
-        }
-        Ok(ValidatorSchemaFragment { definitions })
+        let unqualified = UnqualifiedActionType::new(alloc)?;
+        Self::taken_over(alloc, fragment, &unqualified)
     }
 }

@@ -1,6 +1,6 @@
 //! A small node: a member of others.
 
-ghost use Rattle.std.specs.Prelude.{◌≡◌, nat_eq};
+ghost use Rattle.std.specs.Prelude.{◌≡◌, ◌||◌, ℕ, OnErr, OnOk, nat_eq};
 ghost use Rattle.std.specs.List.{list_any};
 ghost use Rattle.std.proofs.Common.{ap, refl, ◌∙◌};
 ghost use Rattle.std.proofs.lemmas.Bool.{eqb-true};
@@ -39,6 +39,21 @@ impl TCNode<u32> for Member {
 
     fn add_edge_to(&mut self, key: u32) -> M<()> {
         self.owners.insert(key)?;
+        Ok(())
+    }
+
+    fn add_edges_to(&mut self, keys: Vec<u32>) -> M<()>
+        ensures added { OnOk result ((other : ℕ) → list_any (nat_eq other) self.new.owners.keys
+            ≡ (list_any (nat_eq other) keys.items || list_any (nat_eq other) self.old.owners.keys)) }
+        ensures err { OnErr result ((other : ℕ) → list_any (nat_eq other) self.new.owners.keys
+            ≡ list_any (nat_eq other) self.old.owners.keys) }
+        ensures alike { (self.old.key ≡ self.new.key) × (self.old.mark ≡ self.new.mark) }
+    {
+        let mut all = keys;
+        for owner in &self.owners {
+            all.push(*owner)?;
+        }
+        self.owners = BTreeSet::from_iter(*all.allocator(), all)?;
         Ok(())
     }
 

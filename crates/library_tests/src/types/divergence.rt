@@ -4,7 +4,8 @@ use crate::types::separate::{Known, made, what_is_known};
 use crate::types::test_values::sample;
 use cedar_ast::{M, Value};
 use cedar_counterexample::{
-    AttributesOutside, Step, attributes_outside, outside, sample_attributes, sample_value,
+    AttributesOutside, RecordShape, Step, attributes_outside, outside, sample_attributes,
+    sample_value,
 };
 use cedar_types::Type;
 use shorthand::checked::same;
@@ -120,7 +121,15 @@ fn parted_attributes(alloc: Global, known: &Known, lower: &Type, upper: &Type) -
                 open_attributes: upper_open,
             },
         ) => {
-            let found = attributes_outside(alloc, a, *open, b, *upper_open, extensions, samples)?;
+            let lower = RecordShape {
+                attributes: a,
+                openness: *open,
+            };
+            let upper = RecordShape {
+                attributes: b,
+                openness: *upper_open,
+            };
+            let found = attributes_outside(alloc, lower, upper, extensions, samples)?;
             attributes_text(alloc, found)
         }
         _ => Ok(String::from_str(alloc, "no record types")?),

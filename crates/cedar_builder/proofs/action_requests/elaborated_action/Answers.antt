@@ -24,7 +24,7 @@ returns-in_ok-new_external-in-None-clause-elaborates g c =
     let made = c.in_ok-new_external-in-None in
     let from = made.ensures.descendants in
     rw c.in-None.is (record {
-      uid = made.ensures.uid;
+      uid = made.ensures.action.uid;
       kind = rw made.ensures.kind tt;
       no_descendants = SameItems-none (action_of made.field-0).descendants
           (rw (All-taken from.0 from.1 from.3, from.2.0, c.new-descendants.ensures.items) at from.4);

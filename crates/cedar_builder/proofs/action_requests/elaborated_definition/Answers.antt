@@ -50,7 +50,7 @@ returns-clause-elaborates g c =
     let is = made.ensures.kind in
     let from = made.ensures.descendants in
     record {
-      uid = made.ensures.uid;
+      uid = made.ensures.action.uid;
       kind = kind_elaborated c.args.scope.now.types.now (map (refer Entity) it.principals.items) (map (refer Entity) it.resources.items)
           (type_expr g.row.N.Denot refer it.context) (ty_of c.in_ok-context.context) (action_of made.field-0).kind
           (rw (is, ← c.deref.ensures.value) c.in_ok-principals.ensures.names)

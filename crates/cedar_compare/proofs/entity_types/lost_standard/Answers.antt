@@ -11,7 +11,7 @@ pub attributes_outside-requires : goal.attributes_outside-requires
 attributes_outside-requires c =
     let versions = c.args.versions.now in
     let samples = value_trees versions.samples.now in
-    subst (AreInhabitedWith versions.extensions.now samples) (sym c.attributes.ensures.fields)
+    subst (AreInhabitedWith versions.extensions.now samples) (sym c.shape.ensures.attributes)
     (attributes_sampled versions.extensions.now samples (old_of versions) (type_name c.args.name.now) (plain_type c.args.old.now)
     c.requires.versions.sampled c.requires.old c.requires.standard)
 
@@ -31,25 +31,25 @@ returns-in-Some-found c =
     let new = plain_type c.in-Some.new.now in
     let found = c.in-Some-found.outside in
     let values = named_values found.attributes in
-    let lower : record_of (fields_of c.attributes.result.now) c.open_attributes.result
-    ≡ record_of (kind_fields old.kind) (kind_openness old.kind) = λ i. record_of (c.attributes.ensures.fields i) (c.open_attributes.ensures i) in
-    let upper : record_of (fields_of c.attributes-2.result.now) c.open_attributes-2.result
-    ≡ record_of (kind_fields new.kind) (kind_openness new.kind) = λ i. record_of (c.attributes-2.ensures.fields i) (c.open_attributes-2.ensures i) in
+    let lower : record_of (fields_of c.shape.result.attributes.now) c.shape.result.openness
+    ≡ record_of (kind_fields old.kind) (kind_openness old.kind) = λ i. record_of (c.shape.ensures.attributes i) (c.shape.ensures.openness i) in
+    let upper : record_of (fields_of c.shape-2.result.attributes.now) c.shape-2.result.openness
+    ≡ record_of (kind_fields new.kind) (kind_openness new.kind) = λ i. record_of (c.shape-2.ensures.attributes i) (c.shape-2.ensures.openness i) in
     let real = subst (λ (o : Option AttributesOutside). IfSome o (λ it. IsValue (map_value (named_values it.attributes)))) c.in-Some-found.is c.in_ok-found.ensures.real in
     let has = subst (λ (o : Option AttributesOutside). IfSome o (λ it. Has extensions (map_value (named_values it.attributes))
-    (record_of (fields_of c.attributes.result.now) c.open_attributes.result))) c.in-Some-found.is c.in_ok-found.ensures.has in
+    (record_of (fields_of c.shape.result.attributes.now) c.shape.result.openness))) c.in-Some-found.is c.in_ok-found.ensures.has in
     let lacks = subst (λ (o : Option AttributesOutside). IfSome o (λ it. ¬ Has extensions (map_value (named_values it.attributes))
-    (record_of (fields_of c.attributes-2.result.now) c.open_attributes-2.result))) c.in-Some-found.is c.in_ok-found.ensures.lacks in
+    (record_of (fields_of c.shape-2.result.attributes.now) c.shape-2.result.openness))) c.in-Some-found.is c.in_ok-found.ensures.lacks in
     let steps = subst (λ (o : Option AttributesOutside). IfSome o (λ it. IsOutsideAt extensions (steps_of it.steps)
-    (record_of (fields_of c.attributes.result.now) c.open_attributes.result)
-    (record_of (fields_of c.attributes-2.result.now) c.open_attributes-2.result))) c.in-Some-found.is c.in_ok-found.ensures.steps in
+    (record_of (fields_of c.shape.result.attributes.now) c.shape.result.openness)
+    (record_of (fields_of c.shape-2.result.attributes.now) c.shape-2.result.openness))) c.in-Some-found.is c.in_ok-found.ensures.steps in
     attributes_loss extensions (old_of versions) (new_of versions) (type_name c.args.name.now) old c.requires.old new c.in-Some.ensures
     c.requires.versions.new_keyed c.requires.standard (c.is_standard.ensures.0 c.if-not-is_standard.false)
     (plain_action_entity c.in_ok-witness.witness) values (steps_of found.steps) c.in_ok-witness.ensures
     (real, subst (Has extensions (map_value values)) lower has)
     (λ also. lacks (subst (Has extensions (map_value values)) (sym upper) also))
     (subst (λ t. IsOutsideAt extensions (steps_of found.steps) t (record_of (kind_fields new.kind) (kind_openness new.kind))) lower
-    (subst (IsOutsideAt extensions (steps_of found.steps) (record_of (fields_of c.attributes.result.now) c.open_attributes.result)) upper steps))
+    (subst (IsOutsideAt extensions (steps_of found.steps) (record_of (fields_of c.shape.result.attributes.now) c.shape.result.openness)) upper steps))
 
 -- where the new version admits all attributes of the old one, the answer is what is found beside
 -- them
@@ -59,12 +59,12 @@ returns c =
     let extensions = versions.extensions.now in
     let old = plain_type c.args.old.now in
     let new = plain_type c.in-Some.new.now in
-    let lower : record_of (fields_of c.attributes.result.now) c.open_attributes.result
-    ≡ record_of (kind_fields old.kind) (kind_openness old.kind) = λ i. record_of (c.attributes.ensures.fields i) (c.open_attributes.ensures i) in
-    let upper : record_of (fields_of c.attributes-2.result.now) c.open_attributes-2.result
-    ≡ record_of (kind_fields new.kind) (kind_openness new.kind) = λ i. record_of (c.attributes-2.ensures.fields i) (c.open_attributes-2.ensures i) in
+    let lower : record_of (fields_of c.shape.result.attributes.now) c.shape.result.openness
+    ≡ record_of (kind_fields old.kind) (kind_openness old.kind) = λ i. record_of (c.shape.ensures.attributes i) (c.shape.ensures.openness i) in
+    let upper : record_of (fields_of c.shape-2.result.attributes.now) c.shape-2.result.openness
+    ≡ record_of (kind_fields new.kind) (kind_openness new.kind) = λ i. record_of (c.shape-2.ensures.attributes i) (c.shape-2.ensures.openness i) in
     let included = subst (λ t. ValuesIncluded extensions t (record_of (kind_fields new.kind) (kind_openness new.kind))) lower
-    (subst (ValuesIncluded extensions (record_of (fields_of c.attributes.result.now) c.open_attributes.result)) upper
+    (subst (ValuesIncluded extensions (record_of (fields_of c.shape.result.attributes.now) c.shape.result.openness)) upper
     (c.in_ok-found.ensures.none.0 c.in_default-found.is)) in
     standard_answered extensions (old_of versions) (new_of versions) (type_name c.args.name.now) old new c.requires.versions.old_keyed
     c.requires.old c.in-Some.ensures c.requires.standard (c.is_standard.ensures.0 c.if-not-is_standard.false) included

@@ -1,7 +1,7 @@
 use Rattle.std.proofs.Common.{refl}
 use Rattle.cedar_counterexample.proofs.TypeCounterexamples.{separated_outside}
 use Rattle.cedar_counterexample.proofs.divergence.attributes_outside.Goals as goal
-use Rattle.cedar_counterexample.specs.Words.{AreTexts-fields, AreWellFormed-fields, Attributes, IsSortedByName-fields, IsWellFormed, OpenTag, fields_of, record_found, record_of, value_trees}
+use Rattle.cedar_counterexample.specs.Words.{AreTexts-fields, AreWellFormed-fields, Attributes, IsSortedByName-fields, IsWellFormed, OpenTag, fields_of, record_found, record_of, shape_type, value_trees}
 use Rattle.cedar_type_rules.proofs.StatedLemmas.{IsInhabited-with}
 use Rattle.cedar_type_rules.proofs.ValueInclusion.{inclusion_by_parts}
 
@@ -12,18 +12,18 @@ formed all openness = (IsSortedByName-fields all, AreWellFormed-fields all, AreT
 pub returns-in_ok-attributes-in-Some-clause-none : goal.returns-in_ok-attributes-in-Some-clause-none
 returns-in_ok-attributes-in-Some-clause-none c =
     let extensions = c.args.extensions.now in
-    let a = record_of (fields_of c.args.a.now) c.args.openness in
-    let b = record_of (fields_of c.args.b.now) c.args.upper_openness in
+    let a = shape_type c.args.a in
+    let b = shape_type c.args.b in
     let found = rw c.in-Some.is at c.in_ok-start.ensures in
     (λ none. absurd cc, λ within. absurd (separated_outside extensions a b (record_found c.in-Some.start).value found.0 within))
 
 pub returns-in-None-clause-none : goal.returns-in-None-clause-none
 returns-in-None-clause-none c =
     let extensions = c.args.extensions.now in
-    let a = record_of (fields_of c.args.a.now) c.args.openness in
-    let b = record_of (fields_of c.args.b.now) c.args.upper_openness in
+    let a = shape_type c.args.a in
+    let b = shape_type c.args.b in
     let found = rw c.in-None.is at c.in_ok-start.ensures in
     let lives = IsInhabited-with extensions (value_trees c.args.samples.now) a c.requires in (
-      λ _. (inclusion_by_parts a b (formed c.args.a.now c.args.openness) (formed c.args.b.now c.args.upper_openness) extensions lives).0 found,
+      λ _. (inclusion_by_parts a b (formed c.args.a.attributes.now c.args.a.openness) (formed c.args.b.attributes.now c.args.b.openness) extensions lives).0 found,
       λ _. refl,
     )

@@ -7,7 +7,7 @@ use Rattle.cedar_type_rules.proofs.join_order.reduce.Given.{Over}
 use Rattle.cedar_type_rules.proofs.join_order.reduce.Goals as goal
 use Rattle.cedar_type_rules.specs.Words.{IsFoldOfJoins, ValidationMode}
 
--- what the trait tells of joins
+-- what the trait says of joins
 laws_of : (g : Over) (mode : ValidationMode)
     → JoinLaws (g.T.JoinOrder.below mode) g.T.JoinOrder.is_clean (g.T.JoinOrder.join mode)
 laws_of g mode = record {
