@@ -8,9 +8,8 @@ use crate::reading::{ReadFiles, source_number, well_formed};
 use crate::repeating::{Repeated, shortened};
 use crate::text::Text;
 use cedar_ast::{Loc, M, Memory};
-use cedar_json::{
-    JsonSchemaFault, Places, cedar_extensions, fragment_from_json, place_of, second_place_of,
-};
+use cedar_json::{JsonSchemaFault, cedar_extensions, fragment_from_json};
+use cedar_places::{Places, place_of, second_place_of};
 use cedar_schema::{SchemaError, ValidatorSchema};
 use cedar_schema_ast::json_schema::{Fragment, RawName};
 use std::alloc::Global;

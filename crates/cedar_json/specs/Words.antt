@@ -1,12 +1,10 @@
 -- The words of clauses, from one place.
 pub use Rattle.cedar_ast.specs.CoreSchemaType.{core_ty_of}
 pub use Rattle.cedar_ast.specs.Eid.{eid_text}
-pub use Rattle.cedar_ast.specs.EntityType.{type_loc, type_name}
-pub use Rattle.cedar_ast.specs.EntityUID.{uid_loc, uid_of}
+pub use Rattle.cedar_ast.specs.EntityUID.{uid_of}
 pub use Rattle.cedar_ast.specs.Extensions.{extension_types, function_named}
-pub use Rattle.cedar_ast.specs.Id.{id_text}
 pub use Rattle.cedar_ast.specs.Identifier.{IsIdentifier, begins_identifier, is_identifier_byte, is_identifier_start, is_identifier_text, reserved_word}
-pub use Rattle.cedar_ast.specs.InternalName.{name_loc, name_of}
+pub use Rattle.cedar_ast.specs.InternalName.{name_of}
 pub use Rattle.cedar_ast.specs.Joined.{joined}
 pub use Rattle.cedar_ast.specs.Name.{plain_name}
 pub use Rattle.cedar_ast.specs.NameFault.{IsNameFault}
@@ -39,31 +37,25 @@ pub use Rattle.cedar_schema_ast.specs.TypeExpr.{attribute_step, record_step, typ
 pub use Rattle.cedar_schema_ast.specs.declared.json_schema.common_type_id.CommonTypeId.{CommonTypeId}
 pub use Rattle.cedar_schema_ast.specs.declared.json_schema.raw_name.RawName.{RawName}
 pub use Rattle.cedar_schema_ast.specs.declared.json_schema.reference_type.ReferenceType.TheVariants.{Common, Entity}
-pub use Rattle.cedar_schema_ast.specs.declared.json_schema.type_of.RecordType.{RecordType, fold_out-RecordType, out-RecordType, roll-RecordType}
+pub use Rattle.cedar_schema_ast.specs.declared.json_schema.type_of.RecordType.{roll-RecordType}
 pub use Rattle.cedar_schema_ast.specs.declared.json_schema.type_of.Type.{«Type»}
-pub use Rattle.cedar_schema_ast.specs.declared.json_schema.type_of.TypeOfAttribute.{TypeOfAttribute, fold-roll-TypeOfAttribute, fold_out-TypeOfAttribute, out-TypeOfAttribute, roll-TypeOfAttribute}
-pub use Rattle.cedar_schema_semantics.specs.declared.schema_error.SchemaError.{SchemaError}
-pub use Rattle.cedar_json.specs.ActionFormat.{WrittenAction, WrittenParent, action_by, action_of, optional, pairs_in, parent_by, parent_of, parents_of, requests_by, requests_of, unless_null, written_action, written_pairs, written_parent, written_requests}
+pub use Rattle.cedar_schema_ast.specs.declared.json_schema.type_of.TypeOfAttribute.{TypeOfAttribute, fold-roll-TypeOfAttribute, roll-TypeOfAttribute}
+pub use Rattle.cedar_json.specs.ActionFormat.{WrittenAction, WrittenParent, action_by, action_of, optional, pairs_in, parent_of, parents_of, requests_of, unless_null, written_action, written_parent, written_requests}
 pub use Rattle.cedar_json.specs.CedarExtensions.{Signature, cedar_function, cedar_type_names, signature, signatures, unqualified}
-pub use Rattle.cedar_json.specs.DefinitionFormat.{IsEntryPut, WrittenDefinition, WrittenFragment, actions_in, common_key, common_type_of, common_types_in, definition_by, definition_of, entity_types_in, entries_in, entries_of, fragment_of, id_key, namespace_key, written_actions, written_common_types, written_definition, written_entity_types, written_fragment}
-pub use Rattle.cedar_json.specs.EntityFormat.{WrittenEntity, at_least_one, body_by, choices_in, empty_record, entity_by, entity_of, entity_reference, parents_in, references_in, shape_in, standard_by, standard_of, tags_in, written_entity, written_kind}
+pub use Rattle.cedar_json.specs.DefinitionFormat.{IsEntryPut, WrittenDefinition, WrittenFragment, actions_in, common_key, common_type_of, common_types_in, definition_by, definition_of, entity_types_in, entries_in, entries_of, fragment_of, id_key, namespace_key, written_common_types, written_definition, written_fragment}
+pub use Rattle.cedar_json.specs.EntityFormat.{WrittenEntity, at_least_one, body_by, choices_in, empty_record, entity_of, entity_reference, shape_in, standard_of, written_entity, written_kind}
 pub use Rattle.cedar_json.specs.ExtensionRows.{AreKinds, AreNames, AreRows, IsKind, IsRow, SpellsName, inserted, kind_type, row_signature}
 pub use Rattle.cedar_json.specs.Fields.{IsOther, annotations_fit, are_annotations, flag_or, further_fields, has_only, is_among, is_text_or_null, keys_among, known_fields, nth_member, own_fields, text_held, texts_of, type_fields, type_word}
-pub use Rattle.cedar_json.specs.Listing.{IsListed, action_mark, common_type_mark, entity_type_mark, marks_under}
 pub use Rattle.cedar_json.specs.Lists.{all_of, field_or}
 pub use Rattle.cedar_json.specs.MapBuilder.{IsAscending, all_put}
-pub use Rattle.cedar_json.specs.Mark.{Mark, Marked, Marks, extension_type, mark_of, marked, open_record}
 pub use Rattle.cedar_json.specs.Place.{IsFault, IsTrueOf, member_at, step_into}
 unfoldable pub use Rattle.cedar_json.specs.Place.{IsFaultAt}
 pub use Rattle.cedar_json.specs.Reading.{IsPutUnder, IsReadFrom, IsReadWhere, IsSeenFrom}
-pub use Rattle.cedar_json.specs.RefusalPlace.{IsAttributedAction, IsAttributedPlace, IsExtensionType, IsFirstPlace, IsPlaceOf, IsSecondPlaceOf, IsShadowedPlace, IsSought}
 pub use Rattle.cedar_json.specs.Repeats.{IsRepeatIn, IsRepeated}
-pub use Rattle.cedar_json.specs.Table.{definition_marks, fragment_marks, full_name, kind_marks, namespace_of, requests_marks}
 pub use Rattle.cedar_json.specs.TextFormat.{Describes, IsFaultOf, too_long}
 pub use Rattle.cedar_json.specs.TypeFormat.{Attributes, additional_field, attribute_by, attributes_field, element_field, extension_in, if_so, later_field, record_of, reference_in, type_by, type_by_word, type_with}
 unfoldable pub use Rattle.cedar_json.specs.TypeFormat.{attribute_of, attributes_held, attributes_in, attributes_of, element_of, type_of}
-pub use Rattle.cedar_json.specs.TypeMarks.{MarksAt, attribute_marks, attribute_marks_step, record_marks, record_marks_step, type_marks, type_marks_step, variant_marks, variant_marks_step}
-pub use Rattle.cedar_json.specs.ValueFormat.{Pairs, call_by, call_of, object_by, record_of_pairs, sole_held, uid_by, uid_in}
+pub use Rattle.cedar_json.specs.ValueFormat.{Pairs, call_by, call_of, object_by, record_of_pairs, sole_held, uid_in}
 unfoldable pub use Rattle.cedar_json.specs.ValueFormat.{argument_of, call_in, first_call, pairs_of, value_of, values_of}
 pub use Rattle.cedar_json.specs.WholeNumber.{are_digits, is_digit, is_long, whole_number}
 pub use Rattle.cedar_json.specs.WrittenName.{if_unreserved, is_reserved, is_unreserved, name_after, name_of_parts, pieces, plain_name_in, spelled_name, with_byte}
@@ -71,4 +63,3 @@ pub use Rattle.cedar_json.specs.declared.extensions.Kind.TheVariants.{Truth}
 pub use Rattle.cedar_json.specs.declared.extensions.Row.{Row}
 pub use Rattle.cedar_json.specs.declared.fault.Fault.{Fault}
 pub use Rattle.cedar_json.specs.declared.fault.Row.TheVariants.{OfAttribute, OfCall, OfType}
-pub use Rattle.cedar_json.specs.declared.places.written.WrittenAt.{WrittenAt}

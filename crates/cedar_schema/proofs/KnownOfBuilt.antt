@@ -52,5 +52,5 @@ declared_clean_types bag extensions schema declared members member among =
     let types = (schema_of schema).entity_types in (
       declared_of AreClean tt types
           (λ it at. kind_clean it.1.kind (λ ty is. declared_clean bag extensions (schema_of schema) declared ty (inl (it, at, is)))) member,
-      declared_of IsSortedByName none_ascend types (type_ascends schema.content.entity_types.entries) member,
+      declared_of IsSortedByName none_ascend types (type_ascends schema.content.tables.entity_types.entries) member,
     )

@@ -61,7 +61,7 @@ known_order schema = record {
 -- the entities that a schema lists are those of its actions
 pub entities_known : (schema : ValidatorSchema) → AreActionEntities (schema_of schema)
 entities_known schema =
-    listed_are (map plain_entry schema.content.entity_types.entries) schema.content.action_ids.entries (known_order schema).actions
+    listed_are (map plain_entry schema.content.tables.entity_types.entries) schema.content.tables.actions.entries (known_order schema).actions
 
 -- actions that are pairwise the same stand under the same uids
 same_keys : (actions others : List (PlainUid × SchemaAction)) → HoldsPairwise SameAction actions others
@@ -142,22 +142,22 @@ module _ {K V P : Type 0} (key : K → P) (own : V → P) where
       λ i. first i ∷ others i
 
 -- the names that the entity types of a schema stand under are sorted
-pub type_keys_ascend : (schema : ValidatorSchema) → IsStrictlySortedBy name_cmp (map type_name (keys_of schema.content.entity_types.entries))
+pub type_keys_ascend : (schema : ValidatorSchema) → IsStrictlySortedBy name_cmp (map type_name (keys_of schema.content.tables.entity_types.entries))
 type_keys_ascend schema =
-    subst (IsStrictlySortedBy name_cmp) (names_of_keys type_name plain_entry (λ e. refl) schema.content.entity_types.entries)
+    subst (IsStrictlySortedBy name_cmp) (names_of_keys type_name plain_entry (λ e. refl) schema.content.tables.entity_types.entries)
     (known_order schema).entity_types
 
 -- the uids that the actions of a schema stand under are sorted
-pub action_keys_ascend : (schema : ValidatorSchema) → IsStrictlySortedBy uid_cmp (map uid_of (keys_of schema.content.action_ids.entries))
+pub action_keys_ascend : (schema : ValidatorSchema) → IsStrictlySortedBy uid_cmp (map uid_of (keys_of schema.content.tables.actions.entries))
 action_keys_ascend schema =
-    subst (IsStrictlySortedBy uid_cmp) (names_of_keys uid_of plain_action_entry (λ e. refl) schema.content.action_ids.entries)
+    subst (IsStrictlySortedBy uid_cmp) (names_of_keys uid_of plain_action_entry (λ e. refl) schema.content.tables.actions.entries)
     (known_order schema).actions
 
 -- the names of the entity types of a schema are sorted
 pub type_names_ascend : (schema : ValidatorSchema)
-    → IsStrictlySortedBy name_cmp (map (λ it. (entity_type_of it).name) (map (λ it. it.1) schema.content.entity_types.entries))
+    → IsStrictlySortedBy name_cmp (map (λ it. (entity_type_of it).name) (map (λ it. it.1) schema.content.tables.entity_types.entries))
 type_names_ascend schema =
-    let entries = schema.content.entity_types.entries in
+    let entries = schema.content.tables.entity_types.entries in
     subst (IsStrictlySortedBy name_cmp)
     (sym (own_names type_name (λ it. (entity_type_of it).name) entries
     (λ it among. (known_names schema).entity_types (plain_entry it) (Contains-image plain_entry entries it among))))
@@ -165,9 +165,9 @@ type_names_ascend schema =
 
 -- the uids of the actions of a schema are sorted
 pub action_uids_ascend : (schema : ValidatorSchema)
-    → IsStrictlySortedBy uid_cmp (map (λ it. (action_of it).uid) (map (λ it. it.1) schema.content.action_ids.entries))
+    → IsStrictlySortedBy uid_cmp (map (λ it. (action_of it).uid) (map (λ it. it.1) schema.content.tables.actions.entries))
 action_uids_ascend schema =
-    let entries = schema.content.action_ids.entries in
+    let entries = schema.content.tables.actions.entries in
     subst (IsStrictlySortedBy uid_cmp)
     (sym (own_names uid_of (λ it. (action_of it).uid) entries
     (λ it among. (known_names schema).actions (plain_action_entry it) (Contains-image plain_action_entry entries it among))))
@@ -177,10 +177,10 @@ action_uids_ascend schema =
 pub no_reserved_name : (schema : ValidatorSchema) → HasNoReservedName (schema_of schema)
 no_reserved_name schema = record {
   entity_types = λ name has reserved.
-      let key = named_key schema.content.entity_types.entries name has in
+      let key = named_key schema.content.tables.entity_types.entries name has in
       let P : PlainName → Type 0 = λ each. Contains each.path reserved_word in key.0.0.unreserved (inr (subst P (sym key.2) reserved));
   actions = λ uid has reserved.
-      let key = key_of_uid schema.content.action_ids.entries uid has in
+      let key = key_of_uid schema.content.tables.actions.entries uid has in
       let P : PlainUid → Type 0 = λ each. Contains each.ty.path reserved_word in
       key.0.ty.0.unreserved (inr (subst P (sym key.2) reserved));
 }

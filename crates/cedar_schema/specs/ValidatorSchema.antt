@@ -12,27 +12,27 @@ use Rattle.cedar_table.specs.Entries.{get_by}
 
 -- the entity types of a schema, each under its name, in the order of the names
 abbrev pub schema_entries : ValidatorSchema → List (EntityType × ValidatorEntityType)
-schema_entries schema = schema.content.entity_types.entries
+schema_entries schema = schema.content.tables.entity_types.entries
 
 -- the actions of a schema, each under its uid, in the order of the uids
 abbrev pub action_entries : ValidatorSchema → List (EntityUID × ValidatorActionId)
-action_entries schema = schema.content.action_ids.entries
+action_entries schema = schema.content.tables.actions.entries
 
 -- the entity type of that name
 abbrev pub entity_type_named : ValidatorSchema → PlainName → Option ValidatorEntityType
 entity_type_named schema name =
-    get_by (λ key. name_cmp name (type_name key)) schema.content.entity_types
+    get_by (λ key. name_cmp name (type_name key)) schema.content.tables.entity_types
 
 -- the action of that uid
 abbrev pub action_of_uid : ValidatorSchema → PlainUid → Option ValidatorActionId
 action_of_uid schema uid =
-    get_by (λ key. uid_cmp uid (uid_of key)) schema.content.action_ids
+    get_by (λ key. uid_cmp uid (uid_of key)) schema.content.tables.actions
 
 -- what a schema stands for
 abbrev pub schema_of : ValidatorSchema → PlainSchema
 schema_of schema =
-    schema_listing (map plain_entry schema.content.entity_types.entries)
-    schema.content.action_ids.entries
+    schema_listing (map plain_entry schema.content.tables.entity_types.entries)
+    schema.content.tables.actions.entries
 
 -- what a schema shows of its fragments
 abbrev pub located_of : ValidatorSchema → Located

@@ -29,8 +29,8 @@ impl ValidatorSchema {
     {
         json_schema(
             alloc,
-            &self.content().entity_types,
-            &self.content().action_ids,
+            &self.content().tables.entity_types,
+            &self.content().tables.actions,
         )
     }
 }

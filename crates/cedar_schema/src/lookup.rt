@@ -70,7 +70,11 @@ impl SchemaLookup for Type {
 
     fn euid_literal(alloc: Global, uid: &EntityUID, schema: &ValidatorSchema) -> M<Option<Self>> {
         let content = schema.content();
-        if !cedar_queries::is_known_uid(&content.entity_types, &content.action_ids, uid) {
+        if !cedar_queries::is_known_uid(
+            &content.tables.entity_types,
+            &content.tables.actions,
+            uid,
+        ) {
             return Ok(None);
         }
         let ty = Type::named_entity_reference(alloc, uid.entity_type().clone()?)?;
@@ -78,7 +82,7 @@ impl SchemaLookup for Type {
     }
 
     fn all_attributes(&self, alloc: Global, schema: &ValidatorSchema) -> M<Attributes> {
-        cedar_queries::all_attributes(alloc, &schema.content().entity_types, self)
+        cedar_queries::all_attributes(alloc, &schema.content().tables.entity_types, self)
     }
 
     fn lookup_attribute_type(
@@ -87,19 +91,19 @@ impl SchemaLookup for Type {
         ty: &Type,
         name: &str,
     ) -> M<Option<AttributeType>> {
-        cedar_queries::lookup_attribute_type(alloc, &schema.content().entity_types, ty, name)
+        cedar_queries::lookup_attribute_type(alloc, &schema.content().tables.entity_types, ty, name)
     }
 
     fn may_have_attr(schema: &ValidatorSchema, ty: &Type, name: &str) -> bool {
-        cedar_queries::may_have_attr(&schema.content().entity_types, ty, name)
+        cedar_queries::may_have_attr(&schema.content().tables.entity_types, ty, name)
     }
 
     fn may_have_tags(schema: &ValidatorSchema, ty: &Type) -> bool {
-        cedar_queries::may_have_tags(&schema.content().entity_types, ty)
+        cedar_queries::may_have_tags(&schema.content().tables.entity_types, ty)
     }
 
     fn has_declared_entity_types(schema: &ValidatorSchema, ty: &Type) -> bool {
-        cedar_queries::has_declared_entity_types(&schema.content().entity_types, ty)
+        cedar_queries::has_declared_entity_types(&schema.content().tables.entity_types, ty)
     }
 }
 
@@ -123,7 +127,7 @@ impl KnownAttrs for EntityKind {
     ghost stands_for = { kind_ty };
 
     fn all_known_attrs(&self, alloc: Global, schema: &ValidatorSchema) -> M<Attributes> {
-        cedar_queries::known_attributes(alloc, &schema.content().entity_types, self)
+        cedar_queries::known_attributes(alloc, &schema.content().tables.entity_types, self)
     }
 }
 

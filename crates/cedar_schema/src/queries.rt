@@ -26,7 +26,7 @@ impl ValidatorSchema {
     pub fn get_entity_type(&self, name: &EntityType) -> Option<&ValidatorEntityType>
         ensures { option_copied result ≡ entity_type_named self.now (type_name name.now) }
     {
-        self.content().entity_types.get(name)
+        self.content().tables.entity_types.get(name)
     }
 
     /// The entity types, in the order of their names, one for each.
@@ -35,7 +35,7 @@ impl ValidatorSchema {
         ensures in_order { IsStrictlySortedBy name_cmp
             (map (λ it. (entity_type_of it).name) result) }
     {
-        self.content().entity_types.values()
+        self.content().tables.entity_types.values()
     }
 
     /// The names of the entity types, in order, each once.
@@ -45,14 +45,14 @@ impl ValidatorSchema {
             ≡ map (λ entry. types.name_loc entry.1) (schema_entries self.now) }
         ensures in_order { IsStrictlySortedBy name_cmp (map type_name result) }
     {
-        self.content().entity_types.keys()
+        self.content().tables.entity_types.keys()
     }
 
     /// The action of this uid, if the schema declares one.
     pub fn get_action_id(&self, uid: &EntityUID) -> Option<&ValidatorActionId>
         ensures { option_copied result ≡ action_of_uid self.now (uid_of uid.now) }
     {
-        self.content().action_ids.get(uid)
+        self.content().tables.actions.get(uid)
     }
 
     /// The actions, external ones too, in the order of their uids, one for each.
@@ -60,7 +60,7 @@ impl ValidatorSchema {
         ensures actions { result ≡ map (λ entry. entry.1) (action_entries self.now) }
         ensures in_order { IsStrictlySortedBy uid_cmp (map (λ it. (action_of it).uid) result) }
     {
-        self.content().action_ids.values()
+        self.content().tables.actions.values()
     }
 
     /// The uids of the actions, external ones too, in order, each once.
@@ -72,7 +72,7 @@ impl ValidatorSchema {
             ≡ map (λ entry. action.name_type_loc entry.1) (action_entries self.now) }
         ensures in_order { IsStrictlySortedBy uid_cmp (map uid_of result) }
     {
-        self.content().action_ids.keys()
+        self.content().tables.actions.keys()
     }
 
     /// The environments of the requests that the actions are for: for each action that is defined,
@@ -96,7 +96,7 @@ impl ValidatorSchema {
     pub fn principals(&self) -> ApplicableTypes<'_>
         ensures { result ≡ all_principals (schema_of self.now).actions }
     {
-        cedar_queries::principals(&self.content().action_ids)
+        cedar_queries::principals(&self.content().tables.actions)
     }
 
     /// The types of the resources of requests: of each action in turn each once. External actions
@@ -104,7 +104,7 @@ impl ValidatorSchema {
     pub fn resources(&self) -> ApplicableTypes<'_>
         ensures { result ≡ all_resources (schema_of self.now).actions }
     {
-        cedar_queries::resources(&self.content().action_ids)
+        cedar_queries::resources(&self.content().tables.actions)
     }
 
     /// The types of the principals of an action's requests, in the order of their names, each once;
@@ -117,7 +117,7 @@ impl ValidatorSchema {
         ensures in_order { IfSome result (λ types.
             IsStrictlySortedBy name_cmp (map type_name types)) }
     {
-        cedar_queries::principals_for_action(&self.content().action_ids, uid)
+        cedar_queries::principals_for_action(&self.content().tables.actions, uid)
     }
 
     /// The types of the resources of an action's requests, in the order of their names, each once;
@@ -130,7 +130,7 @@ impl ValidatorSchema {
         ensures in_order { IfSome result (λ types.
             IsStrictlySortedBy name_cmp (map type_name types)) }
     {
-        cedar_queries::resources_for_action(&self.content().action_ids, uid)
+        cedar_queries::resources_for_action(&self.content().tables.actions, uid)
     }
 
     /// The uids of the actions that are for requests of this principal with this resource, in
@@ -146,7 +146,7 @@ impl ValidatorSchema {
         ensures in_order { IsStrictlySortedBy uid_cmp (map uid_of result) }
     {
         cedar_queries::actions_for_principal_and_resource(
-            &self.content().action_ids,
+            &self.content().tables.actions,
             principal,
             resource,
         )
@@ -157,7 +157,7 @@ impl ValidatorSchema {
         ensures uids { map uid_of result ≡ groups (schema_of self.now).actions }
         ensures in_order { IsStrictlySortedBy uid_cmp (map uid_of result) }
     {
-        cedar_queries::action_groups(&self.content().action_ids)
+        cedar_queries::action_groups(&self.content().tables.actions)
     }
 
     /// The type of the context of an action's requests. None where the schema has no action of this
@@ -166,7 +166,7 @@ impl ValidatorSchema {
         ensures { option_map ty_of (option_copied result)
             ≡ context_at (uid_of uid.now) (schema_of self.now).actions }
     {
-        cedar_queries::context_type(&self.content().action_ids, uid)
+        cedar_queries::context_type(&self.content().tables.actions, uid)
     }
 
     /// Whether the schema has an entity type of this name, or the name is one of actions' types.
@@ -174,7 +174,7 @@ impl ValidatorSchema {
         ensures { IsTrue result ↔ IsKnownType (schema_of self.now).entity_types
             (type_name name.now) }
     {
-        cedar_queries::is_known_entity_type(&self.content().entity_types, name)
+        cedar_queries::is_known_entity_type(&self.content().tables.entity_types, name)
     }
 
     /// Whether the schema has an action of this uid.
@@ -182,7 +182,7 @@ impl ValidatorSchema {
         ensures { IsTrue result ↔ Contains (map (λ it. it.0) (schema_of self.now).actions)
             (uid_of uid.now) }
     {
-        cedar_queries::is_known_action_id(&self.content().action_ids, uid)
+        cedar_queries::is_known_action_id(&self.content().tables.actions, uid)
     }
 
     /// The names of the entity types that have this one among their descendants, in order, each
@@ -196,7 +196,7 @@ impl ValidatorSchema {
         ensures in_order { IfSome result (λ above.
             IsStrictlySortedBy name_cmp (map type_name above)) }
     {
-        cedar_queries::ancestors(&self.content().entity_types, ty)
+        cedar_queries::ancestors(&self.content().tables.entity_types, ty)
     }
 
     /// The names of the descendants of an entity type, in some order, each once, and then its own,
@@ -214,7 +214,7 @@ impl ValidatorSchema {
             AllPairs (λ a b. a ≢ b) (descendants_of (type_name ty.now)
             (schema_of self.now).entity_types)) }
     {
-        cedar_queries::entity_types_in(alloc, &self.content().entity_types, ty)
+        cedar_queries::entity_types_in(alloc, &self.content().tables.entity_types, ty)
     }
 
     /// For each of some uids in turn the uids of the descendants of its action, in some order, and
@@ -233,7 +233,7 @@ impl ValidatorSchema {
             ≡ flat_map (λ uid. action_descendants (uid_of uid) (schema_of self.now).actions
             ++ uid_of uid ∷ []) uids.now)) }
     {
-        cedar_queries::actions_in_set(alloc, &self.content().action_ids, uids)
+        cedar_queries::actions_in_set(alloc, &self.content().tables.actions, uids)
     }
 
     /// Whether entities of some of the one types may be among or below those of some of the others:
@@ -247,8 +247,8 @@ impl ValidatorSchema {
     {
         let content = self.content();
         cedar_queries::any_descendent_of(
-            &content.entity_types,
-            &content.action_ids,
+            &content.tables.entity_types,
+            &content.tables.actions,
             lowers,
             ancestors,
         )
@@ -261,8 +261,8 @@ impl ValidatorSchema {
             ≡ unresolved (schema_entries self.now) (action_entries self.now) }
     {
         cedar_queries::unresolved_declarations(
-            &self.content().entity_types,
-            &self.content().action_ids,
+            &self.content().tables.entity_types,
+            &self.content().tables.actions,
         )
     }
 
@@ -271,7 +271,10 @@ impl ValidatorSchema {
         ensures { IsTrue result ↔ (unresolved (schema_entries self.now) (action_entries self.now)
             ≡ []) }
     {
-        cedar_queries::is_complete(&self.content().entity_types, &self.content().action_ids)
+        cedar_queries::is_complete(
+            &self.content().tables.entity_types,
+            &self.content().tables.actions,
+        )
     }
 
     /// That nothing is declared to be elsewhere; else the error carries what is, in order, with the
@@ -284,8 +287,8 @@ impl ValidatorSchema {
     {
         cedar_queries::check_complete(
             alloc,
-            &self.content().entity_types,
-            &self.content().action_ids,
+            &self.content().tables.entity_types,
+            &self.content().tables.actions,
         )
     }
 
@@ -299,8 +302,8 @@ impl ValidatorSchema {
     {
         cedar_queries::leaf_types(
             alloc,
-            &self.content().entity_types,
-            &self.content().action_ids,
+            &self.content().tables.entity_types,
+            &self.content().tables.actions,
         )
     }
 
@@ -312,6 +315,6 @@ impl ValidatorSchema {
             (schema_with (schema_of self.now).entity_types (action_entries self.now)
             (map plain_action_entity (entities_of entities)))) }
     {
-        action_entities(alloc, &self.content().action_ids)
+        action_entities(alloc, &self.content().tables.actions)
     }
 }

@@ -52,19 +52,18 @@ pub struct ValidatorSchema {
 /// What a schema holds but for what it shows of its fragments: its copies share it.
 #[derive_where(Debug, PartialEq, Eq)]
 pub(crate) struct Content {
-    pub(crate) entity_types: Table<EntityType, ValidatorEntityType>,
-    pub(crate) action_ids: Table<EntityUID, ValidatorActionId>,
+    pub(crate) tables: Parts,
     #[derive_where(skip(EqHashOrd))]
     pub(crate) environments: Vec<UnlinkedRequestEnv>,
     ghost environments_of_actions: { ∥ AreEnvironmentsOf
-        (schema_listing (map plain_entry entity_types.entries) action_ids.entries)
+        (schema_listing (map plain_entry tables.entity_types.entries) tables.actions.entries)
         (map owned_environment environments.items) ∥₁ },
     ghost in_order: { ∥ IsInOrder
-        (schema_listing (map plain_entry entity_types.entries) action_ids.entries) ∥₁ },
+        (schema_listing (map plain_entry tables.entity_types.entries) tables.actions.entries) ∥₁ },
     ghost under_names: { ∥ StandsUnderItsNames
-        (schema_listing (map plain_entry entity_types.entries) action_ids.entries) ∥₁ },
-    ghost types_located: { types.AreLocatedAsKeys entity_types.entries },
-    ghost actions_located: { action.AreLocatedAsKeys action_ids.entries },
+        (schema_listing (map plain_entry tables.entity_types.entries) tables.actions.entries) ∥₁ },
+    ghost types_located: { types.AreLocatedAsKeys tables.entity_types.entries },
+    ghost actions_located: { action.AreLocatedAsKeys tables.actions.entries },
 }
 
 // Written out: proofs of what holds a schema then see one call, and nothing of their parts.
@@ -81,8 +80,7 @@ impl Drop for ValidatorSchema {
 impl Drop for Content {
     fn drop(self) {
         let Content {
-            entity_types: _entity_types,
-            action_ids: _action_ids,
+            tables: _tables,
             environments: _environments,
         } = self;
     }
@@ -90,21 +88,14 @@ impl Drop for Content {
 
 impl Content {
     /// The entity types and the actions.
-    fn into_tables(
-        self,
-    ) -> (
-        Table<EntityType, ValidatorEntityType>,
-        Table<EntityUID, ValidatorActionId>,
-    )
-        ensures types { result.0.entries ≡ self.entity_types.entries }
-        ensures actions { result.1.entries ≡ self.action_ids.entries }
+    fn into_tables(self) -> Parts
+        ensures { result ≡ self.tables }
     {
         let Content {
-            entity_types,
-            action_ids,
+            tables,
             environments: _environments,
         } = self;
-        (entity_types, action_ids)
+        tables
     }
 }
 
@@ -124,8 +115,10 @@ impl ValidatorSchema {
         ensures namespaces { namespace_entries (located_of result) ≡ [] }
     {
         let content = Content {
-            entity_types: Table::new(alloc),
-            action_ids: Table::new(alloc),
+            tables: Parts {
+                entity_types: Table::new(alloc),
+                actions: Table::new(alloc),
+            },
             environments: Vec::new(alloc),
         };
         ValidatorSchema {
@@ -154,16 +147,11 @@ impl ValidatorSchema {
         ensures located { IfOk result (λ schema. located_of schema ≡ parts.located) }
     {
         let SchemaParts { tables, located } = parts;
-        let Parts {
-            entity_types,
-            actions,
-        } = tables;
-        let environments = environments(alloc, &actions)?;
-        entity_types.keys_ascend();
-        actions.keys_ascend();
+        let environments = environments(alloc, &tables.actions)?;
+        tables.entity_types.keys_ascend();
+        tables.actions.keys_ascend();
         let content = Content {
-            entity_types,
-            action_ids: actions,
+            tables,
             environments,
         };
         Ok(ValidatorSchema {
@@ -437,10 +425,10 @@ impl ValidatorSchema {
     {
         let content = self.content();
         let alloc = *content.environments.allocator();
-        let actions = copied_actions(&content.action_ids)?;
+        let actions = copied_actions(&content.tables.actions)?;
         let parts = SchemaParts {
             tables: Parts {
-                entity_types: copied_types(&content.entity_types)?,
+                entity_types: copied_types(&content.tables.entity_types)?,
                 actions,
             },
             located: Shared::new(alloc, self.located.value().clone()?)?,
@@ -485,31 +473,36 @@ fn validated(
     ensures fault { IfErr result (λ error.
         (entities : List ActionEntity) → (fault_of error ≡ out_of_memory)
         ⊎ IsSchemaFault extensions.now
-        (plain_schema content.entity_types.entries content.action_ids.entries entities)
+        (plain_schema content.tables.entity_types.entries content.tables.actions.entries entities)
         (fault_of error)) }
     ensures valid { OnOk result ((entities : List ActionEntity)
-        → IsValidSchema extensions.now
-        (plain_schema content.entity_types.entries content.action_ids.entries entities)) }
-    ensures types_located { IfOk result (λ it. types.AreLocatedAsKeys content.entity_types.entries
+        → IsValidSchema extensions.now (plain_schema content.tables.entity_types.entries
+        content.tables.actions.entries entities)) }
+    ensures types_located { IfOk result (λ it.
+        types.AreLocatedAsKeys content.tables.entity_types.entries
         → types.AreLocatedAsKeys it.entity_types.entries) }
-    ensures actions_located { IfOk result (λ it. action.AreLocatedAsKeys content.action_ids.entries
+    ensures actions_located { IfOk result (λ it.
+        action.AreLocatedAsKeys content.tables.actions.entries
         → action.AreLocatedAsKeys it.actions.entries) }
     ensures closed { IfOk result (λ it. (entities : List ActionEntity)
         → ClosesSchema
-        (plain_schema content.entity_types.entries content.action_ids.entries entities)
+        (plain_schema content.tables.entity_types.entries content.tables.actions.entries entities)
         (whole_schema it.entity_types.entries it.actions.entries)) }
 {
     match content.into_value() {
         Ok(content) => {
-            let (entity_types, actions) = content.into_tables();
+            let Parts {
+                entity_types,
+                actions,
+            } = content.into_tables();
             validate(alloc, entity_types, actions, extensions)
         }
         Err(content) => {
             let content = content.value();
             validate_copies(
                 alloc,
-                &content.entity_types,
-                &content.action_ids,
+                &content.tables.entity_types,
+                &content.tables.actions,
                 extensions,
             )
         }

@@ -11,7 +11,7 @@ pub type Types = Table<EntityType, ValidatorEntityType>;
 pub type Actions = Table<EntityUID, ValidatorActionId>;
 
 /// The entity types and the actions of a schema.
-#[derive(Drop)]
+#[derive(Debug, Drop, PartialEq, Eq)]
 pub struct Parts {
     /// The entity types, each under its name.
     pub entity_types: Types,

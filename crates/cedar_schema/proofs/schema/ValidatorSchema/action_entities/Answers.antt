@@ -7,5 +7,5 @@ pub returns : goal.returns
 returns c =
     let schema = c.args.self.now in
     IfOk-weaker c.action_entities.result _
-    (λ entities. AreActionEntities (schema_with (map plain_entry schema.content.entity_types.entries) (action_entries schema) (map plain_action_entity (entities_of entities))))
-    (λ entities are. are (map plain_entry schema.content.entity_types.entries)) (rw c.content.ensures at c.action_entities.ensures)
+    (λ entities. AreActionEntities (schema_with (map plain_entry schema.content.tables.entity_types.entries) (action_entries schema) (map plain_action_entity (entities_of entities))))
+    (λ entities are. are (map plain_entry schema.content.tables.entity_types.entries)) (rw c.content.ensures at c.action_entities.ensures)

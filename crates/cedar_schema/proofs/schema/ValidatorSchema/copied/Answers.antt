@@ -15,10 +15,10 @@ from_parts-requires-clause-under_names c =
     let actions_copied = rw c.content-content.ensures at c.in_ok-actions.ensures in
     let types = c.in_ok-copied_types.field-0.entries in
     let actions = c.in_ok-actions.actions.entries in
-    same_under_names (map plain_entry self.content.entity_types.entries) (map plain_entry types)
-    (map plain_action_entry self.content.action_ids.entries) (map plain_action_entry actions) (schema_of self).action_entities _
-    (types_same self.content.entity_types.entries types types_copied)
-    (actions_same self.content.action_ids.entries actions actions_copied) (known_names self)
+    same_under_names (map plain_entry self.content.tables.entity_types.entries) (map plain_entry types)
+    (map plain_action_entry self.content.tables.actions.entries) (map plain_action_entry actions) (schema_of self).action_entities _
+    (types_same self.content.tables.entity_types.entries types types_copied)
+    (actions_same self.content.tables.actions.entries actions actions_copied) (known_names self)
 
 -- copied tables are the same, and entities made of the same actions are the same
 pub returns-clause-schema : goal.returns-clause-schema
@@ -29,9 +29,9 @@ returns-clause-schema c =
     let types = c.in_ok-copied_types.field-0.entries in
     let actions = c.in_ok-actions.actions.entries in
     let copied : PlainSchema = schema_listing (map plain_entry types) actions in
-    let turn = actions_same self.content.action_ids.entries actions actions_copied in
+    let turn = actions_same self.content.tables.actions.entries actions actions_copied in
     let same : SameSchema copied (schema_of self) = record {
-      entity_types = types_same self.content.entity_types.entries types types_copied;
+      entity_types = types_same self.content.tables.entity_types.entries types types_copied;
       actions = turn;
       action_entities = same_entities copied (schema_of self) (entities_of_copy self (map plain_entry types) actions turn)
           (entities_known self) turn;
@@ -50,8 +50,8 @@ from_parts-requires-clause-keys c =
     let types_copied = rw c.content-content.ensures at c.in_ok-copied_types.ensures in
     let actions_copied = rw c.content-content.ensures at c.in_ok-actions.ensures in
     record {
-      of_types = type_copies_located self.content.entity_types.entries c.in_ok-copied_types.field-0.entries types_copied
+      of_types = type_copies_located self.content.tables.entity_types.entries c.in_ok-copied_types.field-0.entries types_copied
           self.content.types_located;
-      of_actions = action_copies_located self.content.action_ids.entries c.in_ok-actions.actions.entries actions_copied
+      of_actions = action_copies_located self.content.tables.actions.entries c.in_ok-actions.actions.entries actions_copied
           self.content.actions_located;
     }

@@ -6,4 +6,4 @@ use Rattle.cedar_table.specs.Entries.{get_by}
 pub returns : goal.returns
 returns c =
     (rw c.content.ensures at c.get.ensures.value)
-    ∙ ap (λ compare. get_by compare c.args.self.now.content.action_ids) (λ i key. entity_uid_ord-uid_cmp c.args.uid.now key i)
+    ∙ ap (λ compare. get_by compare c.args.self.now.content.tables.actions) (λ i key. entity_uid_ord-uid_cmp c.args.uid.now key i)

@@ -6,4 +6,4 @@ use Rattle.cedar_table.specs.Entries.{get_by}
 pub returns : goal.returns
 returns c =
     (rw c.content.ensures at c.get.ensures.value)
-    ∙ ap (λ compare. get_by compare c.args.self.now.content.entity_types) (λ i key. entity_type_ord-name_cmp c.args.name.now key i)
+    ∙ ap (λ compare. get_by compare c.args.self.now.content.tables.entity_types) (λ i key. entity_type_ord-name_cmp c.args.name.now key i)

@@ -1,5 +1,0 @@
-use Rattle.cedar_json.proofs.MarkLaws.{marks_mentioned}
-use Rattle.cedar_json.proofs.theorems.marks_are_mentioned.Goals as goal
-
-pub returns : goal.returns
-returns c = marks_mentioned
