@@ -1,14 +1,14 @@
 -- What is in the grammar is read, where its types are at most at the limit.
-use Rattle.std.proofs.Common.{◌≡◌, ℕ, zero, suc, ◌+◌, ◌<◌, ◌≤◌, max, Bool, true, false, not, ◌&&◌, List, [], ◌∷◌, ◌++◌, length, drop, bytes_eq, Ok, ◌⊎◌, inl, inr, refl, sym, ap, ap₂, ◌∙◌, subst, arith}
+use Rattle.std.proofs.Common.{◌≡◌, ℕ, zero, suc, ◌≤◌, Bool, true, false, not, ◌&&◌, List, [], ◌∷◌, length, drop, Ok, inl, inr, refl, sym, ap, ap₂, ◌∙◌, subst, arith}
 use Rattle.std.specs.Prelude.{codes, if◌then◌else◌}
-use Rattle.cedar_schema_tokens.specs.Token.{Lexeme, ident, text, symbol, Token}
+use Rattle.cedar_schema_tokens.specs.Token.{Lexeme, ident, symbol, Token}
 use Rattle.cedar_schema_tokens.specs.declared.token.Symbol.{Symbol}
 use Rattle.cedar_schema_tokens.specs.declared.token.Symbol.TheVariants as sign
 use Rattle.cedar_schema_grammar.specs.Tree.{Name, Path, Ty, named, set_of, record_of, Attributes, no_attributes, attribute, Attribute, attributes_from, level, level_of_all}
-use Rattle.cedar_schema_grammar.specs.Grammar.{Form, ◌then◌, nothing, optional, mark, word, separated as separated_form, any, many, IsId, IsText, IsName, IsPath, IsAnnotation, AreAnnotations, IsPresence, IsType, AreAttributes, AreMore, between}
-use Rattle.cedar_schema_grammar.specs.Reading.{Reader, and_then, pure, first_is, is_symbol, same_symbol, sees, sees_word, after, expect, id, id_text, name, quoted, path, annotation, annotations, begins_set, attribute_with, set_with, record_with, type_by, too_deep, type_at, separated, until}
+use Rattle.cedar_schema_grammar.specs.Grammar.{Form, ◌then◌, optional, mark, word, separated as separated_form, any, IsId, IsText, IsName, IsPath, IsAnnotation, AreAnnotations, IsPresence, IsType, AreAttributes, AreMore, between}
+use Rattle.cedar_schema_grammar.specs.Reading.{Reader, pure, first_is, is_symbol, same_symbol, sees, sees_word, after, expect, id, id_text, name, quoted, path, annotation, annotations, begins_set, attribute_with, set_with, record_with, type_by, too_deep, type_at, separated, until}
 use Rattle.cedar_schema_grammar.proofs.Turns.{given, bind_on}
-use Rattle.cedar_schema_grammar.proofs.Steps.{Opens, goes, stays, opens, opens_word, other, expect_on, id_on, id_text_on, name_on, quoted_on}
+use Rattle.cedar_schema_grammar.proofs.Steps.{Opens, goes, stays, opens, other, expect_on, id_on, id_text_on, name_on, quoted_on}
 use Rattle.cedar_schema_grammar.proofs.Lists.{one_less, Less, Most, separated_less, many_most, separated_again, until_again, while_again}
 use Rattle.cedar_schema_grammar.proofs.Takes.{Bounded, IsAttribute, Inner, gather_any, path_type}
 
@@ -258,7 +258,7 @@ named_again set whole p ts rest h ends =
     let b = path_begins p.ids ts rest h.0 ends in
     as_path set whole ts b.0 (and_not (sees_word (codes "Set") ts) (sees sign.Less (drop 1 ts)) b.1) ∙ bind_on (path ts) (λ p. pure (named p)) p rest (path_again p ts rest h ends.0)
 
-set_begins : (ts a b : List Token) → word (codes "Set") ts a → mark sign.Less a b → (sees sign.OpenBrace ts ≡ false) × (begins_set ts ≡ true) × (drop 2 ts ≡ b)
+pub set_begins : (ts a b : List Token) → word (codes "Set") ts a → mark sign.Less a b → (sees sign.OpenBrace ts ≡ false) × (begins_set ts ≡ true) × (drop 2 ts ≡ b)
 set_begins ts a b w l =
     let o = opens sign.Less a b l in
     (ap (sees sign.OpenBrace) w.1, ap begins_set w.1 ∙ o.0, ap (drop 2) w.1 ∙ o.1)

@@ -1,21 +1,21 @@
 -- What is in the grammar of declarations is read, where its types are at most at the limit.
-use Rattle.std.proofs.Common.{◌≡◌, ℕ, zero, suc, ◌+◌, ◌-◌, ◌<◌, ◌≤◌, max, Bool, true, false, not, List, [], ◌∷◌, ◌++◌, length, drop, Option, Some, None, Ok, ◌⊎◌, inl, inr, refl, sym, ap, ap₂, ◌∙◌, subst, arith, append_assoc, append-nil}
+use Rattle.std.proofs.Common.{◌≡◌, ℕ, zero, suc, ◌-◌, ◌<◌, ◌≤◌, Bool, true, false, not, List, [], ◌∷◌, ◌++◌, length, drop, Option, Some, None, Ok, ◌⊎◌, inl, inr, refl, sym, ap, ap₂, ◌∙◌, subst, arith, append_assoc, append-nil}
 use Rattle.std.specs.Prelude.{codes, if◌then◌else◌}
 use Rattle.cedar_ast.specs.declared.loc.Loc.{Loc}
 use Rattle.cedar_schema_tokens.specs.Token.{Lexeme, ident, text, symbol, Token}
 use Rattle.cedar_schema_tokens.specs.declared.token.Symbol.{Symbol}
 use Rattle.cedar_schema_tokens.specs.declared.token.Symbol.TheVariants as sign
 use Rattle.cedar_schema_grammar.specs.Tree.{Name, Path, Ty, named, set_of, record_of, Parent, Says, principals, resources, context, Part, Applies, Body, choices, standard, Item, entity, action, common, Declaration, Member, namespace, alone, level, highest, level_if, level_of_part, level_of_applies, level_of_body, level_of_item, level_of_declaration, level_of_member}
-use Rattle.cedar_schema_grammar.specs.Grammar.{Form, ◌then◌, ◌or◌, nothing, optional, token_at, mark, word, separated as separated_form, some, any, many, only, IsId, IsText, IsName, IsPath, AreAnnotations, IsType, IsRecord, IsContext, ArePaths, IsBelow, IsShape, AreTags, IsBody, IsReference, IsParent, AreParents, IsPart, IsIn, IsApplies, no_values as values_form, IsExternal, IsItem, IsDeclaration, IsMember, first_loc, span, between}
+use Rattle.cedar_schema_grammar.specs.Grammar.{Form, ◌then◌, ◌or◌, mark, word, separated as separated_form, some, any, many, only, IsId, IsText, IsName, IsPath, IsType, IsRecord, IsContext, ArePaths, IsBelow, IsShape, AreTags, IsBody, IsReference, IsParent, AreParents, IsPart, IsIn, IsApplies, no_values as values_form, IsExternal, IsItem, IsDeclaration, IsMember, first_loc, span, between}
 use Rattle.cedar_schema_grammar.specs.Reading as spec
 use Rattle.cedar_schema_grammar.specs.Reading.{Reader, and_then, pure, first_is, is_symbol, is_word, is_text, same_symbol, sees, sees_word, sees_text, after, expect, expect_word, id, name, quoted, path, annotations, type_at, record_type, context_type, one_or_listed, until, some_until, separated, while, qualifier_from, plain_parent, before_close, is_more}
 use Rattle.cedar_schema_grammar.proofs.Turns.{given, bind_on, either, is_more_some}
-use Rattle.cedar_schema_grammar.proofs.Steps.{Opens, goes, stays, opens, opens_word, other, expect_on, id_on, name_on, quoted_on}
+use Rattle.cedar_schema_grammar.proofs.Steps.{goes, stays, opens, opens_word, expect_on, id_on, name_on, quoted_on}
 use Rattle.cedar_schema_grammar.proofs.Lists.{one_less, Less, Most, separated_less, some_less, any_most, many_most, separated_again, until_again, some_again, while_again}
 use Rattle.cedar_schema_grammar.proofs.Places as places
 use Rattle.cedar_schema_grammar.proofs.Takes.{Bounded}
 use Rattle.cedar_schema_grammar.proofs.TakesDeclarations.{Qualifies, qualifies_on, qualified_place, path_no}
-use Rattle.cedar_schema_grammar.proofs.Again.{Again, picks, leaves, id_less, text_less, name_less, word_less, path_less, annotations_most, optional_most, type_less, Not, mark_not, word_not, name_not, annotations_not, Ends, ends_at, EndsPath, Anywhere, NoValue, path_again, annotations_again, type_again}
+use Rattle.cedar_schema_grammar.proofs.Again.{Again, picks, leaves, id_less, text_less, name_less, word_less, path_less, annotations_most, optional_most, type_less, Not, mark_not, word_not, name_not, annotations_not, Ends, ends_at, EndsPath, Anywhere, path_again, annotations_again, type_again}
 
 -- ---- levels of lists
 

@@ -1,12 +1,12 @@
 -- Lists: what is read of them is written so, and what is written so is read.
-use Rattle.std.proofs.Common.{◌≡◌, ℕ, zero, suc, ◌+◌, ◌<◌, ◌≤◌, Bool, true, false, List, [], ◌∷◌, ◌++◌, length, drop, Ok, Err, ◌⊎◌, inl, inr, refl, sym, ap, ◌∙◌, subst, arith, append_assoc, append-nil}
+use Rattle.std.proofs.Common.{◌≡◌, ℕ, zero, suc, ◌+◌, ◌<◌, ◌≤◌, Bool, true, false, List, [], ◌∷◌, ◌++◌, length, drop, Ok, ◌⊎◌, inl, inr, refl, sym, ap, ◌∙◌, subst, arith, append_assoc, append-nil}
 use Rattle.std.specs.Prelude.{if◌then◌else◌}
 use Rattle.cedar_schema_tokens.specs.Token.{Token}
 use Rattle.cedar_schema_tokens.specs.declared.token.Symbol.{Symbol}
 use Rattle.cedar_schema_tokens.specs.declared.token.Symbol.TheVariants as sign
-use Rattle.cedar_schema_grammar.specs.Grammar.{Form, ◌then◌, nothing, optional, mark, separated as separated_form, some, any, many}
-use Rattle.cedar_schema_grammar.specs.Reading.{Reader, and_then, pure, sees, after, expect, same_symbol, unexpected, separated_from, separated, until_from, until, some_until, while_from, while}
-use Rattle.cedar_schema_grammar.proofs.Turns.{given, bind_on, either, while_goes, while_ends}
+use Rattle.cedar_schema_grammar.specs.Grammar.{Form, ◌then◌, mark, separated as separated_form, some, any, many}
+use Rattle.cedar_schema_grammar.specs.Reading.{Reader, sees, expect, same_symbol, unexpected, separated_from, separated, until_from, until, some_until, while_from, while}
+use Rattle.cedar_schema_grammar.proofs.Turns.{given, bind_on, while_goes, while_ends}
 use Rattle.cedar_schema_grammar.proofs.Steps.{bind_ok, chosen, same_pair, carry, eaten, goes, stays, opens, sees_is, expect_ok, expect_on, other}
 
 pub one_less : (m : Symbol) (ts rest : List Token) → mark m ts rest → length ts ≡ length rest + 1

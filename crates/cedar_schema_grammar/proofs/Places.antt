@@ -1,10 +1,10 @@
 -- Places of single tokens and of paths before a text.
-use Rattle.std.proofs.Common.{◌≡◌, ℕ, zero, suc, ◌+◌, ◌-◌, true, false, List, [], ◌∷◌, ◌++◌, length, drop, refl, sym, ap, ap₂, ◌∙◌, subst, arith, append_assoc, length-append}
+use Rattle.std.proofs.Common.{◌≡◌, ℕ, ◌-◌, List, [], ◌∷◌, ◌++◌, length, drop, refl, sym, ap, ap₂, ◌∙◌, arith, length-append}
 use Rattle.cedar_ast.specs.declared.loc.Loc.{Loc}
-use Rattle.cedar_schema_tokens.specs.Token.{Lexeme, ident, symbol, Token}
+use Rattle.cedar_schema_tokens.specs.Token.{ident, symbol, Token}
 use Rattle.cedar_schema_tokens.specs.declared.token.Symbol.TheVariants as sign
 use Rattle.cedar_schema_grammar.specs.Tree.{Path}
-use Rattle.cedar_schema_grammar.specs.Grammar.{separated, mark, word, IsPath, first_loc, span, between}
+use Rattle.cedar_schema_grammar.specs.Grammar.{separated, word, IsPath, first_loc, span, between}
 
 -- the last token before the rest
 abbrev pub last_loc : List Token → List Token → Loc

@@ -1,5 +1,5 @@
 -- What single steps of reading take, and that they take what is written.
-use Rattle.std.proofs.Common.{◌≡◌, ℕ, Bool, true, false, ◌&&◌, List, [], ◌∷◌, drop, bytes_eq, Ok, Err, Option, Some, None, ◌⊎◌, inl, inr, refl, sym, ap, ◌∙◌, subst, rules}
+use Rattle.std.proofs.Common.{◌≡◌, ℕ, Bool, true, false, ◌&&◌, List, [], ◌∷◌, drop, bytes_eq, Ok, Err, Option, Some, None, ◌⊎◌, inl, inr, refl, ap, ◌∙◌, subst, rules}
 use Rattle.std.specs.Prelude.{codes, if◌then◌else◌}
 use Rattle.std.proofs.lemmas.Slice.Eq.{bytes_eq-Decides}
 use denote.Enum.Bare.{same_true, true_same}
@@ -9,9 +9,9 @@ use Rattle.cedar_schema_tokens.specs.contracts.token.Symbol.{the_type}
 use Rattle.cedar_schema_tokens.specs.declared.token.Symbol.{Symbol}
 use Rattle.cedar_schema_tokens.specs.declared.token.Symbol.TheVariants as sign
 use Rattle.cedar_schema_grammar.specs.Tree.{Name}
-use Rattle.cedar_schema_grammar.specs.Grammar.{Form, token_at, mark, word, IsId, IsText, IsName}
+use Rattle.cedar_schema_grammar.specs.Grammar.{Form, mark, word, IsId, IsText, IsName}
 use Rattle.cedar_schema_grammar.specs.Reading.{Outcome, Reader, and_then, unexpected, same_symbol, is_symbol, is_word, id_of, text_of, name_of, sees, sees_word, after, expect_if, expect, expect_word, taken, id, id_text, quoted, name, begins_set}
-use Rattle.cedar_schema_grammar.proofs.Turns.{given, bind_on}
+use Rattle.cedar_schema_grammar.proofs.Turns.{given}
 
 -- ---- one step after another
 

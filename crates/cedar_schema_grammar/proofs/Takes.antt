@@ -1,14 +1,13 @@
 -- What is read is in the grammar, with types that are at most at the limit.
-use Rattle.std.proofs.Common.{◌≡◌, ℕ, zero, suc, ◌≤◌, max, Bool, true, false, not, List, [], ◌∷◌, ◌++◌, length, drop, Option, Some, None, Ok, ◌⊎◌, inl, inr, refl, sym, ap, ◌∙◌, subst, arith}
-use Rattle.std.specs.Prelude.{codes, if◌then◌else◌}
-use Rattle.cedar_ast.specs.declared.loc.Loc.{Loc}
+use Rattle.std.proofs.Common.{◌≡◌, ℕ, zero, suc, ◌≤◌, Bool, true, false, not, List, [], ◌∷◌, drop, Ok, ◌⊎◌, inl, inr, refl, arith}
+use Rattle.std.specs.Prelude.{if◌then◌else◌}
 use Rattle.cedar_schema_tokens.specs.Token.{Token}
 use Rattle.cedar_schema_tokens.specs.declared.token.Symbol.TheVariants as sign
-use Rattle.cedar_schema_grammar.specs.Tree.{Name, Path, Ty, named, set_of, record_of, Attributes, no_attributes, attribute, Attribute, attributes_from, level, level_of_all, highest, level_if}
-use Rattle.cedar_schema_grammar.specs.Grammar.{Form, ◌then◌, nothing, optional, mark, word, separated as separated_form, any, many, IsName, IsPath, any_text, IsAnnotation, AreAnnotations, IsPresence, IsType, AreAttributes, AreMore, IsRecord, IsContext, between}
-use Rattle.cedar_schema_grammar.specs.Reading.{Outcome, Reader, and_then, pure, sees, after, eat, expect, id, id_text, name, quoted, path, annotation, annotations, begins_set, attribute_with, set_with, record_with, type_by, too_deep, type_at, record_type, context_type, separated, until, while}
+use Rattle.cedar_schema_grammar.specs.Tree.{Ty, named, set_of, record_of, Attribute, attributes_from, level, level_of_all}
+use Rattle.cedar_schema_grammar.specs.Grammar.{Form, ◌then◌, optional, mark, word, separated as separated_form, any, IsName, IsPath, IsAnnotation, AreAnnotations, IsPresence, IsType, AreAttributes, AreMore, between}
+use Rattle.cedar_schema_grammar.specs.Reading.{Outcome, Reader, and_then, pure, sees, after, expect, id, id_text, name, quoted, path, annotation, annotations, begins_set, attribute_with, set_with, record_with, type_by, too_deep, type_at, separated, until}
 use Rattle.cedar_schema_grammar.proofs.Turns.{given}
-use Rattle.cedar_schema_grammar.proofs.Steps.{bind_ok, chosen, same_pair, finish, carry, eaten, sees_is, expect_ok, id_ok, id_text_ok, name_ok, quoted_ok, set_is}
+use Rattle.cedar_schema_grammar.proofs.Steps.{bind_ok, chosen, finish, eaten, sees_is, expect_ok, id_ok, id_text_ok, name_ok, quoted_ok, set_is}
 use Rattle.cedar_schema_grammar.proofs.Lists.{separated_takes, until_takes, while_takes}
 
 -- what is read is of the form

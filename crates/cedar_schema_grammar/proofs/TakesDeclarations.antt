@@ -1,19 +1,19 @@
 -- What is read of declarations is in the grammar, with types that are at most at the limit.
-use Rattle.std.proofs.Common.{◌≡◌, ℕ, zero, suc, ◌≤◌, max, Bool, true, false, List, [], ◌∷◌, ◌++◌, length, drop, Option, Some, None, Ok, ◌⊎◌, inl, inr, refl, sym, ap, ◌∙◌, subst, arith, append_assoc}
+use Rattle.std.proofs.Common.{◌≡◌, ℕ, zero, suc, Bool, true, false, List, [], ◌∷◌, ◌++◌, length, drop, Some, None, Ok, inl, inr, refl, sym, ap, ◌∙◌, subst, arith, append_assoc}
 use Rattle.std.specs.Prelude.{codes, if◌then◌else◌}
 use Rattle.cedar_ast.specs.declared.loc.Loc.{Loc}
-use Rattle.cedar_schema_tokens.specs.Token.{Lexeme, ident, text, symbol, Token}
+use Rattle.cedar_schema_tokens.specs.Token.{ident, text, symbol, Token}
 use Rattle.cedar_schema_tokens.specs.declared.token.Symbol.{Symbol}
 use Rattle.cedar_schema_tokens.specs.declared.token.Symbol.TheVariants as sign
-use Rattle.cedar_schema_grammar.specs.Tree.{Name, Path, Ty, named, set_of, record_of, Parent, Says, principals, resources, context, Part, Applies, Body, choices, standard, Item, entity, action, common, Declaration, Member, namespace, alone, level, highest, level_if, level_of_part, level_of_applies, level_of_body, level_of_item, level_of_declaration, level_of_member}
-use Rattle.cedar_schema_grammar.specs.Grammar.{Form, ◌then◌, ◌or◌, nothing, optional, token_at, mark, word, separated as separated_form, some, any, many, only, IsId, IsText, IsName, IsPath, AreAnnotations, IsType, IsRecord, IsContext, ArePaths, IsBelow, IsShape, AreTags, IsBody, IsReference, IsParent, AreParents, IsPart, IsIn, IsApplies, no_values as values_form, IsExternal, IsItem, IsDeclaration, IsMember, IsSchema, first_loc, span, between}
+use Rattle.cedar_schema_grammar.specs.Tree.{Name, Path, Ty, named, set_of, record_of, Parent, principals, resources, context, choices, standard, Item, entity, action, common, Declaration, Member, namespace, alone, level, highest, level_if, level_of_part, level_of_applies, level_of_body, level_of_item, level_of_declaration, level_of_member}
+use Rattle.cedar_schema_grammar.specs.Grammar.{Form, ◌then◌, ◌or◌, optional, token_at, mark, word, separated as separated_form, some, any, many, only, IsId, IsText, IsName, IsPath, AreAnnotations, IsType, IsRecord, IsContext, ArePaths, IsBelow, IsShape, AreTags, IsBody, IsParent, AreParents, IsPart, IsIn, IsApplies, no_values as values_form, IsExternal, IsItem, IsDeclaration, IsMember, first_loc, span, between}
 use Rattle.cedar_schema_grammar.specs.Reading as spec
 use Rattle.cedar_schema_grammar.specs.Reading.{Reader, and_then, pure, sees, sees_word, sees_text, after, expect, expect_word, id, name, quoted, path, annotations, type_at, record_type, context_type, one_or_listed, until, some_until, separated, while, qualifier_from, plain_parent, before_close, is_more}
 use Rattle.cedar_schema_grammar.proofs.Turns.{given}
-use Rattle.cedar_schema_grammar.proofs.Steps.{bind_ok, chosen, chosen_at, same_pair, finish, carry, eaten, sees_is, word_at, expect_ok, expect_word_ok, id_ok, name_ok, quoted_ok}
+use Rattle.cedar_schema_grammar.proofs.Steps.{bind_ok, chosen, chosen_at, same_pair, finish, eaten, sees_is, word_at, expect_ok, expect_word_ok, id_ok, name_ok, quoted_ok}
 use Rattle.cedar_schema_grammar.proofs.Lists.{separated_takes, until_takes, some_takes, while_takes}
 use Rattle.cedar_schema_grammar.proofs.Places as places
-use Rattle.cedar_schema_grammar.proofs.Takes.{Takes, Bounded, path_takes, annotations_take, path_type, type_takes}
+use Rattle.cedar_schema_grammar.proofs.Takes.{Takes, Bounded, path_takes, annotations_take, type_takes}
 
 -- ---- levels of lists
 

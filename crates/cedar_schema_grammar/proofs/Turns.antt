@@ -1,5 +1,5 @@
 -- Loops of the code and of reading, a turn at a time.
-use Rattle.std.proofs.Common.{◌≡◌, ℕ, zero, suc, ◌+◌, ◌-◌, ◌<◌, ◌≤◌, Bool, true, false, List, [], ◌∷◌, ◌++◌, length, map, drop, Ok, Err, refl, sym, ap, ◌∙◌, arith, rules, Vec, Global}
+use Rattle.std.proofs.Common.{◌≡◌, ℕ, suc, ◌+◌, ◌-◌, ◌<◌, ◌≤◌, Bool, true, false, List, [], ◌∷◌, ◌++◌, length, map, Ok, Err, refl, sym, ap, ◌∙◌, arith, rules, Vec, Global}
 use Rattle.std.specs.Prelude.{if◌then◌else◌}
 use Rattle.std.proofs.lemmas.List.{map-append}
 use Rattle.cedar_ast.specs.declared.loc.Loc.{Loc}
@@ -13,7 +13,7 @@ use Rattle.cedar_schema_grammar.specs.declared.tree.Type.{the_lemmas}
 use Rattle.cedar_schema_grammar.specs.declared.tree.Type.TheVariants.{Record}
 use Rattle.cedar_schema_grammar.specs.Tree.{Ty, record_of, attributes_from}
 use Rattle.cedar_schema_grammar.specs.Reading.{Outcome, Reader, and_then, pure, sees, after, eat, expect, is_more, separated_from, until_from, while_from, unexpected}
-use Rattle.cedar_schema_grammar.specs.Plain.{name_of, type_of, attribute_of, attribute_step}
+use Rattle.cedar_schema_grammar.specs.Plain.{type_of, attribute_of, attribute_step}
 
 pub one_more : {X : Type 0} {x : X} (f : ℕ → X) (n at : ℕ) → at < n → x ≡ f (n - at) → x ≡ f (suc (n - (at + 1)))
 one_more f n at below e = let turn : n - at ≡ suc (n - (at + 1)) = omega arith in e ∙ ap f turn

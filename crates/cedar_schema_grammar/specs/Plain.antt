@@ -1,8 +1,6 @@
 -- The plain data that a value of the code stands for.
-use Rattle.std.specs.Prelude.{ℕ, List, map, string_bytes, Option, None, Some}
+use Rattle.std.specs.Prelude.{map, string_bytes}
 use Rattle.std.specs.Option.{option_map}
-use Rattle.std.specs.declared.alloc.Global.{Global}
-use Rattle.std.specs.declared.string.String.{String}
 use Rattle.cedar_schema_grammar.specs.declared.tree.Name as code_name
 use Rattle.cedar_schema_grammar.specs.declared.tree.Path as code_path
 use Rattle.cedar_schema_grammar.specs.declared.tree.Attribute as code_attribute

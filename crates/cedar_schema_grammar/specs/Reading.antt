@@ -1,5 +1,5 @@
 -- Reading, a token at a time, as a function.
-use Rattle.std.specs.Prelude.{ℕ, zero, suc, ◌+◌, ◌-◌, Bool, true, false, not, ◌&&◌, ◌||◌, if◌then◌else◌, List, [], ◌∷◌, ◌++◌, length, drop, Result, Ok, Err, codes, bytes_eq, Option, Some, None}
+use Rattle.std.specs.Prelude.{ℕ, zero, suc, Bool, true, false, not, ◌&&◌, if◌then◌else◌, List, [], ◌∷◌, ◌++◌, length, drop, Result, Ok, Err, codes, bytes_eq, Option, Some, None}
 use denote.Enum.Bare.{sameb}
 use Rattle.cedar_ast.specs.declared.loc.Loc.{Loc}
 use Rattle.cedar_schema_tokens.specs.contracts.token.Symbol.{the_type}

@@ -229,7 +229,9 @@ fn located(stop: Stop, tokens: &[Token<'_>], end: Loc) -> GrammarFault
 /// The schema that the tokens are, all of them, with types that are at most at a level.
 ///
 /// Where a token is refused as unexpected, no schema's tokens begin with those up to it, levels
-/// aside. The place behind the last token, where the text ends too early, is `end`.
+/// aside. Types are too deep where a set or a record begins beyond the level: each schema that
+/// begins with the tokens up to it has such types. The place behind the last token, where the text
+/// ends too early, is `end`.
 ///
 /// Source: Cedar reference, "Schema format".
 pub fn read(

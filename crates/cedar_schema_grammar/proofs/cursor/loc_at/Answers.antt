@@ -1,6 +1,5 @@
-use Rattle.std.proofs.Common.{map, length, drop, rules}
+use Rattle.std.proofs.Common.{rules}
 use Rattle.std.proofs.lemmas.List.{drop-map, length-map}
-use Rattle.cedar_schema_tokens.specs.Token.{token_of}
 use Rattle.cedar_schema_grammar.proofs.cursor.loc_at.Goals as goal
 
 pub returns : goal.returns

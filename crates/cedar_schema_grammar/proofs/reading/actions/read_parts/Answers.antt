@@ -1,4 +1,4 @@
-use Rattle.std.proofs.Common.{◌≡◌, true, false, map, sym, ap, ap₂, ◌∙◌, rules, arith, ◌+◌, ◌-◌}
+use Rattle.std.proofs.Common.{◌≡◌, true, false, map, sym, ap₂, ◌∙◌, rules, arith, ◌+◌, ◌-◌}
 use Rattle.std.proofs.lemmas.Grind.{common_steps}
 use Rattle.cedar_schema_tokens.specs.declared.token.Symbol.TheVariants as sign
 use Rattle.cedar_schema_grammar.specs.Reading.{until_from, part, sees}

@@ -1,4 +1,4 @@
-use Rattle.std.proofs.Common.{◌≡◌, map, string_bytes, rules, arith, ◌∙◌}
+use Rattle.std.proofs.Common.{map, string_bytes, rules, arith}
 use Rattle.std.proofs.lemmas.Grind.{common_steps}
 use Rattle.cedar_schema_grammar.specs.Reading.{qualifier_from}
 use Rattle.cedar_schema_grammar.proofs.Turns.{one_more, pushed}

@@ -1,9 +1,9 @@
-use Rattle.std.proofs.Common.{◌≡◌, true, false, map, sym, ap, ap₂, ◌∙◌, rules, arith, ◌+◌, ◌-◌}
+use Rattle.std.proofs.Common.{◌≡◌, true, map, sym, ap, ◌∙◌, rules, arith, ◌+◌, ◌-◌}
 use Rattle.std.proofs.lemmas.Grind.{common_steps}
 use Rattle.cedar_schema_tokens.specs.declared.token.Symbol.TheVariants as sign
 use Rattle.cedar_schema_grammar.specs.Reading.{while_from, annotation, sees}
 use Rattle.cedar_schema_grammar.specs.Plain.{name_of}
-use Rattle.cedar_schema_grammar.proofs.Turns.{one_more, pushed, while_goes, while_stops}
+use Rattle.cedar_schema_grammar.proofs.Turns.{one_more, pushed, while_goes}
 use Rattle.cedar_schema_grammar.proofs.reading.names.read_annotations.Goals as goal
 
 pub returns-in_err-read_annotation : goal.returns-in_err-read_annotation

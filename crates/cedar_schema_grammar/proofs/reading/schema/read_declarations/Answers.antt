@@ -1,8 +1,8 @@
-use Rattle.std.proofs.Common.{◌≡◌, true, false, map, sym, ap, ap₂, ◌∙◌, rules, arith, ◌+◌, ◌-◌}
+use Rattle.std.proofs.Common.{◌≡◌, true, map, sym, ap, ◌∙◌, rules, arith, ◌+◌, ◌-◌}
 use Rattle.std.proofs.lemmas.Grind.{common_steps}
 use Rattle.cedar_schema_grammar.specs.Reading.{while_from, declaration, before_close}
 use Rattle.cedar_schema_grammar.specs.Plain.{declaration_of}
-use Rattle.cedar_schema_grammar.proofs.Turns.{one_more, pushed, while_goes, while_stops}
+use Rattle.cedar_schema_grammar.proofs.Turns.{one_more, pushed, while_goes}
 use Rattle.cedar_schema_grammar.proofs.reading.schema.read_declarations.Goals as goal
 
 pub returns-in_err-read_declaration : goal.returns-in_err-read_declaration

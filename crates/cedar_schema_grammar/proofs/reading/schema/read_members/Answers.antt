@@ -1,8 +1,8 @@
-use Rattle.std.proofs.Common.{◌≡◌, true, false, map, sym, ap, ap₂, ◌∙◌, rules, arith, ◌+◌, ◌-◌}
+use Rattle.std.proofs.Common.{◌≡◌, true, map, sym, ap, ◌∙◌, rules, arith, ◌+◌, ◌-◌}
 use Rattle.std.proofs.lemmas.Grind.{common_steps}
 use Rattle.cedar_schema_grammar.specs.Reading.{while_from, member, is_more}
 use Rattle.cedar_schema_grammar.specs.Plain.{member_of}
-use Rattle.cedar_schema_grammar.proofs.Turns.{one_more, pushed, while_goes, while_stops, is_more_some}
+use Rattle.cedar_schema_grammar.proofs.Turns.{one_more, pushed, while_goes, is_more_some}
 use Rattle.cedar_schema_grammar.proofs.reading.schema.read_members.Goals as goal
 
 pub returns-in_err-read_member : goal.returns-in_err-read_member

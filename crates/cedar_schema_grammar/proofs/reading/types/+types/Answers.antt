@@ -1,10 +1,10 @@
-use Rattle.std.proofs.Common.{◌≡◌, true, false, map, rules, arith, sym, ap, ap₂, ◌∙◌, ◌+◌, ◌-◌}
+use Rattle.std.proofs.Common.{map, rules, arith}
 use Rattle.std.proofs.lemmas.Grind.{common_steps}
 use Rattle.std.proofs.lemmas.Result.{err_from_is_err_and}
 use Rattle.cedar_schema_tokens.specs.declared.token.Symbol.TheVariants as sign
-use Rattle.cedar_schema_grammar.specs.Reading.{type_at, attribute_with, until_from, set_with, record_with, sees}
+use Rattle.cedar_schema_grammar.specs.Reading.{type_at, attribute_with, until_from, set_with, record_with}
 use Rattle.cedar_schema_grammar.specs.Plain.{attribute_of}
-use Rattle.cedar_schema_grammar.proofs.Turns.{one_more, pushed, deeper, view-Record, until_ends, until_goes}
+use Rattle.cedar_schema_grammar.proofs.Turns.{one_more, pushed, deeper, view-Record}
 use Rattle.cedar_schema_grammar.proofs.reading.types.+types.Goals as goal
 
 pub read_attributes-returns-in_err-read_attribute :
