@@ -1,7 +1,8 @@
 //! The table of places that stands beside a fragment, and the places that are shown.
 
 use cedar_ast::Loc;
-use cedar_json::{Places, Written, WrittenAt, fragment_from_json, place_of, second_place_of};
+use cedar_json::fragment_from_json;
+use cedar_places::{Places, Written, WrittenAt, place_of, second_place_of};
 use cedar_schema_semantics::{SchemaError, UnsupportedFeature};
 use shorthand::checked::{holds, same};
 use shorthand::names::{entity_type, internal_name, name, uid};
