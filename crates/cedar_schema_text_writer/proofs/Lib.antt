@@ -1,0 +1,7 @@
+pub mod Checked
+pub mod Held
+pub mod Lines
+pub mod NamesGiven
+pub mod Reserved
+pub mod Spelled
+pub mod Written
