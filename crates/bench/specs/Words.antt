@@ -18,7 +18,8 @@ piece_names =
     ∷ codes "environments" ∷ codes "known-attributes" ∷ codes "validate" ∷ codes "write-back"
     ∷ codes "build-environments" ∷ codes "build-flood" ∷ codes "build-table-flood"
     ∷ codes "build-apart" ∷ codes "copy-schema" ∷ codes "compare-same" ∷ codes "compare-changed"
-    ∷ codes "scale" ∷ codes "parse-json" ∷ codes "read-json" ∷ codes "write-json" ∷ []
+    ∷ codes "scale" ∷ codes "parse-json" ∷ codes "read-json" ∷ codes "read-text"
+    ∷ codes "write-json" ∷ []
 
 -- the name of a row of the table of pieces
 abbrev pub piece_name : Bor (List ℕ) × Piece × Bor (List (ℕ × ℕ)) → Text

@@ -44,13 +44,15 @@ pub(crate) enum OfSchema {
     Copy,
 }
 
-/// What is asked of a text that is JSON.
+/// What is asked of a text.
 #[derive(Clone, Copy)]
 pub(crate) enum OfText {
     /// Its value.
     Parse,
-    /// The fragment that it describes.
+    /// The fragment that it describes as JSON.
     Read,
+    /// The fragment that it is in Cedar's syntax.
+    ReadSyntax,
 }
 
 /// A piece of work.
@@ -98,7 +100,7 @@ pub(crate) enum Piece {
     Schema(OfSchema),
     /// A schema of as many entity types and actions, compared with another version.
     Compare(Declared),
-    /// What is asked of a fragment of as many entity types and actions as JSON.
+    /// What is asked of the text of a fragment of as many entity types and actions.
     Text(OfText),
     /// The same, written from the fragment.
     WriteJson,
@@ -273,6 +275,7 @@ const ROWS: &[Row] = &[
     ),
     ("parse-json", Piece::Text(OfText::Parse), JSON),
     ("read-json", Piece::Text(OfText::Read), JSON),
+    ("read-text", Piece::Text(OfText::ReadSyntax), JSON),
     ("write-json", Piece::WriteJson, JSON),
 ];
 

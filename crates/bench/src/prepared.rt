@@ -17,6 +17,7 @@ use cedar_schema::json_schema::{Fragment, RawName};
 use cedar_schema::{
     Attributes, OpenTag, Type, ValidatorActionId, ValidatorEntityType, ValidatorSchema,
 };
+use cedar_schema_text_writer::fragment_to_text;
 use std::alloc::Global;
 use std::collections::{BTreeMap, HashMap};
 
@@ -43,7 +44,7 @@ pub(crate) enum Borrowed {
     Hashed(HashMap<EntityType, usize>, HashMap<EntityUID, usize>, EntityType, EntityUID),
     /// A schema, and a type of which it may know attributes.
     KnownAttributes(ValidatorSchema, Type),
-    /// A text that is JSON, of which something is asked.
+    /// A text of which something is asked.
     Text(OfText, String),
     /// A fragment that is written as JSON.
     Fragment(Fragment<RawName>),
@@ -239,9 +240,13 @@ fn written(alloc: Global, count: usize) -> Result<Prepared, Stop> {
     on_borrowed(Borrowed::Fragment(whole_fragment(alloc, count)?))
 }
 
-/// A fragment of as many entity types and actions as JSON, of which something is asked.
+/// A fragment of as many entity types and actions in a format of which something is asked.
 fn text(alloc: Global, question: OfText, count: usize) -> Result<Prepared, Stop> {
-    let text = fragment_to_json(alloc, &whole_fragment(alloc, count)?)?;
+    let fragment = whole_fragment(alloc, count)?;
+    let text = match question {
+        OfText::Parse | OfText::Read => fragment_to_json(alloc, &fragment)?,
+        OfText::ReadSyntax => fragment_to_text(alloc, &fragment, &[])?,
+    };
     on_borrowed(Borrowed::Text(question, text))
 }
 

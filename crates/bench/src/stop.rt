@@ -5,6 +5,8 @@ use cedar_json::JsonSchemaFault;
 use cedar_json_writer::WriteFault;
 use cedar_schema::below::{EntityType, Memory, NameFault};
 use cedar_schema::{JoinError, SchemaError, TcError, WriteBackFault};
+use cedar_schema_text::TextFault;
+use cedar_schema_text_writer::TextWriteFault;
 use std::alloc::{AllocError, AllocFailed};
 use std::io;
 
@@ -98,6 +100,24 @@ impl From<JsonSchemaFault> for Stop {
         match refused {
             JsonSchemaFault::Memory => Stop::Memory,
             _ => Stop::Refused,
+        }
+    }
+}
+
+impl From<TextFault> for Stop {
+    fn from(refused: TextFault) -> Self {
+        match refused {
+            TextFault::Memory => Stop::Memory,
+            _ => Stop::Refused,
+        }
+    }
+}
+
+impl From<TextWriteFault> for Stop {
+    fn from(refused: TextWriteFault) -> Self {
+        match refused {
+            TextWriteFault::Memory => Stop::Memory,
+            TextWriteFault::Unwritable { .. } => Stop::Refused,
         }
     }
 }

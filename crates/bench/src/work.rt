@@ -16,6 +16,7 @@ use cedar_schema::json_schema::{Fragment, RawName};
 use cedar_schema::lookup::SchemaLookup;
 use cedar_schema::member::separating_value;
 use cedar_schema::{EntityLUB, Type, ValidatorSchema, compute_tc_counted};
+use cedar_schema_text::fragment_from_text;
 use json::Scratch;
 use std::alloc::Global;
 
@@ -132,12 +133,13 @@ fn is_parsed(alloc: Global, text: &str) -> usize {
 }
 
 impl OfText {
-    /// 1 or 0 for whether the text is JSON, or how many declarations the fragment has.
+    /// 1 or 0 for whether the text is JSON, or how many declarations its fragment has.
     #[inline(never)]
     fn work(self, alloc: Global, text: &str) -> Result<usize, Stop> {
         match self {
             OfText::Parse => Ok(is_parsed(alloc, text)),
             OfText::Read => Ok(declarations(&fragment_from_json(alloc, text, 0)?)),
+            OfText::ReadSyntax => Ok(declarations(&fragment_from_text(alloc, text, 0)?)),
         }
     }
 }

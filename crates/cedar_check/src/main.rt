@@ -70,6 +70,13 @@ impl<R: Files + Input + AllocGlobal> FileAccess for SystemFiles<'_, R> {
         first == second || lead_to_one(self.rt, first, second).unwrap_or(false)
     }
 
+    fn is_there(&mut self, name: &str) -> bool {
+        match fs::symlink_metadata(self.rt, name) {
+            Ok(_) => true,
+            Err(error) => error.kind() != io::ErrorKind::NotFound,
+        }
+    }
+
     fn replace(&mut self, alloc: Global, name: &str, text: &str) -> Result<(), FileFault> {
         match replace(self.rt, name, text) {
             Ok(()) => Ok(()),

@@ -4,11 +4,12 @@ use crate::files::FileAccess;
 use crate::finding::{Finding, Source, file_of};
 use crate::limits::{Walk, beyond_limits};
 use crate::outcome::{Outcome, OutputFormat, refused};
-use crate::reading::{ReadFiles, source_number, well_formed};
+use crate::read_fault::fragment_of;
+use crate::reading::{ReadFiles, ReadOptions, well_formed};
 use crate::repeating::{Repeated, shortened};
 use crate::text::Text;
 use cedar_ast::{Loc, M, Memory};
-use cedar_json::{JsonSchemaFault, cedar_extensions, fragment_from_json};
+use cedar_json::cedar_extensions;
 use cedar_places::{Places, place_of, second_place_of};
 use cedar_schema::{SchemaError, ValidatorSchema};
 use cedar_schema_ast::json_schema::{Fragment, RawName};
@@ -43,9 +44,9 @@ fn places_of(alloc: Global, fragment: &Fragment<RawName>, error: &SchemaError) -
 
 /// The places of a refusal that a file has, of which the text is read once more.
 fn places_in(alloc: Global, file: usize, source: &Source, error: &SchemaError) -> M<TwoPlaces> {
-    match fragment_from_json(alloc, source.text.as_str(), source_number(file)) {
+    match fragment_of(alloc, file, source) {
         Ok(fragment) => places_of(alloc, &fragment, error),
-        Err(JsonSchemaFault::Memory) => Err(Memory),
+        Err(fault) if fault.is_memory() => Err(Memory),
         Err(_) => Ok(TwoPlaces {
             first: None,
             second: None,
@@ -224,10 +225,10 @@ pub(crate) fn built<F: FileAccess>(
     alloc: Global,
     files: &mut F,
     names: &[&str],
-    format: OutputFormat,
+    options: ReadOptions,
     walk: Walk,
 ) -> Result<BuiltFiles, M<Outcome>> {
-    let read = well_formed(alloc, files, names, format)?;
-    check_limits(alloc, format, &read, walk)?;
-    built_of(alloc, files, read, format)
+    let read = well_formed(alloc, files, names, options)?;
+    check_limits(alloc, options.report, &read, walk)?;
+    built_of(alloc, files, read, options.report)
 }

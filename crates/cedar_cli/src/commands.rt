@@ -9,17 +9,19 @@ use crate::answers::{
 use crate::attribute_types::{action_answer, entity_answer};
 use crate::building::{BuiltFiles, built};
 use crate::comparing::{ReportOptions, compare_files};
+use crate::file_format::FileFormat;
 use crate::files::FileAccess;
 use crate::finding::{Finding, Source};
 use crate::graph::graph;
 use crate::laying_out::format;
 use crate::limits::Walk;
-use crate::linking::{is_read, link};
+use crate::linking::{Target, is_read, link};
 use crate::outcome::{Outcome, OutputFormat, refused};
-use crate::reading::well_formed;
+use crate::reading::{ReadOptions, well_formed};
 use crate::repeating::Repeated;
 use crate::status::Status;
 use crate::text::Text;
+use crate::translating::translate;
 use crate::words::{Command, FilesCommand, Question};
 use cedar_ast::{EntityType, EntityUID, M, Memory};
 use cedar_schema::ValidatorSchema;
@@ -34,6 +36,15 @@ fn output_format(matches: &ArgMatches<'_>) -> OutputFormat {
         OutputFormat::Json
     } else {
         OutputFormat::Lines
+    }
+}
+
+/// How files are asked to be read.
+fn read_options(matches: &ArgMatches<'_>) -> ReadOptions {
+    let word = matches.get_str("format").unwrap_or("");
+    ReadOptions {
+        given: FileFormat::named(word),
+        report: output_format(matches),
     }
 }
 
@@ -52,9 +63,9 @@ fn check<F: FileAccess>(
     alloc: Global,
     files: &mut F,
     names: &[&str],
-    format: OutputFormat,
+    options: ReadOptions,
 ) -> M<Outcome> {
-    match well_formed(alloc, files, names, format) {
+    match well_formed(alloc, files, names, options) {
         Ok(read) => well_formed_lines(alloc, &read.sources),
         Err(report) => report,
     }
@@ -195,7 +206,7 @@ fn over_schema<F: FileAccess>(
         alloc,
         files,
         names,
-        output_format(matches),
+        read_options(matches),
         walk_of(question),
     ) {
         Ok(it) => over_built(alloc, question, matches, &it),
@@ -214,6 +225,19 @@ fn overwrites(alloc: Global, output: &str) -> M<Outcome>
     )
 }
 
+/// The name of the file that is to be written; None is standard output.
+fn output<'a>(matches: &ArgMatches<'a>) -> Option<&'a str> {
+    match matches.get_str("output") {
+        Some(name) if name != "-" => Some(name),
+        _ => None,
+    }
+}
+
+/// The format that is to be written, where it is given.
+fn format_to(matches: &ArgMatches<'_>) -> Option<FileFormat> {
+    FileFormat::named(matches.get_str("to").unwrap_or(""))
+}
+
 /// What the command that links gives.
 fn linked<F: FileAccess>(
     alloc: Global,
@@ -221,15 +245,40 @@ fn linked<F: FileAccess>(
     matches: &ArgMatches<'_>,
     names: &[&str],
 ) -> M<Outcome> {
-    let format = output_format(matches);
-    match matches.get_str("output") {
-        Some(output) if output != "-" => {
-            if is_read(files, output, names) {
-                return overwrites(alloc, output);
-            }
-            link(alloc, files, names, format, Some(output))
-        }
-        _ => link(alloc, files, names, format, None),
+    let target = Target {
+        format: format_to(matches).unwrap_or(FileFormat::Json),
+        output: output(matches),
+    };
+    match target.output {
+        Some(name) if is_read(files, name, names) => overwrites(alloc, name),
+        _ => link(alloc, files, names, read_options(matches), target),
+    }
+}
+
+/// What the command that translates gives.
+fn translated<F: FileAccess>(
+    alloc: Global,
+    files: &mut F,
+    matches: &ArgMatches<'_>,
+    names: &[&str],
+) -> M<Outcome> {
+    let output = output(matches);
+    if names.len() > 1 && (output.is_some() || input_count(names) > 0) {
+        return usage(
+            alloc,
+            "several files are written beside those read: give no `-o` and no `-`",
+        );
+    }
+    match output {
+        Some(name) if is_read(files, name, names) => overwrites(alloc, name),
+        _ => translate(
+            alloc,
+            files,
+            names,
+            read_options(matches),
+            format_to(matches),
+            output,
+        ),
     }
 }
 
@@ -259,7 +308,7 @@ fn compared<F: FileAccess>(alloc: Global, files: &mut F, matches: &ArgMatches<'_
         return reads_input_twice(alloc);
     }
     let options = ReportOptions {
-        format: output_format(matches),
+        read: read_options(matches),
         is_all: matches.get_flag("all"),
     };
     compare_files(alloc, files, old, new, options)
@@ -269,7 +318,7 @@ fn compared<F: FileAccess>(alloc: Global, files: &mut F, matches: &ArgMatches<'_
 fn laid_out<F: FileAccess>(alloc: Global, files: &mut F, matches: &ArgMatches<'_>) -> M<Outcome> {
     let name = matches.get_str("FILE").unwrap_or("-");
     let is_test = matches.get_flag("check");
-    format(alloc, files, name, output_format(matches), is_test)
+    format(alloc, files, name, read_options(matches), is_test)
 }
 
 /// What a command gives over files that are given together.
@@ -284,8 +333,9 @@ fn over_files<F: FileAccess>(
         return reads_input_twice(alloc);
     }
     match command {
-        FilesCommand::Check => check(alloc, files, names, output_format(matches)),
+        FilesCommand::Check => check(alloc, files, names, read_options(matches)),
         FilesCommand::Link => linked(alloc, files, matches, names),
+        FilesCommand::Translate => translated(alloc, files, matches, names),
         FilesCommand::Ask(question) => over_schema(alloc, files, question, matches, names),
     }
 }

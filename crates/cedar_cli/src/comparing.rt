@@ -12,6 +12,7 @@ use crate::files::FileAccess;
 use crate::finding::Finding;
 use crate::limits::Walk;
 use crate::outcome::{Outcome, OutputFormat, refused};
+use crate::reading::ReadOptions;
 use crate::sides::Sides;
 use crate::status::Status;
 use crate::text::Text;
@@ -71,8 +72,8 @@ fn samples(alloc: Global) -> M<Vec<Value>> {
 /// How the differences between two versions of a schema are reported.
 #[derive(Clone, Copy, Drop)]
 pub(crate) struct ReportOptions {
-    /// Whether as lines or as JSON.
-    pub(crate) format: OutputFormat,
+    /// How the files are read, and whether as lines or as JSON.
+    pub(crate) read: ReadOptions,
     /// Whether all requests of each action are shown.
     pub(crate) is_all: bool,
 }
@@ -80,7 +81,7 @@ pub(crate) struct ReportOptions {
 impl ReportOptions {
     /// Adds some differences.
     fn push(self, text: &mut Text, sides: &Sides<'_>, differences: &[Difference]) {
-        match self.format {
+        match self.read.report {
             OutputFormat::Lines => push_lines(text, sides, differences, self.is_all),
             OutputFormat::Json => push_objects(text, sides, differences),
         }
@@ -146,7 +147,7 @@ fn compare_with(
 {
     match compare(alloc, old, new, extensions, samples) {
         Ok(comparison) => compared(alloc, options, old, new, &comparison),
-        Err(fault) => not_compared(alloc, options.format, &fault),
+        Err(fault) => not_compared(alloc, options.read.report, &fault),
     }
 }
 
@@ -169,9 +170,9 @@ fn with_new_faults<F: FileAccess>(
     files: &mut F,
     report: Outcome,
     new: &[&str],
-    format: OutputFormat,
+    read: ReadOptions,
 ) -> M<Outcome> {
-    match built(alloc, files, new, format, Walk::WrittenOut) {
+    match built(alloc, files, new, read, Walk::WrittenOut) {
         Ok(_) => Ok(report),
         Err(Ok(other)) => report.with(&other),
         Err(Err(refused)) => Err(refused),
@@ -213,7 +214,7 @@ fn compare_with_new(
     old: &ValidatorSchema,
     new: &BuiltFiles,
 ) -> M<Outcome> {
-    match report_external(alloc, options.format, NEW_INCOMPLETE, new)? {
+    match report_external(alloc, options.read.report, NEW_INCOMPLETE, new)? {
         Some(report) => Ok(report),
         None => compare_schemas(alloc, options, old, &new.schema),
     }
@@ -226,8 +227,8 @@ fn compare_versions(
     old: &BuiltFiles,
     new: &BuiltFiles,
 ) -> M<Outcome> {
-    match report_external(alloc, options.format, OLD_INCOMPLETE, old)? {
-        Some(report) => with_new_external(alloc, options.format, report, new),
+    match report_external(alloc, options.read.report, OLD_INCOMPLETE, old)? {
+        Some(report) => with_new_external(alloc, options.read.report, report, new),
         None => compare_with_new(alloc, options, &old.schema, new),
     }
 }
@@ -240,7 +241,7 @@ fn compare_built<F: FileAccess>(
     new: &[&str],
     options: ReportOptions,
 ) -> M<Outcome> {
-    match built(alloc, files, new, options.format, Walk::WrittenOut) {
+    match built(alloc, files, new, options.read, Walk::WrittenOut) {
         Ok(new) => compare_versions(alloc, options, old, &new),
         Err(report) => report,
     }
@@ -255,9 +256,9 @@ pub(crate) fn compare_files<F: FileAccess>(
     new: &[&str],
     options: ReportOptions,
 ) -> M<Outcome> {
-    match built(alloc, files, old, options.format, Walk::WrittenOut) {
+    match built(alloc, files, old, options.read, Walk::WrittenOut) {
         Ok(old) => compare_built(alloc, files, &old, new, options),
-        Err(Ok(report)) => with_new_faults(alloc, files, report, new, options.format),
+        Err(Ok(report)) => with_new_faults(alloc, files, report, new, options.read),
         Err(Err(refused)) => Err(refused),
     }
 }

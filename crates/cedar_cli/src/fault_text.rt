@@ -101,8 +101,8 @@ fn push_no_json(words: &mut Text, text: &str, up_to: usize) {
     if text.starts_with('\u{feff}') {
         words.push_str("the file begins with a byte order mark, which JSON doesn't have");
     } else if is_cedar(text) {
-        words.push_str("this is no JSON but Cedar's schema syntax: ");
-        words.push_str("convert it by `cedar translate-schema --direction cedar-to-json`");
+        words.push_str("this is no JSON but Cedar's schema syntax: give it a name that ends in ");
+        words.push_str("`.cedarschema`, or say `--format text`");
     } else {
         push_slip(words, text, up_to);
     }

@@ -31,6 +31,9 @@ pub trait FileAccess {
     /// Whether two names lead to one file, as far as the system tells.
     fn is_same(&mut self, first: &str, second: &str) -> bool;
 
+    /// Whether a file of a name is there, as far as the system tells.
+    fn is_there(&mut self, name: &str) -> bool;
+
     /// Puts a text in the place of a file, whole or not at all.
     fn replace(&mut self, alloc: Global, name: &str, text: &str) -> Result<(), FileFault>;
 }

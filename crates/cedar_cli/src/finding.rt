@@ -1,5 +1,6 @@
 //! What is found to be at fault in files, and how it is reported.
 
+use crate::file_format::FileFormat;
 use crate::json_lines::Object;
 use crate::position::{Position, position_of, push_line_with_caret};
 use crate::repeating::Repeated;
@@ -13,6 +14,8 @@ pub(crate) struct Source {
     pub(crate) name: String,
     /// Its text, or what of it is text; nothing where it couldn't be read.
     pub(crate) text: String,
+    /// The format that it is read in.
+    pub(crate) format: FileFormat,
 }
 
 /// What is at fault.

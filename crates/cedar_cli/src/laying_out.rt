@@ -2,12 +2,13 @@
 
 ghost use Rattle.std.specs.Prelude.{◌≡◌, IfOk};
 
+use crate::file_format::FileFormat;
 use crate::files::FileAccess;
 use crate::finding::{Finding, Source};
 use crate::json_lines::shown_json;
 use crate::layout::laid_out;
 use crate::outcome::{Outcome, OutputFormat, refused};
-use crate::reading::well_formed;
+use crate::reading::{ReadOptions, well_formed};
 use crate::status::Status;
 use cedar_ast::{M, Memory};
 use std::alloc::Global;
@@ -17,6 +18,16 @@ fn differs(alloc: Global, format: OutputFormat, sources: &[Source]) -> M<Outcome
     ensures { IfOk result (λ outcome. outcome.status ≡ Status.Refused) }
 {
     let why = "the file isn't laid out as the format is; `cedar_check format` writes it so";
+    let message = String::from_str(alloc, why)?;
+    let finding = Finding::in_file(0, None, "Layout", message);
+    refused(alloc, format, sources, finding)
+}
+
+/// That a file in Cedar's own syntax has no layout here.
+fn not_json(alloc: Global, format: OutputFormat, sources: &[Source]) -> M<Outcome>
+    ensures { IfOk result (λ outcome. outcome.status ≡ Status.Refused) }
+{
+    let why = "only files in Cedar's JSON format are laid out";
     let message = String::from_str(alloc, why)?;
     let finding = Finding::in_file(0, None, "Layout", message);
     refused(alloc, format, sources, finding)
@@ -39,6 +50,9 @@ fn report_layout(
     source: &Source,
     is_test: bool,
 ) -> M<Outcome> {
+    if let FileFormat::Text = source.format {
+        return not_json(alloc, format, sources);
+    }
     match shown_layout(alloc, source.text.as_str()) {
         Ok(Some(text)) if !is_test => Ok(Outcome::done(alloc, text)),
         Ok(Some(text)) if text.as_str() == source.text.as_str() => {
@@ -67,11 +81,11 @@ pub(crate) fn format<F: FileAccess>(
     alloc: Global,
     files: &mut F,
     name: &str,
-    format: OutputFormat,
+    options: ReadOptions,
     is_test: bool,
 ) -> M<Outcome> {
-    match well_formed(alloc, files, &[name], format) {
-        Ok(read) => first_layout(alloc, format, &read.sources, is_test),
+    match well_formed(alloc, files, &[name], options) {
+        Ok(read) => first_layout(alloc, options.report, &read.sources, is_test),
         Err(report) => report,
     }
 }

@@ -2,16 +2,25 @@
 
 ghost use Rattle.std.specs.Prelude.{◌≡◌, IfOk, MatchBool};
 
-use crate::fault_text::{fault_loc, fault_text, kind_word};
+use crate::file_format::FileFormat;
 use crate::files::{FileAccess, FileFault};
 use crate::finding::{Finding, Source};
-use crate::first_key::first_key;
 use crate::outcome::{Outcome, OutputFormat, at_fault};
+use crate::read_fault::{ReadFault, fragment_of};
 use crate::status::Status;
 use cedar_ast::{M, Memory};
-use cedar_json::{JsonSchemaFault, fragment_from_json};
+use cedar_json::JsonSchemaFault;
 use cedar_schema_ast::json_schema::{Fragment, RawName};
 use std::alloc::Global;
+
+/// How files are read, and how what is at fault in them is reported.
+#[derive(Clone, Copy, Drop)]
+pub(crate) struct ReadOptions {
+    /// The format of all of them, where it is given.
+    pub(crate) given: Option<FileFormat>,
+    /// How findings are reported.
+    pub(crate) report: OutputFormat,
+}
 
 /// What was read of some files. Where memory runs out, that is remembered, and reported at the end.
 #[derive(Drop)]
@@ -24,18 +33,21 @@ pub(crate) struct ReadFiles {
     pub(crate) findings: Vec<Finding>,
     /// Whether one of them couldn't be read.
     pub(crate) is_unread: bool,
+    /// The format of all of them, where it is given.
+    given: Option<FileFormat>,
     /// Whether memory ran out.
     is_refused: bool,
 }
 
 impl ReadFiles {
-    /// Nothing read yet.
-    fn new(alloc: Global) -> Self {
+    /// Nothing read yet of files of the format that is given, if one is.
+    fn new(alloc: Global, given: Option<FileFormat>) -> Self {
         ReadFiles {
             sources: Vec::new(alloc),
             fragments: Vec::new(alloc),
             findings: Vec::new(alloc),
             is_unread: false,
+            given,
             is_refused: false,
         }
     }
@@ -43,6 +55,15 @@ impl ReadFiles {
     /// Adds a file.
     fn push_source(&mut self, source: Source) {
         self.is_refused |= self.sources.push(source).is_err();
+    }
+
+    /// A file with its text, and the format that this is read in.
+    fn source(&self, name: String, text: String) -> Source {
+        let format = match self.given {
+            Some(format) => format,
+            None => FileFormat::of(name.as_str(), text.as_str()),
+        };
+        Source { name, text, format }
     }
 
     /// Adds a file that is well formed.
@@ -61,42 +82,23 @@ impl ReadFiles {
     fn push_no_text(&mut self, name: String, kind: &'static str, why: String) {
         let finding = Finding::in_file(self.sources.len(), None, kind, why);
         let text = String::new(*name.allocator());
-        self.push_fault(Source { name, text }, finding);
+        let source = self.source(name, text);
+        self.push_fault(source, finding);
     }
-}
-
-/// The number of a file in places.
-pub(crate) fn source_number(file: usize) -> u32 {
-    u32::try_from(file).unwrap_or(u32::MAX)
-}
-
-/// Why the text of a file isn't read as a fragment.
-fn fault_finding(alloc: Global, file: usize, text: &str, fault: &JsonSchemaFault) -> M<Finding> {
-    if let JsonSchemaFault::Memory = fault {
-        return Err(Memory);
-    }
-    let other = first_key(alloc, text, fault)?;
-    Ok(Finding {
-        file: Some(file),
-        loc: fault_loc(source_number(file), text, fault),
-        kind: kind_word(fault),
-        message: fault_text(alloc, text, fault)?,
-        other,
-    })
 }
 
 /// Adds a file whose text is no fragment.
-fn push_no_fragment(alloc: Global, read: &mut ReadFiles, source: Source, fault: &JsonSchemaFault) {
-    match fault_finding(alloc, read.sources.len(), source.text.as_str(), fault) {
+fn push_no_fragment(alloc: Global, read: &mut ReadFiles, source: Source, fault: &ReadFault) {
+    match fault.finding(alloc, read.sources.len(), source.text.as_str()) {
         Ok(finding) => read.push_fault(source, finding),
         Err(Memory) => read.is_refused = true,
     }
 }
 
 /// Adds a file with its text.
-fn push_text(alloc: Global, read: &mut ReadFiles, source: Source) {
-    let number = source_number(read.sources.len());
-    match fragment_from_json(alloc, source.text.as_str(), number) {
+fn push_text(alloc: Global, read: &mut ReadFiles, name: String, text: String) {
+    let source = read.source(name, text);
+    match fragment_of(alloc, read.sources.len(), &source) {
         Ok(fragment) => read.push(source, fragment),
         Err(fault) => push_no_fragment(alloc, read, source, &fault),
     }
@@ -123,8 +125,9 @@ fn push_no_utf8(
 ) {
     match String::from_utf8_lossy(alloc, bytes) {
         Ok(text) => {
-            let fault = JsonSchemaFault::NotUtf8 { valid_up_to };
-            push_no_fragment(alloc, read, Source { name, text }, &fault);
+            let fault = ReadFault::Json(JsonSchemaFault::NotUtf8 { valid_up_to });
+            let source = read.source(name, text);
+            push_no_fragment(alloc, read, source, &fault);
         }
         Err(_) => read.is_refused = true,
     }
@@ -159,7 +162,7 @@ fn push_no_text(
 /// Adds a file whose bytes were read.
 fn push_bytes(alloc: Global, read: &mut ReadFiles, name: String, bytes: Vec<u8>) {
     match String::from_utf8(bytes) {
-        Ok(text) => push_text(alloc, read, Source { name, text }),
+        Ok(text) => push_text(alloc, read, name, text),
         Err(error) => {
             let valid_up_to = error.utf8_error().valid_up_to();
             push_no_text(alloc, read, name, error.as_bytes(), valid_up_to);
@@ -188,8 +191,13 @@ fn read_file<F: FileAccess>(alloc: Global, read: &mut ReadFiles, files: &mut F, 
 }
 
 /// Reads each of some files as a fragment. Each that is at fault is reported.
-fn read_files<F: FileAccess>(alloc: Global, files: &mut F, names: &[&str]) -> ReadFiles {
-    let mut read = ReadFiles::new(alloc);
+fn read_files<F: FileAccess>(
+    alloc: Global,
+    files: &mut F,
+    names: &[&str],
+    given: Option<FileFormat>,
+) -> ReadFiles {
+    let mut read = ReadFiles::new(alloc, given);
     for name in names {
         read_file(alloc, &mut read, files, name);
     }
@@ -218,11 +226,11 @@ pub(crate) fn well_formed<F: FileAccess>(
     alloc: Global,
     files: &mut F,
     names: &[&str],
-    format: OutputFormat,
+    options: ReadOptions,
 ) -> Result<ReadFiles, M<Outcome>> {
-    let read = read_files(alloc, files, names);
+    let read = read_files(alloc, files, names, options.given);
     if read.is_refused || !read.findings.is_empty() {
-        return Err(report_faults(alloc, format, &read));
+        return Err(report_faults(alloc, options.report, &read));
     }
     Ok(read)
 }

@@ -14,6 +14,8 @@ struct Choice {
     action: ArgAction,
     /// What is written for the value behind it; nothing for a flag.
     values: &'static [&'static str],
+    /// The values that it may have; any where none are listed.
+    words: &'static [&'static str],
     /// What is said of it.
     help: &'static str,
     /// The options of which one has to be there where it isn't; none of them where it may be left
@@ -51,6 +53,8 @@ pub(crate) enum FilesCommand {
     Ask(Question),
     /// Writes what they declare as one fragment.
     Link,
+    /// Writes each in another format.
+    Translate,
 }
 
 /// A command.
@@ -77,182 +81,181 @@ struct Row {
     command: Command,
 }
 
-/// Objects of JSON are asked for.
-const JSON: Choice = Choice {
-    name: "json",
+/// A flag that has no name yet.
+const FLAG: Choice = Choice {
+    name: "",
     short: None,
     action: ArgAction::SetTrue,
     values: &[],
-    help: "Tell refusals as objects of JSON, one a line, on standard output",
+    words: &[],
+    help: "",
     unless: &[],
     against: &[],
     is_required: false,
     is_positional: false,
 };
 
+/// An option with one value that has no name yet.
+const OPTION: Choice = Choice {
+    action: ArgAction::Set,
+    ..FLAG
+};
+
+/// Objects of JSON are asked for.
+const JSON: Choice = Choice {
+    name: "json",
+    help: "Tell refusals as objects of JSON, one a line, on standard output",
+    ..FLAG
+};
+
+/// The format of the files.
+const INPUT: Choice = Choice {
+    name: "format",
+    values: &["FORMAT"],
+    words: &["text", "json"],
+    help: "The format of all files; else a name that ends in `.cedarschema` says text",
+    ..OPTION
+};
+
 /// The files of most commands.
 const FILES: Choice = Choice {
     name: "FILE",
-    short: None,
     action: ArgAction::Append,
-    values: &[],
-    help: "Files of schemas in Cedar's JSON format; `-` is standard input",
-    unless: &[],
-    against: &[],
+    help: "Files of schemas, in Cedar's syntax or its JSON format; `-` is standard input",
     is_required: true,
     is_positional: true,
+    ..OPTION
 };
 
 /// The options of a command that has no others.
-const PLAIN: &[Choice] = &[FILES, JSON];
+const PLAIN: &[Choice] = &[FILES, INPUT, JSON];
 
 /// The options of the command that builds.
 const BUILD: &[Choice] = &[
     FILES,
+    INPUT,
     JSON,
     Choice {
         name: "complete",
-        short: None,
-        action: ArgAction::SetTrue,
-        values: &[],
         help: "Refuse a schema that leaves something external",
-        unless: &[],
-        against: &[],
-        is_required: false,
-        is_positional: false,
+        ..FLAG
     },
 ];
 
 /// The options of the command that shows types.
 const TYPE: &[Choice] = &[
     FILES,
+    INPUT,
     JSON,
     Choice {
         name: "entity",
-        short: None,
-        action: ArgAction::Set,
         values: &["NAME"],
         help: "The entity type of which to show attributes",
         unless: &["action"],
-        against: &[],
-        is_required: false,
-        is_positional: false,
+        ..OPTION
     },
     Choice {
         name: "attribute",
-        short: None,
         action: ArgAction::Append,
         values: &["NAME"],
         help: "An attribute; each further one a step down",
-        unless: &[],
-        against: &[],
-        is_required: false,
-        is_positional: false,
+        ..OPTION
     },
     Choice {
         name: "tags",
-        short: None,
-        action: ArgAction::SetTrue,
-        values: &[],
         help: "The type of the tags, in place of that of attributes",
-        unless: &[],
         against: &["attribute", "action"],
-        is_required: false,
-        is_positional: false,
+        ..FLAG
     },
     Choice {
         name: "action",
-        short: None,
-        action: ArgAction::Set,
         values: &["UID"],
         help: "The action of which to show the context",
         unless: &["entity", "tags"],
         against: &["entity"],
-        is_required: false,
-        is_positional: false,
+        ..OPTION
     },
 ];
 
 /// The options of the command that shows environments.
 const ENVS: &[Choice] = &[
     FILES,
+    INPUT,
     JSON,
     Choice {
         name: "principal",
-        short: None,
-        action: ArgAction::Set,
         values: &["NAME"],
         help: "Only those of this type of principal",
-        unless: &[],
-        against: &[],
-        is_required: false,
-        is_positional: false,
+        ..OPTION
     },
     Choice {
         name: "action",
-        short: None,
-        action: ArgAction::Set,
         values: &["UID"],
         help: "Only those of this action",
-        unless: &[],
-        against: &[],
-        is_required: false,
-        is_positional: false,
+        ..OPTION
     },
     Choice {
         name: "resource",
-        short: None,
-        action: ArgAction::Set,
         values: &["NAME"],
         help: "Only those of this type of resource",
-        unless: &[],
-        against: &[],
-        is_required: false,
-        is_positional: false,
+        ..OPTION
     },
 ];
+
+/// The file that is written.
+const OUTPUT: Choice = Choice {
+    name: "output",
+    short: Some('o'),
+    values: &["FILE"],
+    help: "Write to this file, which may be none of those read",
+    ..OPTION
+};
 
 /// The options of the command that links.
 const LINK: &[Choice] = &[
     FILES,
+    INPUT,
     JSON,
     Choice {
-        name: "output",
-        short: Some('o'),
-        action: ArgAction::Set,
-        values: &["FILE"],
-        help: "Write to this file, which may be none of those read",
-        unless: &[],
-        against: &[],
-        is_required: false,
-        is_positional: false,
+        name: "to",
+        values: &["FORMAT"],
+        words: &["text", "json"],
+        help: "Write in this format; JSON where none is given",
+        ..OPTION
     },
+    OUTPUT,
+];
+
+/// The options of the command that translates.
+const TRANSLATE: &[Choice] = &[
+    FILES,
+    INPUT,
+    JSON,
+    Choice {
+        name: "to",
+        values: &["FORMAT"],
+        words: &["text", "json"],
+        help: "Write in this format; the other one where none is given",
+        ..OPTION
+    },
+    OUTPUT,
 ];
 
 /// The options of the command that lays out.
 const FORMAT: &[Choice] = &[
     Choice {
         name: "FILE",
-        short: None,
-        action: ArgAction::Set,
-        values: &[],
         help: "The file; `-` is standard input",
-        unless: &[],
-        against: &[],
         is_required: true,
         is_positional: true,
+        ..OPTION
     },
+    INPUT,
     JSON,
     Choice {
         name: "check",
-        short: None,
-        action: ArgAction::SetTrue,
-        values: &[],
         help: "Write nothing, and end with status 1 where the file differs",
-        unless: &[],
-        against: &[],
-        is_required: false,
-        is_positional: false,
+        ..FLAG
     },
 ];
 
@@ -260,47 +263,30 @@ const FORMAT: &[Choice] = &[
 const COMPARE: &[Choice] = &[
     Choice {
         name: "old",
-        short: None,
         action: ArgAction::Append,
         values: &["FILE"],
         help: "The files of the old version; `-` is standard input",
-        unless: &[],
-        against: &[],
         is_required: true,
-        is_positional: false,
+        ..OPTION
     },
     Choice {
         name: "new",
-        short: None,
         action: ArgAction::Append,
         values: &["FILE"],
         help: "The files of the new version",
-        unless: &[],
-        against: &[],
         is_required: true,
-        is_positional: false,
+        ..OPTION
     },
+    INPUT,
     Choice {
         name: "all",
-        short: None,
-        action: ArgAction::SetTrue,
-        values: &[],
         help: "Show each request, in place of the first 20 of an action",
-        unless: &[],
-        against: &[],
-        is_required: false,
-        is_positional: false,
+        ..FLAG
     },
     Choice {
         name: "json",
-        short: None,
-        action: ArgAction::SetTrue,
-        values: &[],
         help: "Tell all differences, or refusals, as objects of JSON, one a line",
-        unless: &[],
-        against: &[],
-        is_required: false,
-        is_positional: false,
+        ..FLAG
     },
 ];
 
@@ -349,6 +335,12 @@ const ROWS: &[Row] = &[
         command: Command::Files(FilesCommand::Link),
     },
     Row {
+        name: "translate",
+        about: "Writes a file in the other format, or each of several beside itself",
+        example: "Example: cedar_check translate photos.json -o photos.cedarschema",
+        command: Command::Files(FilesCommand::Translate),
+    },
+    Row {
         name: "format",
         about: "Lays a file out in the order of the format, with all that it says",
         example: "Example: cedar_check format photos.json --check",
@@ -381,6 +373,7 @@ impl Command {
             Command::Files(FilesCommand::Check) => PLAIN,
             Command::Files(FilesCommand::Ask(question)) => question.choices(),
             Command::Files(FilesCommand::Link) => LINK,
+            Command::Files(FilesCommand::Translate) => TRANSLATE,
             Command::Format => FORMAT,
             Command::Compare => COMPARE,
         }
@@ -433,6 +426,9 @@ fn spelled<'a>(alloc: Global, choice: &Choice) -> Arg<'a> {
     if choice.is_required {
         option = option.num_args(1usize..);
     }
+    if !choice.words.is_empty() {
+        option = option.value_parser(choice.words);
+    }
     option.long(choice.name)
 }
 
@@ -469,7 +465,7 @@ fn with_commands<'a>(
 ) -> Result<clap::Command<'a>, AllocError> {
     clap::Command::new(alloc, "cedar_check")
         .version("0.1.0")
-        .about("Reads, builds, shows, links and compares schemas of the Cedar policy language")
+        .about("Reads, builds, shows, translates and compares schemas of the Cedar policy language")
         .subcommand_required(true)
         .subcommands(commands)
 }

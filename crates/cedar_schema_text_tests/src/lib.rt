@@ -1,5 +1,5 @@
-//! Tests of the reading of Cedar's schema text: rows of texts, each with its tokens or the schema
-//! that it is, or with how it is refused and where.
+//! Tests of Cedar's schema text: rows of texts, each with its tokens, the schema that it is or its
+//! fragment, or with how it is refused and where; and rows of fragments, each with its text.
 #![tactic(auto)]
 
 #[cfg(test)]
@@ -11,6 +11,10 @@ mod levels;
 #[cfg(test)]
 mod line;
 #[cfg(test)]
+mod meaning;
+#[cfg(test)]
 mod refusals;
 #[cfg(test)]
 mod tokens;
+#[cfg(test)]
+mod written;
