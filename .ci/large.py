@@ -2,7 +2,7 @@
 them.
 
 What may be said is told by the rules and by the numbers that a row has, and never taken from the
-program. The documents are in Cedar's JSON schema format."""
+program. The documents are in Cedar's JSON schema format, or texts in its own syntax."""
 
 import json
 import resource
@@ -63,6 +63,19 @@ def common_chain(count):
 def common_loop(count, back):
     """Common types in a chain, whose last is another name for that of a number."""
     return [fragment(common_types=common_types(count, named(f"T{back}")))]
+
+
+def entity_text(count):
+    """A text of entity types, each below the first."""
+    beginning = "entity E0;\n"
+    return beginning + "".join(
+        f"entity E{number} in [E0] {{ name: String, age?: Long }};\n" for number in range(1, count)
+    )
+
+
+def nested_text(opening, levels):
+    """A text in which a type opens so many levels."""
+    return f"type T = {opening * levels}"
 
 
 def doubling(depth):
@@ -294,8 +307,10 @@ class Row:
         """Fails where something else comes of a command, run in a folder for the files."""
         files = []
         for number, document in enumerate(self.draw()):
-            files.append(f"{number}.json")
-            (folder / files[-1]).write_text(json.dumps(document), "utf-8")
+            is_text = isinstance(document, str)
+            files.append(f"{number}.cedarschema" if is_text else f"{number}.json")
+            text = document if is_text else json.dumps(document)
+            (folder / files[-1]).write_text(text, "utf-8")
         for command, is_right in self.asked:
             first, *rest = command.split()
             given = versions(files) if first == "compare" else files
@@ -337,6 +352,17 @@ def rows():
             "a cycle of common types and one of actions",
             two_cycles,
             [("build", EITHER_CYCLE)],
+        ),
+        Row(
+            "a text of 10 MB",
+            lambda: [entity_text(200_000)],
+            [("check", lines("0.cedarschema: ok"))]
+            + [("build", has_line("entity types: 200000, 0 of them external"))],
+        ),
+        Row(
+            "100000 sets, and 100000 records, in one another in a text",
+            lambda: [nested_text("Set<", 100_000), nested_text("{ a: ", 100_000)],
+            [("check", refusals(2, "types nest deeper than 128 levels here"))],
         ),
         Row(
             "an external type below an enumerated one and a second definition",
