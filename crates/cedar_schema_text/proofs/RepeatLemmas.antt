@@ -110,3 +110,11 @@ pub once_all : (what : Repeated) (names : List Named) (i : ℕ) (places : Places
     → repeats what (map named names) ≡ []
 once_all what names i places end so_far =
     so_far.rest ∙ ap (λ xs. repeats_behind what (map named (take i names)) (map named xs)) (drop_all i names end)
+
+-- fewer than two names stand once
+pub few_once : (what : Repeated) (names : List Name) → length names < 2 → repeats what names ≡ []
+few_once what [] few = refl
+few_once what (x ∷ []) few = refl
+few_once what (x ∷ y ∷ names) few = absurd (too_many few) where
+  too_many : length (x ∷ y ∷ names) < 2 → ⊥
+  too_many below = omega arith

@@ -47,6 +47,9 @@ pub(crate) fn check_once(
     ensures none { OnOk result (repeats what (map named names.now) ≡ []) }
     ensures fault { IfErr result (IsAmong (repeats what (map named names.now))) }
 {
+    if names.len() < 2 {
+        return Ok(());
+    }
     let mut places = BTreeMap::new(alloc);
     for name in names {
         if let Some(first) = places.insert(name.text, name.loc)? {

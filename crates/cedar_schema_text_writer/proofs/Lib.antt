@@ -1,4 +1,5 @@
 pub mod Checked
+pub mod Flawless
 pub mod Held
 pub mod Lines
 pub mod NamesGiven

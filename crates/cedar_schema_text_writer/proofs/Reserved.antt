@@ -11,7 +11,7 @@ use Rattle.cedar_schema_ast.specs.Words.{names_within, possible_names}
 use Rattle.cedar_schema_text_writer.specs.Names.{built_in_words, is_among, is_none, is_reserved, last_name, may_be_built_in}
 
 -- a test decides whether a text is one of some
-among : (text : Text) (words : List Text) → Decides (is_among text words) (Contains words text)
+pub among : (text : Text) (words : List Text) → Decides (is_among text words) (Contains words text)
 among text [] = (λ e. absurd (false≢true e), λ there. absurd (omega (arith, there.1)))
 among text (word ∷ words) =
     Decides-like _

@@ -20,4 +20,5 @@ mod text;
 mod types;
 
 pub use fault::{Declared, Part, Place, TextWriteFault, Unwritable};
+pub use scope::Standing;
 pub use text::fragment_to_text;

@@ -16,7 +16,7 @@ use std::alloc::Global;
 
 /// What a name is declared as.
 #[derive(Clone, Copy)]
-pub(crate) enum Standing {
+pub enum Standing {
     /// A common type, and perhaps an entity type too.
     Common,
     /// An entity type alone.

@@ -4,3 +4,6 @@ pub mod Escapes
 pub mod Quoted
 pub mod Single
 pub mod Exact
+pub mod Skipping
+pub mod Blanks
+pub mod Spellings

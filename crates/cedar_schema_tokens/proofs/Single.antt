@@ -216,11 +216,11 @@ lexeme_stops all stop some e =
 
 -- ---- lengths
 
-id_some : (w : List ℕ) → is_id w ≡ true → 0 < length w
+pub id_some : (w : List ℕ) → is_id w ≡ true → 0 < length w
 id_some [] e = absurd (cc)
 id_some (b ∷ bs) e = omega arith
 
-symbol_some : (m : Symbol) → 0 < length (spelling m)
+pub symbol_some : (m : Symbol) → 0 < length (spelling m)
 symbol_some sign.PathSeparator = omega arith
 symbol_some sign.Colon = omega arith
 symbol_some sign.Comma = omega arith

@@ -7,7 +7,7 @@ ghost use Rattle.cedar_schema_tokens.specs.Lexical as spec;
 use crate::steps::{Class, byte_at, first, first_char, run_len};
 
 /// How many bytes the white space character at the front takes; 0 where there is none.
-fn blank_len(s: &str) -> usize
+pub(crate) fn blank_len(s: &str) -> usize
     ensures len { result ≡ spec.blank_len s.now }
     ensures cut { IsCharBoundary s.now result }
 {

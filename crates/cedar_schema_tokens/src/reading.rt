@@ -15,6 +15,9 @@ use crate::symbol::symbol_of;
 use crate::token::{Lexeme, Symbol, Token};
 use std::alloc::Global;
 
+/// How many bytes of a text there are for each of its tokens, by a rough estimate.
+const BYTES_OF_A_TOKEN: usize = 5;
+
 /// Why a quoted text with `left` bytes from its quote on ends before this part of it.
 fn part_stop(left: usize, s: &str) -> Stop
     ensures { result ≡ spec.part_stop left s.now }
@@ -56,7 +59,7 @@ fn quoted(alloc: Global, s: &str) -> Result<(String, &str), Stop>
 
 /// What the token at the front is.
 #[tactic(auto, unfolding(crate::specs::Lexical::lexeme_at))]
-fn lexeme<'a>(alloc: Global, s: &'a str) -> Result<(Lexeme<'a>, &'a str), Stop>
+pub(crate) fn lexeme<'a>(alloc: Global, s: &'a str) -> Result<(Lexeme<'a>, &'a str), Stop>
     ensures { Reads lexeme_of (spec.lexeme_at s.now) result }
 {
     let byte = first(s);
@@ -86,7 +89,7 @@ fn read_all<'a>(alloc: Global, text: &'a str, source: u32) -> Result<Vec<Token<'
     requires { length text.now < 2 ^ 32 }
     ensures { Gives (λ found. map token_of found.items) (spec.tokens source text.now) result }
 {
-    let mut found = Vec::new(alloc);
+    let mut found = Vec::with_capacity(alloc, text.len() / BYTES_OF_A_TOKEN)?;
     let mut rest = text;
     for _turn in 0..text.len() {
         let front = after_gap(rest);

@@ -22,7 +22,7 @@ fn read_qualifier(alloc: Global, tokens: &mut Cursor<'_, '_>, first: Name) -> Re
 {
     let from = first.loc;
     let mut last = from;
-    let mut ids = Vec::new(alloc);
+    let mut ids = Vec::with_capacity(alloc, 1)?;
     ids.push(first.text)?;
     for _turn in 0..tokens.left() {
         if tokens.sees_text() {
@@ -84,7 +84,7 @@ fn read_listed_parents(alloc: Global, tokens: &mut Cursor<'_, '_>) -> Result<Vec
     ensures { Reads (λ all. map parent_of all.items)
         (spec.until spec.parent sign.CloseBracket tokens.old) result tokens.new }
 {
-    let mut found = Vec::new(alloc);
+    let mut found = Vec::with_capacity(alloc, 1)?;
     for _turn in 0..tokens.left() {
         if tokens.eat(Symbol::CloseBracket) {
             return Ok(found);
@@ -107,7 +107,7 @@ fn read_parents(alloc: Global, tokens: &mut Cursor<'_, '_>) -> Result<Vec<Parent
         return read_listed_parents(alloc, tokens);
     }
     let parent = read_parent(alloc, tokens)?;
-    let mut found = Vec::new(alloc);
+    let mut found = Vec::with_capacity(alloc, 1)?;
     found.push(parent)?;
     Ok(found)
 }
@@ -170,7 +170,7 @@ fn read_parts(alloc: Global, tokens: &mut Cursor<'_, '_>, limit: usize) -> Resul
     ensures { Reads (λ all. map part_of all.items)
         (spec.until (spec.part limit) sign.CloseBrace tokens.old) result tokens.new }
 {
-    let mut found = Vec::new(alloc);
+    let mut found = Vec::with_capacity(alloc, 3)?;
     for _turn in 0..tokens.left() {
         if tokens.eat(Symbol::CloseBrace) {
             return Ok(found);

@@ -21,7 +21,7 @@ fn read_listed_paths(alloc: Global, tokens: &mut Cursor<'_, '_>) -> Result<Vec<P
     ensures { Reads (λ all. map path_of all.items)
         (spec.until spec.path sign.CloseBracket tokens.old) result tokens.new }
 {
-    let mut found = Vec::new(alloc);
+    let mut found = Vec::with_capacity(alloc, 1)?;
     for _turn in 0..tokens.left() {
         if tokens.eat(Symbol::CloseBracket) {
             return Ok(found);
@@ -44,7 +44,7 @@ pub(crate) fn read_paths(alloc: Global, tokens: &mut Cursor<'_, '_>) -> Result<V
         return read_listed_paths(alloc, tokens);
     }
     let path = read_path(alloc, tokens)?;
-    let mut found = Vec::new(alloc);
+    let mut found = Vec::with_capacity(alloc, 1)?;
     found.push(path)?;
     Ok(found)
 }

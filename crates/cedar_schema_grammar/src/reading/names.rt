@@ -18,7 +18,7 @@ fn read_ids(alloc: Global, tokens: &mut Cursor<'_, '_>) -> Result<Vec<String>, S
     ensures { Reads (λ ids. map string_bytes ids.items)
         (spec.separated spec.id_text sign.PathSeparator tokens.old) result tokens.new }
 {
-    let mut found = Vec::new(alloc);
+    let mut found = Vec::with_capacity(alloc, 1)?;
     for _turn in 0..tokens.left() {
         found.push(tokens.id_text(alloc)?)?;
         if !tokens.eat(Symbol::PathSeparator) {
@@ -45,7 +45,7 @@ pub(crate) fn read_id_list(alloc: Global, tokens: &mut Cursor<'_, '_>) -> Result
     ensures { Reads (λ names. map name_of names.items)
         (spec.separated spec.id sign.Comma tokens.old) result tokens.new }
 {
-    let mut found = Vec::new(alloc);
+    let mut found = Vec::with_capacity(alloc, 1)?;
     for _turn in 0..tokens.left() {
         found.push(tokens.id(alloc)?)?;
         if !tokens.eat(Symbol::Comma) {
@@ -61,7 +61,7 @@ pub(crate) fn read_name_list(alloc: Global, tokens: &mut Cursor<'_, '_>) -> Resu
     ensures { Reads (λ names. map name_of names.items)
         (spec.separated spec.name sign.Comma tokens.old) result tokens.new }
 {
-    let mut found = Vec::new(alloc);
+    let mut found = Vec::with_capacity(alloc, 1)?;
     for _turn in 0..tokens.left() {
         found.push(tokens.name(alloc)?)?;
         if !tokens.eat(Symbol::Comma) {

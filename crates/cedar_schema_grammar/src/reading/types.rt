@@ -57,7 +57,7 @@ fn read_attributes(
     ensures { Reads (λ all. map attribute_of all.items) (spec.until
         (spec.attribute_with (spec.type_at limit)) sign.CloseBrace tokens.old) result tokens.new }
 {
-    let mut found = Vec::new(alloc);
+    let mut found = Vec::with_capacity(alloc, 1)?;
     for _turn in 0..tokens.left() {
         if tokens.eat(Symbol::CloseBrace) {
             return Ok(found);

@@ -1,7 +1,7 @@
-use Rattle.std.proofs.Common.{◌≡◌, get_or, map, [], sym, ◌∙◌, Some}
-use Rattle.std.proofs.lemmas.List.{get_or_default}
+use Rattle.std.proofs.Common.{◌≡◌, ◌<◌, get_or, map, [], subst, sym, ◌∙◌, Some}
+use Rattle.std.proofs.lemmas.List.{get_or_default, length-map}
 use Rattle.std.proofs.lemmas.Map.Text.{btree_map_updates_str}
-use Rattle.cedar_schema_text.proofs.RepeatLemmas.{once_again, once_more}
+use Rattle.cedar_schema_text.proofs.RepeatLemmas.{few_once, once_again, once_more}
 use Rattle.cedar_schema_text.specs.Faults.{repeats}
 use Rattle.cedar_schema_text.specs.Named.{named}
 use Rattle.cedar_schema_text.specs.declared.once.Named.{Named}
@@ -13,6 +13,11 @@ none = record {
   text = record { ref_ptr = (0, 0); now = [] };
   loc = record { source = 0; start = 0; stop = 0 };
 }
+
+pub returns-then-names-lt2-clause-none : goal.returns-then-names-lt2-clause-none
+returns-then-names-lt2-clause-none c =
+    let names = c.args.names.now in
+    few_once c.args.what (map named names) (subst (λ n. n < 2) (sym (length-map names named)) c.if-names-lt2.true)
 
 pub returns-in-Some-clause-fault : goal.returns-in-Some-clause-fault
 returns-in-Some-clause-fault c =

@@ -1,0 +1,3 @@
+pub mod Relaid
+pub mod Separators
+pub mod Words
