@@ -8,7 +8,7 @@ use Rattle.cedar_schema_ast.specs.declared.json_schema.entity_type.EntityTypeKin
 
 module _ (namespace : Option PlainName) where
   -- what is declared of an entity type by what was written, and by whether it is external
-  abbrev body_in : EntityBody → Bool → EntityBody
+  abbrev pub body_in : EntityBody → Bool → EntityBody
   body_in (standard parents shape tags) false =
       standard (map (reference_in namespace) parents) (expr_in namespace shape) (option_map (expr_in namespace) tags)
   body_in (standard parents shape tags) true = external (map (reference_in namespace) parents)
@@ -17,33 +17,33 @@ module _ (namespace : Option PlainName) where
   body_in (external parents) is_external = external (map (reference_in namespace) parents)
 
   -- the type of a parent
-  abbrev parent_type_in : Option Reference → Reference
+  abbrev pub parent_type_in : Option Reference → Reference
   parent_type_in None = reference_to namespace Entity plain_action_type
   parent_type_in (Some reference) = reference_in namespace reference
 
   -- a parent of an action
-  abbrev parent_in : WrittenParent → ActionReference
+  abbrev pub parent_in : WrittenParent → ActionReference
   parent_in it = record { id = it.0; ty = parent_type_in it.1 }
 
   -- the parents of an action; none where none were written
-  abbrev parents_in : Option (List WrittenParent) → List ActionReference
+  abbrev pub parents_in : Option (List WrittenParent) → List ActionReference
   parents_in None = []
   parents_in (Some parents) = map parent_in parents
 
   -- the requests that an action is for
-  abbrev requests_in : Requests → Requests
+  abbrev pub requests_in : Requests → Requests
   requests_in (requests principals resources context) =
       requests (map (reference_in namespace) principals) (map (reference_in namespace) resources) (expr_in namespace context)
   requests_in elsewhere = elsewhere
 
   -- and by whether it is external
-  abbrev applies_to_in : Bool → Option Requests → Requests
+  abbrev pub applies_to_in : Bool → Option Requests → Requests
   applies_to_in true it = elsewhere
   applies_to_in false None = requests [] [] (record_expr no_member false)
   applies_to_in false (Some it) = requests_in it
 
   -- what is declared of an action
-  abbrev action_in : WrittenAction → ActionBody
+  abbrev pub action_in : WrittenAction → ActionBody
   action_in it = record {
     has_attributes = is_some it.attributes;
     parents = parents_in it.member_of;
@@ -51,11 +51,11 @@ module _ (namespace : Option PlainName) where
   }
 
   -- a declaration of what was written under an id
-  abbrev declared : {A : Type 0} → (A → Body) → Text × A → Declaration
+  abbrev pub declared : {A : Type 0} → (A → Body) → Text × A → Declaration
   declared body entry = record { namespace = namespace; id = entry.0; body = body entry.1 }
 
   -- the declarations of a definition
-  abbrev declarations_in : WrittenDefinition → List Declaration
+  abbrev pub declarations_in : WrittenDefinition → List Declaration
   declarations_in it =
       map (declared (λ ty. common_type (expr_in namespace ty))) it.common_types
       ++ map (declared (λ (it : WrittenEntity). entity_type (body_in it.body it.external))) it.entity_types
@@ -141,10 +141,10 @@ module _ (namespace : Option PlainName) where
       common_placed it.common_types.entries i ++ entities_placed it.entity_types.entries i ++ actions_placed it.actions.entries i
 
 -- the declarations of a fragment, by its plain data
-abbrev declared_of : WrittenFragment → List Declaration
+abbrev pub declared_of : WrittenFragment → List Declaration
 declared_of it = flat_map (λ (entry : Option PlainName × WrittenDefinition). declarations_in entry.0 entry.1) it
 
-fragment_declares : (entries : List (Option Name × NamespaceDefinition RawName))
+pub fragment_declares : (entries : List (Option Name × NamespaceDefinition RawName))
     → flat_map (λ (entry : Option Name × NamespaceDefinition RawName). raw_declarations (option_map plain_name entry.0) entry.1) entries
     ≡ declared_of (map (λ entry. (option_map plain_name entry.0, written_definition entry.1)) entries)
 fragment_declares [] = refl

@@ -1,5 +1,5 @@
 -- The entities of actions of a declared schema are those of the actions that are defined.
-use Rattle.std.proofs.Common.{[], ◌∷◌, map, Contains}
+use Rattle.std.proofs.Common.{map, Contains}
 use Rattle.cedar_ast.proofs.Basics.{Contains-image}
 use Rattle.cedar_ast.proofs.Chains.{last_step}
 use Rattle.cedar_schema_laws.proofs.ValidLaws.{listed_action}

@@ -22,6 +22,7 @@ pub mod MeaningLemmas
 pub mod MentionLemmas
 pub mod MereLemmas
 pub mod MovedBags
+pub mod MovedLaws
 pub mod MovedLemmas
 mod NamesConvertedBack
 pub mod OrderLaws

@@ -1,35 +1,33 @@
 -- What bags define and declare whose declarations are alike pairwise.
-use Rattle.std.proofs.Common.{◌≡◌, zero, suc, List, [], ◌∷◌, ◌++◌, map, not, ap, sym, subst, ◌∙◌, refl, arith, Contains, inl, inr}
+use Rattle.std.proofs.Common.{◌≡◌, List, [], ◌∷◌, ◌++◌, map, not, ap, sym, subst, ◌∙◌, refl, Contains, inl, inr}
 use Rattle.std.proofs.lemmas.List.{map-append}
 use Rattle.std.proofs.lemmas.List.Elements.{Contains-append_left, Contains-append_right, Contains-append_cases}
 use Rattle.std.specs.List.{flat_map, filter, list_any}
 use Rattle.std.specs.Ordering.{is_eq}
 use Rattle.cedar_ast.proofs.Lists.{Contains-preimage}
-use Rattle.cedar_schema_laws.proofs.MeaningLemmas.{AreAlike, alike_text, alike_long, alike_truth, alike_extension}
-use Rattle.cedar_schema_laws.proofs.MovedLemmas.{keys_pairwise, DeclarationsAlike, BodiesAlike, EntitiesAlike, RequestsAlike, alike_name, alike_uid, common_keys, entity_keys, action_keys}
+use Rattle.cedar_schema_laws.proofs.MovedLemmas.{Likeness, keys_pairwise, DeclarationsAlike, BodiesAlike, EntitiesAlike, RequestsAlike, alike_name, alike_uid, common_keys, entity_keys, action_keys}
 use Rattle.cedar_schema_laws.proofs.OrderLaws.{nested}
-use Rattle.cedar_schema_laws.specs.Words.{ActionBody, Bag, Body, Declaration, EntityBody, Expr, Extensions, HoldsPairwise, Names, PlainName, PlainUid, Requests, Text, action, action_definition_in, action_in, action_uids, alias_name, aliases, built_in_name, built_in_types, built_ins, common_in, common_type, declared_actions, declared_common, declared_entities, declared_name, declared_types, declared_uid, defined_actions, defined_entities, defined_names, definitions, elsewhere, entity_definition_in, entity_in, entity_type, enumerated, extension_expr, extension_types, external, name_cmp, requests, standard}
+use Rattle.cedar_schema_laws.specs.Words.{ActionBody, Bag, Body, Declaration, EntityBody, Expr, Extensions, HoldsPairwise, PlainName, PlainUid, Requests, Text, action, action_definition_in, action_in, action_uids, alias_name, aliases, built_in_name, built_in_types, built_ins, common_in, common_type, declared_actions, declared_common, declared_entities, declared_name, declared_types, declared_uid, defined_actions, defined_entities, defined_names, definitions, elsewhere, entity_definition_in, entity_in, entity_type, enumerated, external, name_cmp, requests, standard}
 use Rattle.cedar_schema_semantics.proofs.BuiltInLemmas.{alias_of}
 use Rattle.cedar_schema_semantics.proofs.DeclarationLemmas.{Kind, actions, common_types, declaration, declared, declares, entity_types}
 use Rattle.cedar_schema_semantics.proofs.TurnLemmas.{turn_forth}
 
 -- what is declared of entity types that are alike is defined under the same key
-entity_definition_keys : (names others : Names) (name name' : PlainName) → name ≡ name' → (body body' : EntityBody)
-    → EntitiesAlike names others body body' → map (λ (each : PlainName × EntityBody). each.0) (entity_definition_in name body)
+entity_definition_keys : (like : Likeness) (name name' : PlainName) → name ≡ name' → (body body' : EntityBody)
+    → EntitiesAlike like body body' → map (λ (each : PlainName × EntityBody). each.0) (entity_definition_in name body)
     ≡ map (λ (each : PlainName × EntityBody). each.0) (entity_definition_in name' body')
-entity_definition_keys names others name name' same (standard ps shape tags) (standard ps' shape' tags') like = ap
-    (λ each. each ∷ []) same
-entity_definition_keys names others name name' same (enumerated choices) (enumerated choices') like = ap (λ each. each ∷ []) same
-entity_definition_keys names others name name' same (external ps) (external ps') like = refl
-entity_definition_keys names others name name' same _ _ like = absurd like
+entity_definition_keys like name name' same (standard ps shape tags) (standard ps' shape' tags') alike = ap (λ each. each ∷ []) same
+entity_definition_keys like name name' same (enumerated choices) (enumerated choices') alike = ap (λ each. each ∷ []) same
+entity_definition_keys like name name' same (external ps) (external ps') alike = refl
+entity_definition_keys like name name' same _ _ alike = absurd alike
 
 -- requests that are alike are defined under the same key
-action_definition_keys : (names others : Names) (uid uid' : PlainUid) → uid ≡ uid' → (it it' : Requests)
-    → RequestsAlike names others it it' → map (λ (each : PlainUid × Requests). each.0) (action_definition_in uid it)
+action_definition_keys : (like : Likeness) (uid uid' : PlainUid) → uid ≡ uid' → (it it' : Requests)
+    → RequestsAlike like it it' → map (λ (each : PlainUid × Requests). each.0) (action_definition_in uid it)
     ≡ map (λ (each : PlainUid × Requests). each.0) (action_definition_in uid' it')
-action_definition_keys names others uid uid' same (requests ps rs context) (requests ps' rs' context') like = ap (λ each. each ∷ []) same
-action_definition_keys names others uid uid' same elsewhere elsewhere like = refl
-action_definition_keys names others uid uid' same _ _ like = absurd like
+action_definition_keys like uid uid' same (requests ps rs context) (requests ps' rs' context') alike = ap (λ each. each ∷ []) same
+action_definition_keys like uid uid' same elsewhere elsewhere alike = refl
+action_definition_keys like uid uid' same _ _ alike = absurd alike
 
 -- a list with nothing after it
 nothing_after : {A : Type 0} (xs : List A) → xs ++ [] ≡ xs
@@ -46,15 +44,12 @@ abbrev action_defined_by : Declaration → List (PlainUid × Requests)
 action_defined_by it = flat_map (λ (each : PlainUid
     × ActionBody). action_definition_in each.0 each.1.applies_to) (action_in (declared_uid it) it.body)
 
-module _ (names others : Names) where
-  entity_defined_keys : (it other : Declaration) → DeclarationsAlike names others it other
+module _ (like : Likeness) where
+  entity_defined_keys : (it other : Declaration) → DeclarationsAlike like it other
       → map (λ (each : PlainName × EntityBody). each.0) (entity_defined_by it) ≡ map (λ (each : PlainName
       × EntityBody). each.0) (entity_defined_by other)
-  entity_defined_keys it other like = by it.body other.body like.2 where
-    key : PlainName × EntityBody → PlainName
-    key each = each.0
-
-    by : (body body' : Body) → BodiesAlike names others body body'
+  entity_defined_keys it other declared = by it.body other.body declared.2 where
+    by : (body body' : Body) → BodiesAlike like body body'
         → map (λ (each : PlainName × EntityBody). each.0) (flat_map (λ (each : PlainName
         × EntityBody). entity_definition_in each.0 each.1) (entity_in (declared_name it) body))
         ≡ map (λ (each : PlainName × EntityBody). each.0) (flat_map (λ (each : PlainName
@@ -62,17 +57,17 @@ module _ (names others : Names) where
     by (common_type definition) (common_type definition') alike = refl
     by (entity_type body) (entity_type body') alike =
         ap (map (λ (each : PlainName × EntityBody). each.0)) (nothing_after (entity_definition_in (declared_name it) body))
-        ∙ (entity_definition_keys names others (declared_name it) (declared_name other)
-        (alike_name names others it other like) body body' alike
+        ∙ (entity_definition_keys like (declared_name it) (declared_name other)
+        (alike_name like it other declared) body body' alike
         ∙ sym (ap (map (λ (each : PlainName × EntityBody). each.0)) (nothing_after (entity_definition_in (declared_name other) body'))))
     by (action body) (action body') alike = refl
     by _ _ alike = absurd alike
 
-  action_defined_keys : (it other : Declaration) → DeclarationsAlike names others it other
+  action_defined_keys : (it other : Declaration) → DeclarationsAlike like it other
       → map (λ (each : PlainUid × Requests). each.0) (action_defined_by it) ≡ map (λ (each : PlainUid
       × Requests). each.0) (action_defined_by other)
-  action_defined_keys it other like = by it.body other.body like.2 where
-    by : (body body' : Body) → BodiesAlike names others body body'
+  action_defined_keys it other declared = by it.body other.body declared.2 where
+    by : (body body' : Body) → BodiesAlike like body body'
         → map (λ (each : PlainUid × Requests). each.0) (flat_map (λ (each : PlainUid
         × ActionBody). action_definition_in each.0 each.1.applies_to) (action_in (declared_uid it) body))
         ≡ map (λ (each : PlainUid × Requests). each.0) (flat_map (λ (each : PlainUid
@@ -81,26 +76,26 @@ module _ (names others : Names) where
     by (entity_type body) (entity_type body') alike = refl
     by (action body) (action body') alike =
         ap (map (λ (each : PlainUid × Requests). each.0)) (nothing_after (action_definition_in (declared_uid it) body.applies_to))
-        ∙ (action_definition_keys names others (declared_uid it) (declared_uid other)
-        (alike_uid names others it other like) body.applies_to body'.applies_to alike.2 ∙ sym (ap (map (λ (each : PlainUid
+        ∙ (action_definition_keys like (declared_uid it) (declared_uid other)
+        (alike_uid like it other declared) body.applies_to body'.applies_to alike.2 ∙ sym (ap (map (λ (each : PlainUid
         × Requests). each.0)) (nothing_after (action_definition_in (declared_uid other) body'.applies_to))))
     by _ _ alike = absurd alike
 
-module _ (names others : Names) (bag other : Bag) (turn : HoldsPairwise (DeclarationsAlike names others) bag other) where
+module _ (like : Likeness) (bag other : Bag) (turn : HoldsPairwise (DeclarationsAlike like) bag other) where
   -- the same keys are declared, and defined
   pub common_same : map (λ (each : PlainName × Expr). each.0) (declared_common bag) ≡ map (λ (each : PlainName
       × Expr). each.0) (declared_common other)
-  common_same = keys_pairwise (DeclarationsAlike names others) (λ it. common_in (declared_name it) it.body) (λ (each : PlainName
-      × Expr). each.0) (common_keys names others) bag other turn
+  common_same = keys_pairwise (DeclarationsAlike like) (λ it. common_in (declared_name it) it.body) (λ (each : PlainName
+      × Expr). each.0) (common_keys like) bag other turn
 
   pub entity_same : map (λ (each : PlainName × EntityBody). each.0) (declared_entities bag) ≡ map (λ (each : PlainName
       × EntityBody). each.0) (declared_entities other)
-  entity_same = keys_pairwise (DeclarationsAlike names others) (λ it. entity_in (declared_name it) it.body) (λ (each : PlainName
-      × EntityBody). each.0) (entity_keys names others) bag other turn
+  entity_same = keys_pairwise (DeclarationsAlike like) (λ it. entity_in (declared_name it) it.body) (λ (each : PlainName
+      × EntityBody). each.0) (entity_keys like) bag other turn
 
   pub action_same : action_uids bag ≡ action_uids other
-  action_same = keys_pairwise (DeclarationsAlike names others) (λ it. action_in (declared_uid it) it.body) (λ (each : PlainUid
-      × ActionBody). each.0) (action_keys names others) bag other turn
+  action_same = keys_pairwise (DeclarationsAlike like) (λ it. action_in (declared_uid it) it.body) (λ (each : PlainUid
+      × ActionBody). each.0) (action_keys like) bag other turn
 
   pub defined_entity_same : map (λ (each : PlainName × EntityBody). each.0) (defined_entities bag)
       ≡ map (λ (each : PlainName × EntityBody). each.0) (defined_entities other)
@@ -109,7 +104,7 @@ module _ (names others : Names) (bag other : Bag) (turn : HoldsPairwise (Declara
       let given = λ (it : Declaration). entity_in (declared_name it) it.body in
       let defined = λ (each : PlainName × EntityBody). entity_definition_in each.0 each.1 in
       ap (map key) (nested given defined bag)
-      ∙ (keys_pairwise (DeclarationsAlike names others) entity_defined_by key (entity_defined_keys names others) bag other turn
+      ∙ (keys_pairwise (DeclarationsAlike like) entity_defined_by key (entity_defined_keys like) bag other turn
       ∙ sym (ap (map key) (nested given defined other)))
 
   pub defined_action_same : map (λ (each : PlainUid × Requests). each.0) (defined_actions bag)
@@ -119,7 +114,7 @@ module _ (names others : Names) (bag other : Bag) (turn : HoldsPairwise (Declara
       let given = λ (it : Declaration). action_in (declared_uid it) it.body in
       let defined = λ (each : PlainUid × ActionBody). action_definition_in each.0 each.1.applies_to in
       ap (map key) (nested given defined bag)
-      ∙ (keys_pairwise (DeclarationsAlike names others) action_defined_by key (action_defined_keys names others) bag other turn
+      ∙ (keys_pairwise (DeclarationsAlike like) action_defined_by key (action_defined_keys like) bag other turn
       ∙ sym (ap (map key) (nested given defined other)))
 
   pub types_same : declared_types bag ≡ declared_types other
@@ -157,70 +152,60 @@ module _ (names others : Names) (bag other : Bag) (turn : HoldsPairwise (Declara
 
   -- what the one declares under a key the other does, alike
   moved : {Key It : Type 0} (of : Kind Key It) (ItAlike : It → It → Type 0)
-      → ((it found : Declaration) → DeclarationsAlike names others it found → of.key_of it ≡ of.key_of found)
-      → ((it : It) (body : Body) → BodiesAlike names others (of.body_of it) body → (found : It) × (body ≡ of.body_of found) × ItAlike it found)
+      → ((it found : Declaration) → DeclarationsAlike like it found → of.key_of it ≡ of.key_of found)
+      → ((it : It) (body : Body) → BodiesAlike like (of.body_of it) body → (found : It) × (body ≡ of.body_of found) × ItAlike it found)
       → (key : Key) (it : It) → Contains (declared of bag) (key, it)
       → (found : It) × Contains (declared of other) (key, found) × ItAlike it found
   moved of ItAlike same_key turned key it among =
       let by = declaration of bag key it among in
-      let found = turn_forth (DeclarationsAlike names others) bag other turn by.0 by.1 in
-      let like = turned it found.0.body (rw by.2 at found.2.2) in (
-        like.0,
-        subst (λ each. Contains (declared of other) (each, like.0)) (sym (same_key by.0 found.0 found.2) ∙ by.3)
-            (declares of other found.0 like.0 found.1 like.1),
-        like.2,
+      let found = turn_forth (DeclarationsAlike like) bag other turn by.0 by.1 in
+      let alike = turned it found.0.body (rw by.2 at found.2.2) in (
+        alike.0,
+        subst (λ each. Contains (declared of other) (each, alike.0)) (sym (same_key by.0 found.0 found.2) ∙ by.3)
+            (declares of other found.0 alike.0 found.1 alike.1),
+        alike.2,
       )
 
   -- so it is with entity types, actions and common types
   pub entity_moved : (name : PlainName) (body : EntityBody) → Contains (declared_entities bag) (name, body) → (found : EntityBody)
-      × Contains (declared_entities other) (name, found) × EntitiesAlike names others body found
-  entity_moved = moved entity_types (EntitiesAlike names others) (alike_name names others) by where
-    by : (it : EntityBody) (body : Body) → BodiesAlike names others (entity_type it) body
-        → (found : EntityBody) × (body ≡ entity_type found) × EntitiesAlike names others it found
-    by it (entity_type found) like = (found, refl, like)
-    by it _ like = absurd like
+      × Contains (declared_entities other) (name, found) × EntitiesAlike like body found
+  entity_moved = moved entity_types (EntitiesAlike like) (alike_name like) by where
+    by : (it : EntityBody) (body : Body) → BodiesAlike like (entity_type it) body
+        → (found : EntityBody) × (body ≡ entity_type found) × EntitiesAlike like it found
+    by it (entity_type found) alike = (found, refl, alike)
+    by it _ alike = absurd alike
 
   pub action_moved : (uid : PlainUid) (body : ActionBody) → Contains (declared_actions bag) (uid, body) → (found : ActionBody)
-      × Contains (declared_actions other) (uid, found) × BodiesAlike names others (action body) (action found)
-  action_moved = moved actions (λ it found. BodiesAlike names others (action it) (action found)) (alike_uid names others) by where
-    by : (it : ActionBody) (body : Body) → BodiesAlike names others (action it) body
-        → (found : ActionBody) × (body ≡ action found) × BodiesAlike names others (action it) (action found)
-    by it (action found) like = (found, refl, like)
-    by it _ like = absurd like
+      × Contains (declared_actions other) (uid, found) × BodiesAlike like (action body) (action found)
+  action_moved = moved actions (λ it found. BodiesAlike like (action it) (action found)) (alike_uid like) by where
+    by : (it : ActionBody) (body : Body) → BodiesAlike like (action it) body
+        → (found : ActionBody) × (body ≡ action found) × BodiesAlike like (action it) (action found)
+    by it (action found) alike = (found, refl, alike)
+    by it _ alike = absurd alike
 
   pub common_moved : (name : PlainName) (definition : Expr) → Contains (declared_common bag) (name, definition) → (found : Expr)
-      × Contains (declared_common other) (name, found) × AreAlike names others definition found
-  common_moved = moved common_types (AreAlike names others) (alike_name names others) by where
-    by : (it : Expr) (body : Body) → BodiesAlike names others (common_type it) body
-        → (found : Expr) × (body ≡ common_type found) × AreAlike names others it found
-    by it (common_type found) like = (found, refl, like)
-    by it _ like = absurd like
+      × Contains (declared_common other) (name, found) × like.expr definition found
+  common_moved = moved common_types like.expr (alike_name like) by where
+    by : (it : Expr) (body : Body) → BodiesAlike like (common_type it) body
+        → (found : Expr) × (body ≡ common_type found) × like.expr it found
+    by it (common_type found) alike = (found, refl, alike)
+    by it _ alike = absurd alike
 
--- what a built-in base name stands for is alike itself
-built_in_alike : (names others : Names) (extensions : Extensions) (word : Text) (body : Expr)
-    → Contains (built_in_types extensions) (word, body) → AreAlike names others body body
-built_in_alike names others extensions word body (zero, below, is) =
-    subst (λ each. AreAlike names others each.1 each.1) is alike_truth
-built_in_alike names others extensions word body (suc zero, below, is) =
-    subst (λ each. AreAlike names others each.1 each.1) is alike_long
-built_in_alike names others extensions word body (suc (suc zero), below, is) =
-    subst (λ each. AreAlike names others each.1 each.1) is alike_text
-built_in_alike names others extensions word body (suc (suc (suc k)), below, is) =
-    let found = Contains-preimage (λ name. (name.base, extension_expr name.base)) (extension_types extensions)
-    (word, body) (k, omega (arith, below), is) in
-    subst (λ each. AreAlike names others each.1 each.1) found.2 (alike_extension found.0.base)
+-- what built-in types stand for is alike itself
+abbrev pub KeepsBuiltIns : Likeness → Extensions → Type 0
+KeepsBuiltIns like extensions = (word : Text) (body : Expr) → Contains (built_in_types extensions) (word, body) → like.expr body body
 
-module _ (names others : Names) (bag other : Bag) (extensions : Extensions) (turn : HoldsPairwise
-    (DeclarationsAlike names others) bag other) where
+module _ (like : Likeness) (bag other : Bag) (extensions : Extensions) (turn : HoldsPairwise (DeclarationsAlike like) bag other)
+    (keeps : KeepsBuiltIns like extensions) where
   -- a common type that the one defines the other does, alike
   pub definition_moved : (name : PlainName) (body : Expr) → Contains (definitions bag extensions).common (name, body) → (found : Expr)
-      × Contains (definitions other extensions).common (name, found) × AreAlike names others body found
+      × Contains (definitions other extensions).common (name, found) × like.expr body found
   definition_moved name body among =
       elim (Contains-append_cases (declared_common bag ++ built_ins extensions) (aliases bag extensions) (name, body) among) [
         | inl here ↦
             elim (Contains-append_cases (declared_common bag) (built_ins extensions) (name, body) here) [
               | inl declared ↦
-                  let found = common_moved names others bag other turn name body declared in (
+                  let found = common_moved like bag other turn name body declared in (
                     found.0,
                     Contains-append_left (declared_common other ++ built_ins extensions) (aliases other extensions) (name, found.0)
                         (Contains-append_left (declared_common other) (built_ins extensions) (name, found.0) found.1),
@@ -232,13 +217,13 @@ module _ (names others : Names) (bag other : Bag) (extensions : Extensions) (tur
                     body,
                     Contains-append_left (declared_common other ++ built_ins extensions) (aliases other extensions) (name, body)
                         (Contains-append_right (declared_common other) (built_ins extensions) (name, body) built_in),
-                    rw (ap (λ (each : PlainName × Expr). each.1) entry.2) at (built_in_alike names others extensions entry.0.0 entry.0.1 entry.1),
+                    rw (ap (λ (each : PlainName × Expr). each.1) entry.2) at (keeps entry.0.0 entry.0.1 entry.1),
                   )
             ]
         | inr alias ↦ (
           body,
           Contains-append_right (declared_common other ++ built_ins extensions) (aliases other extensions) (name, body)
-              (rw (aliases_same names others bag other turn extensions) at alias),
-          built_in_alike names others extensions name.base body (alias_of bag extensions name body alias).0,
+              (rw (aliases_same like bag other turn extensions) at alias),
+          keeps name.base body (alias_of bag extensions name body alias).0,
         )
       ]

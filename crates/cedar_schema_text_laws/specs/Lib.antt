@@ -1,0 +1,5 @@
+pub mod RoundTrip
+pub mod Sayable
+pub mod TextForm
+pub mod TextNames
+pub mod Words

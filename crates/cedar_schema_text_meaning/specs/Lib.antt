@@ -1,0 +1,4 @@
+pub mod TextForm
+pub mod TextMeaning
+pub mod TogetherWritten
+pub mod WritableBag
