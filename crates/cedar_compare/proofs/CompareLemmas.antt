@@ -17,7 +17,6 @@ use Rattle.cedar_ast.proofs.PlainNames.{name_cmp-total, uid_cmp-total}
 use Rattle.cedar_compare.proofs.AllLemmas.{AreAllSubjects, RequestsSoFar, all_losses, nothing_lost, requests_more}
 use Rattle.cedar_compare.proofs.LeftLemmas.{SureSoFar}
 use Rattle.cedar_compare.proofs.ReportedLemmas.{AnswersSoFar, answered_append, answered_none, reported_kept, reported_lost, reported_none}
-use Rattle.cedar_compare.proofs.SortedLemmas.{one_at}
 use Rattle.cedar_compare.specs.Words.{ActionEntity, ActionKind, AreActionAnswers, AreActionEntities, AreAllRequests, AreAnswers, AreEnvironmentSubjects, AreLosses, Difference, Entity, EntityType, EntityTypeKind, EntityUID, Extensions, IsAnswer, IsCompleteSchema, IsEntityOfAction, IsKeyed, IsLoss, Keeps, PlainDifference, PlainName, PlainSchema, PlainUid, SchemaAction, SchemaEntityType, Subject, ValidatorActionId, ValidatorEntityType, ValidatorSchema, action_entries, action_lost, action_of, action_subject, action_subjects, defined_action, entity_lost, entity_type_of, entity_uid, environment_subject, external_action, external_actions, external_kind, external_types, is_external_kind, is_external_type, name_cmp, plain_action_entity, plain_action_entry, plain_difference, plain_entry, plain_type, request_lost, schema_entries, schema_of, schema_with, subject_cmp, type_name, type_subject, type_subjects, uid_cmp, uid_of, unresolved, unresolved_action, unresolved_type}
 use Rattle.cedar_queries.proofs.SelectedLemmas.{Contains-kept}
 use Rattle.cedar_schema_semantics.proofs.OccurrenceLemmas.{Contains-filter}
@@ -232,15 +231,6 @@ pub nothing_reported : (extensions : Extensions) (old new : PlainSchema) → Kee
 nothing_reported extensions old new keeps [] losses = refl
 nothing_reported extensions old new keeps (it ∷ rest) losses =
     let none = no_losses extensions old new keeps (map plain_difference (it ∷ rest)) losses in absurd cc
-
--- a schema has what stands under its names and uids once, since these are in order
-pub schema_keyed : (schema : ValidatorSchema) → IsKeyed (schema_of schema)
-schema_keyed schema = record {
-  types = one_at name_cmp name_cmp-total (schema_of schema).entity_types
-      (∥∥₁_elim schema.content.in_order (Prim.hlevel props) (λ ordered. ordered.entity_types));
-  actions = one_at uid_cmp uid_cmp-total (schema_of schema).actions
-      (∥∥₁_elim schema.content.in_order (Prim.hlevel props) (λ ordered. ordered.actions));
-}
 
 module _ {A : Type 0} (P : A → Type 0) (all : List A) where
   -- at first all are left, in some order

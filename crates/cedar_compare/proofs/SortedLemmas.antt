@@ -45,24 +45,3 @@ module _ {A : Type 0} where
           (all_of (λ y. R x y ≡ Less) ys (λ y among. below x y (Contains-cons x xs x (inl refl)) among)),
       sorted_append xs ys sorted.1 others (λ z y among. below z y (Contains-cons x xs z (inr among))),
     )
-
--- of entries whose keys are in order there is one at each key
-pub one_at : {K V : Type 0} (R : K → K → Ordering) → IsTotalOrder R → (entries : List (K × V))
-    → IsStrictlySortedBy R (map (λ (it : K × V). it.0) entries) → (key : K) (it other : V) → Contains entries (key, it)
-    → Contains entries (key, other) → it ≡ other
-unfolding IsStrictlySortedBy
-one_at R total [] sorted key it other among also = absurd (omega (arith, among.1))
-one_at {K} {V} R total (first ∷ rest) sorted key it other among also =
-    let not_later : (value : V) → first.0 ≡ key → ¬ Contains rest (key, value) = λ value same later.
-    not_itself R total first.0 key same
-    (AllByRecursion-at (λ k. R first.0 k ≡ Less) (map (λ (e : K × V). e.0) rest) key sorted.0 (Contains-image (λ (e : K × V). e.0) rest (key, value) later)) in
-    ⊎_elim
-    (λ (here : first ≡ (key, it)). ⊎_elim
-    (λ (here' : first ≡ (key, other)). ap (λ (e : K × V). e.1) (sym here ∙ here'))
-    (λ later. absurd (not_later other (ap (λ (e : K × V). e.0) here) later))
-    (Contains-cons_cases first rest (key, other) also))
-    (λ later. ⊎_elim
-    (λ (here' : first ≡ (key, other)). absurd (not_later it (ap (λ (e : K × V). e.0) here') later))
-    (λ later'. one_at R total rest sorted.1 key it other later later')
-    (Contains-cons_cases first rest (key, other) also))
-    (Contains-cons_cases first rest (key, it) among)

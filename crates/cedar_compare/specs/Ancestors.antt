@@ -8,7 +8,7 @@ use Rattle.cedar_ast.specs.declared.entity_type.EntityType.{EntityType}
 use Rattle.cedar_ast.specs.declared.entity_uid.EntityUID.{EntityUID}
 use Rattle.cedar_compare.specs.Choices.{MayHave, kind_choices}
 use Rattle.cedar_compare.specs.Difference.{IsActionCause, PlainCause}
-use Rattle.cedar_compare.specs.Entities.{MayStandAbove}
+use Rattle.cedar_entities.specs.Entities.{MayStandAbove}
 use Rattle.cedar_schema_semantics.specs.Words.{DefinesAction, ListsDescendantAction, PlainSchema, SchemaEntityType}
 
 -- what is kept under the name that a key stands for

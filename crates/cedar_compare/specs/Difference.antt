@@ -8,7 +8,7 @@ use Rattle.cedar_ast.specs.Words.{PlainName, PlainUid, name_cmp, uid_cmp}
 use Rattle.cedar_ast.specs.declared.extension.Extensions.{Extensions}
 use Rattle.cedar_compare.specs.Choices.{MayHave, kind_choices}
 use Rattle.cedar_compare.specs.Keeps.{IsLostAction, IsLostEntity, IsLostRequest, KeepsAction, KeepsEntityType, KeepsRequest, LosesAction, LosesEntityType, LosesRequest}
-use Rattle.cedar_compare.specs.Requests.{IsOfTypes, PlainRequest}
+use Rattle.cedar_entities.specs.Requests.{IsOfTypes, PlainRequest}
 use Rattle.cedar_counterexample.specs.Steps.{IsOutsideAt, PlainStep}
 use Rattle.cedar_schema_semantics.specs.Words.{ActionEntity, DefinesAction, EntityTypeKind, Environment, IsEnvironmentOf, ListsDescendant, ListsDescendantAction, PlainSchema, SchemaEntityType, enumerated_kind, external_kind, standard_kind}
 use Rattle.cedar_type_rules.specs.Ty.{Ty, record_of}

@@ -1,33 +1,10 @@
--- The entities that a schema admits.
-use Rattle.std.specs.Prelude.{◌≡◌, ◌⊎◌, [], Option, Some, None, Contains}
-use Rattle.cedar_ast.specs.Words.{Entries, IsValue, PlainName, PlainUid, Text, Tree, entry_at, map_value, no_entry, uid_value}
+-- The entities that a schema admits, by the types of what they name.
+use Rattle.std.specs.Prelude.{◌≡◌, ◌⊎◌, [], Contains}
+use Rattle.cedar_ast.specs.Words.{PlainUid, map_value, no_entry}
 use Rattle.cedar_ast.specs.declared.extension.Extensions.{Extensions}
+use Rattle.cedar_entities.specs.Entities.{AreTagsOf, MayStandAbove}
 use Rattle.cedar_schema_semantics.specs.Words.{ActionEntity, EntityTypeKind, IsEntityOfAction, PlainSchema, SchemaEntityType, enumerated_kind, external_kind, standard_kind}
-use Rattle.cedar_type_rules.specs.Words.{Has, Ty, record_of}
-
--- an entity is one of the language: its uid, its attributes, its tags and the uids above it are
-abbrev pub IsReal : ActionEntity → Type 0
-IsReal it =
-    IsValue (uid_value it.uid) × IsValue (map_value it.attributes) × IsValue (map_value it.tags)
-    × ((upper : PlainUid) → Contains it.ancestors upper → IsValue (uid_value upper))
-
--- each tag has the type; without a type there are none
-abbrev pub AreTagsOf : Extensions → Option Ty → Entries → Type 0
-AreTagsOf extensions None tags = tags ≡ no_entry
-AreTagsOf extensions (Some ty) tags =
-    (name : Text) (value : Tree) → entry_at name tags ≡ Some value → Has extensions value ty
-
--- an entity of the kind may have the id: of an enumerated type it is one of the choices
-abbrev pub IsIdOf : EntityTypeKind → Text → Type 0
-IsIdOf (enumerated_kind choices) id = Contains choices id
-IsIdOf _ id = Unit {0}
-
--- the uid may stand above entities of a type: its type has that one among its descendants, and may
--- have its id
-abbrev pub MayStandAbove : PlainSchema → PlainName → PlainUid → Type 0
-MayStandAbove schema name upper =
-    (it : SchemaEntityType) × Contains schema.entity_types (upper.ty, it)
-    × Contains it.descendants name × IsIdOf it.kind upper.eid
+use Rattle.cedar_type_rules.specs.Words.{Has, record_of}
 
 -- an entity is of a kind: of a standard one with the attributes and tags of their types, and with
 -- uids above it that may stand there; of an enumerated one a choice and nothing else

@@ -5,7 +5,6 @@ pub mod Difference
 pub mod Entities
 pub mod Fresh
 pub mod Keeps
-pub mod Lookup
 pub mod Losses
 pub mod LostEntities
 pub mod LostRequests

@@ -3,7 +3,8 @@ use Rattle.std.specs.Prelude.{◌≡◌, List, [], Option, Some, None, Contains}
 use Rattle.cedar_ast.specs.Words.{Entries, IsValue, PlainName, PlainUid, Text, Tree, entry, map_value, no_entry}
 use Rattle.cedar_ast.specs.declared.extension.Extensions.{Extensions}
 use Rattle.cedar_compare.specs.Difference.{AreTagsOutside, IsLoss, IsTypeCause, PlainCause, PlainDifference, subject_of, type_subject}
-use Rattle.cedar_compare.specs.Entities.{AreTagsOf, IsEntityIn, MayStandAbove}
+use Rattle.cedar_entities.specs.Entities.{AreTagsOf, MayStandAbove}
+use Rattle.cedar_compare.specs.Entities.{IsEntityIn}
 use Rattle.cedar_counterexample.specs.Steps.{PlainStep, steps_of}
 use Rattle.cedar_counterexample.specs.declared.found.Outside.{Outside}
 use Rattle.cedar_schema_semantics.specs.Words.{ActionEntity, PlainSchema, SchemaEntityType, enumerated_kind}

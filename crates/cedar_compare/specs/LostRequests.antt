@@ -4,7 +4,7 @@ use Rattle.std.specs.Prelude.{List, Option, Some, None, Contains, map}
 use Rattle.cedar_ast.specs.Words.{PlainName, PlainUid, uid_of}
 use Rattle.cedar_ast.specs.declared.extension.Extensions.{Extensions}
 use Rattle.cedar_compare.specs.Difference.{Subject, environment_subject}
-use Rattle.cedar_compare.specs.Lookup.{IsActionAt}
+use Rattle.cedar_schema.specs.Lookup.{IsActionAt}
 use Rattle.cedar_compare.specs.LostEntities.{plain_outside}
 use Rattle.cedar_compare.specs.PlainRequests.{IsContextOutside}
 use Rattle.cedar_compare.specs.declared.requests.ComparedRequests.{ComparedRequests}

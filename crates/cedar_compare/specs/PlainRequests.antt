@@ -4,7 +4,8 @@ use Rattle.cedar_ast.specs.Words.{IsValue, PlainName, PlainUid, Text, Tree}
 use Rattle.cedar_ast.specs.declared.extension.Extensions.{Extensions}
 use Rattle.cedar_compare.specs.Choices.{kind_choices}
 use Rattle.cedar_compare.specs.Difference.{AreAnswers, LacksChoice, PlainDifference, Subject, environment_subject}
-use Rattle.cedar_compare.specs.Requests.{IsRealRequest, MayHaveId, PlainRequest}
+use Rattle.cedar_entities.specs.Exists.{MayHaveId}
+use Rattle.cedar_entities.specs.Requests.{IsRealRequest, PlainRequest}
 use Rattle.cedar_counterexample.specs.Steps.{IsOutsideAt, PlainStep}
 use Rattle.cedar_schema_semantics.specs.Words.{Environment, IsContextOf, IsEnvironmentOf, PlainSchema, SchemaAction, SchemaEntityType}
 use Rattle.cedar_type_rules.specs.Words.{Has, Ty, ValuesIncluded}

@@ -1,7 +1,7 @@
 -- Differences as plain data.
 use Rattle.cedar_ast.specs.Words.{type_name, uid_of}
 use Rattle.cedar_compare.specs.Difference.{PlainCause, PlainDifference, action_above, action_lost, attributes_outside, choice_removed, context_outside, entity_lost, removed, request_lost, tags_outside, type_above}
-use Rattle.cedar_compare.specs.Requests.{PlainRequest}
+use Rattle.cedar_entities.specs.Requests.{PlainRequest}
 use Rattle.cedar_compare.specs.declared.difference.Cause.{Cause}
 use Rattle.cedar_compare.specs.declared.difference.Cause.TheVariants as cause
 use Rattle.cedar_compare.specs.declared.difference.Difference.{Difference}

@@ -3,7 +3,7 @@ use Rattle.std.specs.Prelude.{◌≡◌, List, map}
 use Rattle.cedar_ast.specs.Words.{Entries, IsValue, PlainName, PlainUid, Tree, entities_of, uid_value}
 use Rattle.cedar_ast.specs.declared.extension.Extensions.{Extensions}
 use Rattle.cedar_compare.specs.Fresh.{IsFreshIn}
-use Rattle.cedar_compare.specs.Lookup.{IsKeyed}
+use Rattle.cedar_schema.specs.Lookup.{IsKeyed}
 use Rattle.cedar_compare.specs.declared.versions.Versions.{Versions}
 use Rattle.cedar_schema.specs.ValidatorSchema.{action_entries, schema_of}
 use Rattle.cedar_schema_elements.specs.ActionEntities.{plain_action_entity, schema_with}

@@ -60,16 +60,19 @@ pub use Rattle.cedar_compare.specs.Ancestors.{AreActionAncestors, AreActionAnces
 pub use Rattle.cedar_compare.specs.Choices.{IsIdOutside, MayHave, choice_texts, kind_choices}
 pub use Rattle.cedar_compare.specs.CompareFault.{IsComparable, IsCompareFault, IsCompleteSchema, IsUnsampledType, IsVersionFault}
 pub use Rattle.cedar_compare.specs.Difference.{AreAnswers, AreLosses, AreTagsOutside, IsActionCause, IsAlike, IsAnswer, IsCauseOfKinds, IsEnvironmentFor, IsLoss, IsTypeCause, KeepsOf, LacksChoice, LosesOf, PlainCause, PlainDifference, Subject, action_above, action_lost, action_subject, attributes_outside, choice_removed, context_outside, entity_lost, environment_subject, removed, request_lost, subject_cmp, subject_of, tags_outside, type_subject}
-pub use Rattle.cedar_compare.specs.Entities.{AreTagsOf, IsEntityIn, IsEntityOfKind, IsEntityOfType, IsIdOf, IsReal, MayStandAbove}
+pub use Rattle.cedar_entities.specs.Entities.{AreTagsOf, IsReal, MayStandAbove}
+pub use Rattle.cedar_compare.specs.Entities.{IsEntityIn, IsEntityOfKind, IsEntityOfType}
 pub use Rattle.cedar_compare.specs.Fresh.{IsFreshIn, NoLongerChoice}
 pub use Rattle.cedar_compare.specs.Keeps.{IsLostAction, IsLostEntity, IsLostRequest, Keeps, KeepsAction, KeepsEntityType, KeepsRequest, LosesAction, LosesEntityType, LosesRequest}
-pub use Rattle.cedar_compare.specs.Lookup.{IsActionAt, IsAt, IsKeyed, IsTypeAt, plain_type}
+pub use Rattle.cedar_schema.specs.Lookup.{IsActionAt, IsAt, IsKeyed, IsTypeAt, plain_type}
 pub use Rattle.cedar_compare.specs.Losses.{AreAllRequests, AreEnvironmentSubjects, action_subjects, type_subjects}
 pub use Rattle.cedar_compare.specs.LostEntities.{AreKept, IsAncestorCause, IsBelowAnswer, IsBesideAnswer, IsChoiceAnswer, IsChoiceOf, IsSampleOf, IsTagOutside, IsTypeLoss, bare_entity, one_tag, plain_outside}
 pub use Rattle.cedar_compare.specs.LostRequests.{AreRequestsOf, IsAppliedBy, context_at, environment_with, new_action, subjects_with}
 pub use Rattle.cedar_compare.specs.PlainRequests.{AreActionAnswers, AreChoicesAt, HasEnvironment, IsContextIn, IsContextOutside, IsEnvironmentLacking, IsSampleRequest, IsUidOfType, IsUidOutside}
 pub use Rattle.cedar_compare.specs.Reported.{plain_cause, plain_difference, plain_request}
-pub use Rattle.cedar_compare.specs.Requests.{IsOfTypes, IsRealRequest, IsRequestIn, MayHaveId, PlainRequest}
+pub use Rattle.cedar_entities.specs.Exists.{IsIdOf, MayHaveId}
+pub use Rattle.cedar_entities.specs.Requests.{IsOfTypes, IsRealRequest, PlainRequest}
+pub use Rattle.cedar_compare.specs.Requests.{IsRequestIn}
 pub use Rattle.cedar_compare.specs.Samples.{choice, user, user_of, users, with_age, without_attributes}
 pub use Rattle.cedar_compare.specs.SchemaBelow.{ActionBelow, KindBelow, SchemaBelow, TagsBelow}
 pub use Rattle.cedar_compare.specs.Versions.{AreVersions, IsFreshEntity, IsSchemaSampled, IsStandard, new_of, old_of}

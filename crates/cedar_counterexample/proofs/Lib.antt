@@ -1,7 +1,10 @@
+pub mod BetweenLemmas
+pub mod ExchangedLemmas
 pub mod FillingLemmas
 pub mod FreshLemmas
 pub mod NameLists
 pub mod NamedLemmas
+pub mod NamingLemmas
 pub mod PutLemmas
 pub mod Sizes
 pub mod StartLemmas

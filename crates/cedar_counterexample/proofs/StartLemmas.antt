@@ -63,7 +63,7 @@ lacks_alone extensions lower upper upper_openness name required ty value whole f
     (HasFieldsBy-of (Gives extensions) whole upper name required ty holds.1 also))
 
 -- a value of an attribute of the record has the types of the attributes of its name
-own_fits : (extensions : Extensions) (lower : Fields) (name : Text) (own_required : Bool) (own : Ty) (value : Tree) → IsSortedByName lower
+pub own_fits : (extensions : Extensions) (lower : Fields) (name : Text) (own_required : Bool) (own : Ty) (value : Tree) → IsSortedByName lower
     → HasField lower name own_required own → Has extensions value own → (n : Text) (v : Tree) (r : Bool) (t : Ty)
     → entry_at n (entry name value no_entry) ≡ Some v → HasField lower n r t → Has extensions v t
 own_fits extensions lower name own_required own value sorted_by_name has holds n v r t found there =
@@ -72,7 +72,7 @@ own_fits extensions lower name own_required own value sorted_by_name has holds n
     subst (Has extensions v) same.1 (subst (λ w. Has extensions w own) is.1 holds)
 
 -- a name of an attribute is listed
-own_listed : (lower : Fields) (openness : OpenTag) (name : Text) (own_required : Bool) (own : Ty) (value : Tree) → HasField lower name own_required own
+pub own_listed : (lower : Fields) (openness : OpenTag) (name : Text) (own_required : Bool) (own : Ty) (value : Tree) → HasField lower name own_required own
     → NamesListed (is_open openness) (entry_names (entry name value no_entry)) (field_names lower)
 own_listed lower openness name own_required own value has =
     only_listed openness (entry name value no_entry) lower
@@ -93,7 +93,7 @@ attribute_start extensions lower upper openness upper_openness name own_required
     }
 
 -- a value under a name that the record lacks has no attribute to fit
-fresh_fits : (extensions : Extensions) (lower : Fields) (name : Text) (value : Tree) → ¬ Contains (field_names lower) name → (n : Text) (v : Tree)
+pub fresh_fits : (extensions : Extensions) (lower : Fields) (name : Text) (value : Tree) → ¬ Contains (field_names lower) name → (n : Text) (v : Tree)
     (r : Bool) (t : Ty) → entry_at n (entry name value no_entry) ≡ Some v → HasField lower n r t → Has extensions v t
 fresh_fits extensions lower name value fresh n v r t found has =
     let is = alone_is name n value v found in

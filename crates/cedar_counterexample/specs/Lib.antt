@@ -1,7 +1,10 @@
+pub mod Between
 pub mod Counterexample
 pub mod Filling
+pub mod LostIds
 pub mod RecordShape
 pub mod Search
+pub mod StandsFor
 pub mod Steps
 pub mod ValueEntries
 pub mod Words

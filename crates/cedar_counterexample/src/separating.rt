@@ -17,7 +17,11 @@ use std::alloc::Global;
 use std::collections::BTreeMap;
 
 /// One value under a name.
-fn alone(alloc: Global, name: String, value: RestrictedExpr) -> M<BTreeMap<String, RestrictedExpr>>
+pub(crate) fn alone(
+    alloc: Global,
+    name: String,
+    value: RestrictedExpr,
+) -> M<BTreeMap<String, RestrictedExpr>>
     ensures { IfOk result (λ values.
         entries_of values ≡ entry (string_bytes name) (tree_of value) no_entry) }
 {
@@ -42,7 +46,7 @@ fn found_here(alloc: Global, found: Option<RestrictedExpr>) -> Option<Found>
 }
 
 /// The set of one value that was found.
-fn in_set(alloc: Global, found: Found) -> M<Found>
+pub(crate) fn in_set(alloc: Global, found: Found) -> M<Found>
     ensures { IfOk result (λ set. found_of set ≡ found_element (found_of found)) }
 {
     let Found { expr, steps } = found;
@@ -52,7 +56,7 @@ fn in_set(alloc: Global, found: Found) -> M<Found>
 }
 
 /// The start of one value, which was found for the attribute of a name.
-fn start_with(alloc: Global, name: &String, found: Found) -> M<Start>
+pub(crate) fn start_with(alloc: Global, name: &String, found: Found) -> M<Start>
     ensures { IfOk result (λ start.
         start_of start ≡ start_through (string_bytes name.now) (found_of found)) }
 {

@@ -9,6 +9,7 @@ pub mod InOrder
 mod Itself
 mod KnownBags
 mod KnownOfBuilt
+pub mod Lookups
 mod Mapped
 pub mod NamespaceLemmas
 mod ReadySteps

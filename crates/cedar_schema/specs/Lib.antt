@@ -1,6 +1,7 @@
 pub mod CollectedFragments
 pub mod Located
 pub mod LocatedType
+pub mod Lookup
 pub mod NamedOver
 pub mod SchemaKeys
 pub mod SchemaParts

@@ -1,4 +1,5 @@
 -- The words of clauses, from one place.
+pub use Rattle.cedar_ast.specs.Eid.{eid_text}
 pub use Rattle.cedar_ast.specs.Entities.{entities_of}
 pub use Rattle.cedar_ast.specs.EntityType.{type_loc, type_name}
 pub use Rattle.cedar_ast.specs.EntityUID.{uid_loc, uid_of, uid_type_loc}
@@ -8,6 +9,7 @@ pub use Rattle.cedar_ast.specs.InternalName.{name_loc, name_of}
 pub use Rattle.cedar_ast.specs.Iterators.{HoldsOfAll}
 pub use Rattle.cedar_ast.specs.Lists.{HoldsPairwise, Included, SameItems}
 pub use Rattle.cedar_ast.specs.Name.{plain_name}
+pub use Rattle.cedar_ast.specs.NonEmpty.{items_of}
 pub use Rattle.cedar_ast.specs.PlainName.{IsActionType, IsReserved, PlainName, name_cmp, name_text}
 pub use Rattle.cedar_ast.specs.PlainUid.{PlainUid, uid_cmp}
 pub use Rattle.cedar_ast.specs.Text.{Text}
@@ -27,6 +29,7 @@ pub use Rattle.cedar_elaboration.specs.DeclaredTypes.{AreElaborated, AreTypesOf}
 pub use Rattle.cedar_elaboration.specs.Scope.{Covers, elaborated_types}
 pub use Rattle.cedar_elaboration.specs.SoundTypes.{CommonTypesAreSound}
 pub use Rattle.cedar_elaboration.specs.declared.type_scope.TypeScope.{TypeScope}
+pub use Rattle.cedar_entities.specs.Exists.{Exists, IsIdOf, MayHaveId}
 pub use Rattle.cedar_fragments.specs.DefinitionFault.{HasNoDefinitionFault, NamesAllWithAttributes}
 pub use Rattle.cedar_fragments.specs.FragmentDeclarations.{conditional_bag, written_bag}
 pub use Rattle.cedar_fragments.specs.FragmentFault.{NamesAllOfADefinition}
@@ -101,6 +104,7 @@ pub use Rattle.cedar_validation.specs.LastNamed.{last_named, last_of_uid}
 pub use Rattle.cedar_schema.specs.CollectedFragments.{AreCollectedFragments}
 pub use Rattle.cedar_schema.specs.Located.{AreShown, Shows, ShowsFragments, ShowsWritten, common_entries, namespace_entries}
 pub use Rattle.cedar_schema.specs.LocatedType.{loc_at, type_at}
+pub use Rattle.cedar_schema.specs.Lookup.{IsActionAt, IsAt, IsKeyed, IsTypeAt, plain_type}
 pub use Rattle.cedar_schema.specs.NamedOver.{IsNamedOver}
 pub use Rattle.cedar_schema.specs.SchemaKeys.{AreKeysLocated}
 pub use Rattle.cedar_schema.specs.SchemaParts.{parts_schema}

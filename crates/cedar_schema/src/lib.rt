@@ -56,6 +56,7 @@ mod collecting;
 mod common_types;
 mod converted_back;
 pub mod entity_type;
+mod existing;
 mod iterators;
 pub mod laws;
 mod located;

@@ -17,7 +17,8 @@ pub trait SchemaLookup: Sized {
 
     /// The type of a literal uid: that of the entities of the uid's entity type. None unless the
     /// uid is that of an action of the schema, where its type is a type of actions, or else its
-    /// type is declared. Out of memory is the only refusal.
+    /// type is declared. Whether it is one of the choices of an enumerated entity type isn't looked
+    /// at: [`ValidatorSchema::entity_exists`] tells it. Out of memory is the only refusal.
     fn euid_literal(alloc: Global, uid: &EntityUID, schema: &ValidatorSchema) -> M<Option<Self>>
         ensures known { IfOk result (λ literal. IsSome literal
             ↔ IsKnownUid (schema_of schema.now).entity_types (schema_of schema.now).actions

@@ -157,6 +157,9 @@ impl Type {
     /// A call of an extension function has the extension type that the function returns, if the
     /// arguments fit. Where no function has the name, and the value would have the type if it gave
     /// one of the extension type that is asked for there, the answer is the lookup fault.
+    ///
+    /// Of a uid its type alone is looked at, and not whether it is one of the choices of an
+    /// enumerated entity type or an action of a schema, as `ValidatorSchema::entity_exists` does.
     #[cycle(member)]
     pub fn typecheck_restricted_expr<'v>(
         &self,
@@ -200,7 +203,8 @@ impl Type {
     /// Whether a value has this type, as of the expression that stands for it.
     ///
     /// Where a call names no function, and the value would have the type if that gave one of the
-    /// extension type that is asked for there, the answer is the lookup fault.
+    /// extension type that is asked for there, the answer is the lookup fault. Of a uid its type
+    /// alone is looked at, and not whether it exists in a schema.
     pub fn typecheck_value<'v>(
         &self,
         value: &'v Value,

@@ -1,3 +1,4 @@
+pub mod EntitySamples
 pub mod Samples
 pub mod Words
 pub mod WrittenSamples

@@ -1,4 +1,4 @@
-use Rattle.cedar_compare.proofs.CompareLemmas.{schema_keyed}
+use Rattle.cedar_schema.proofs.Lookups.{schema_keyed}
 use Rattle.cedar_compare.proofs.comparing.lost.Goals as goal
 
 pub losses-requires-clause-versions : goal.losses-requires-clause-versions

@@ -1,6 +1,6 @@
 use Rattle.std.specs.Option.{option_copied}
 use Rattle.cedar_ast.specs.EntityUID.{uid_of}
-use Rattle.cedar_compare.proofs.FindLemmas.{action_at}
+use Rattle.cedar_schema.proofs.Lookups.{action_at}
 use Rattle.cedar_compare.proofs.versions.find_action.Goals as goal
 
 pub returns : goal.returns

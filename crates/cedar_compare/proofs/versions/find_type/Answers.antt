@@ -1,6 +1,6 @@
 use Rattle.std.specs.Option.{option_copied}
 use Rattle.cedar_ast.specs.EntityType.{type_name}
-use Rattle.cedar_compare.proofs.FindLemmas.{type_at}
+use Rattle.cedar_schema.proofs.Lookups.{type_at}
 use Rattle.cedar_compare.proofs.versions.find_type.Goals as goal
 
 pub returns : goal.returns

@@ -1,0 +1,4 @@
+pub mod ExchangeLemmas
+pub mod FreshTypes
+pub mod KeptIds
+pub mod KeptLemmas
