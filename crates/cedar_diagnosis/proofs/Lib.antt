@@ -1,0 +1,15 @@
+pub mod AddingLemmas
+pub mod CountedLemmas
+pub mod DefinedLemmas
+pub mod GivenLemmas
+pub mod KeyLemmas
+pub mod KindLemmas
+pub mod LentLemmas
+pub mod ListedSoFar
+pub mod MentionLemmas
+pub mod NameLemmas
+pub mod ParentLemmas
+pub mod ReferenceLemmas
+pub mod ReferringKinds
+pub mod RepeatedLemmas
+pub mod TogetherLemmas

@@ -1,0 +1,83 @@
+-- What is found in single declarations.
+use Rattle.std.specs.Prelude.{◌≡◌, true, List, [], ◌∷◌, Contains, Some}
+use Rattle.cedar_ast.specs.Words.{IsActionType, IsReserved, IsUnqualified, PlainName, PlainUid, Text, action_word, extension_types}
+use Rattle.cedar_ast.specs.declared.extension.Extensions.{Extensions}
+use Rattle.cedar_diagnosis.specs.Mentioned.{HasToResolveIn, MentionsIn}
+use Rattle.cedar_diagnosis.specs.Names.{action_uids_in, entity_names_in, type_names_in}
+use Rattle.cedar_schema_ast.specs.Words.{ActionBody, ActionReference, Declaration, Reference, action}
+use Rattle.cedar_schema_semantics.specs.Words.{Fault, IsEntityTypePosition, IsUnresolved, Names, NamesNoAction, ResolvesTo, ShadowsType, action_attributes, action_entity_type, action_not_defined, action_shadowing, alias_name, type_not_defined, type_shadowing, undeclared_entity_types, unknown_extension_type}
+
+-- an extension type of this base name isn't among those that were handed in
+abbrev pub IsUnknownExtension : Extensions → Text → Fault → Type 0
+IsUnknownExtension extensions word fault =
+    (¬ Contains (extension_types extensions) (alias_name word))
+    × (unknown_extension_type (alias_name word) ≡ fault)
+
+-- in an expression that counts an extension type stands that isn't among those
+abbrev pub FindsUnknownExtension : Extensions → Declaration → Fault → Type 0
+FindsUnknownExtension extensions it fault =
+    (word : Text) × MentionsIn it.body word × IsUnknownExtension extensions word fault
+
+-- the reference names nothing
+abbrev pub IsUndefinedType : Names → Reference → Fault → Type 0
+IsUndefinedType names reference fault =
+    IsUnresolved names reference × (type_not_defined (reference ∷ []) ≡ fault)
+
+-- a reference that has to name something names nothing
+abbrev pub FindsUndefinedType : Names → Declaration → Fault → Type 0
+FindsUndefinedType names it fault =
+    (reference : Reference) × HasToResolveIn it.body reference
+    × IsUndefinedType names reference fault
+
+-- the reference names the type of some actions
+abbrev pub IsUndeclaredType : Names → Reference → Fault → Type 0
+IsUndeclaredType names reference fault =
+    (name : PlainName) × ResolvesTo names reference name × IsActionType name × (¬ IsReserved name)
+    × (undeclared_entity_types (name ∷ []) ≡ fault)
+
+-- at the position of an entity type the type of some actions is named
+abbrev pub FindsUndeclaredType : Names → Declaration → Fault → Type 0
+FindsUndeclaredType names it fault =
+    (reference : Reference) × IsEntityTypePosition it.body reference
+    × IsUndeclaredType names reference fault
+
+-- an action is declared with attributes
+abbrev pub FindsAttributes : Declaration → Fault → Type 0
+FindsAttributes it fault =
+    (body : ActionBody) × (it.body ≡ action body) × (body.has_attributes ≡ true)
+    × (action_attributes (it.id ∷ []) ≡ fault)
+
+-- an entity type is declared with the base name of types of actions
+abbrev pub FindsActionType : Declaration → Fault → Type 0
+FindsActionType it fault =
+    (name : PlainName) × Contains (entity_names_in it) name × IsActionType name
+    × (action_entity_type name ≡ fault)
+
+-- a type is declared whose base name is that of one in the empty namespace
+abbrev pub FindsShadowedType : List PlainName → Declaration → Fault → Type 0
+FindsShadowedType types it fault =
+    (name : PlainName) × Contains (type_names_in it) name
+    × Contains types (alias_name name.base) × ShadowsType (alias_name name.base) name
+    × (type_shadowing (alias_name name.base) name ≡ fault)
+
+-- the uid of an action of this id in the empty namespace
+abbrev pub plain_uid : Text → PlainUid
+plain_uid id = record { ty = alias_name action_word; eid = id }
+
+-- an action is declared whose id is that of one in the empty namespace
+abbrev pub FindsShadowedAction : List PlainUid → Declaration → Fault → Type 0
+FindsShadowedAction actions it fault =
+    (uid : PlainUid) × Contains (action_uids_in it) uid × Contains actions (plain_uid uid.eid)
+    × (¬ IsUnqualified uid.ty) × (action_shadowing (plain_uid uid.eid) uid ≡ fault)
+
+-- the parent of an action names no action
+abbrev pub IsUndefinedParent : List PlainUid → ActionReference → Fault → Type 0
+IsUndefinedParent actions parent fault =
+    NamesNoAction actions parent
+    × (action_not_defined ((parent.id, Some parent.ty) ∷ []) ≡ fault)
+
+-- an action is declared with a parent that names none
+abbrev pub FindsUndefinedParent : List PlainUid → Declaration → Fault → Type 0
+FindsUndefinedParent actions it fault =
+    (body : ActionBody) × (it.body ≡ action body) × (parent : ActionReference)
+    × Contains body.parents parent × IsUndefinedParent actions parent fault

@@ -1,0 +1,11 @@
+pub mod Adding
+pub mod BuiltIn
+pub mod Diagnosis
+pub mod Finding
+pub mod KeyTies
+pub mod Kinds
+pub mod Lent
+pub mod Mentioned
+pub mod Names
+pub mod ReferenceKeys
+pub mod Ties
