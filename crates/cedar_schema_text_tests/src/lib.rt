@@ -1,19 +1,11 @@
-//! Tests of Cedar's schema text: rows of texts, each with its tokens, the schema that it is or its
-//! fragment, or with how it is refused and where; and rows of fragments, each with its text.
+//! Tests of Cedar's schema text: tokens, layouts, texts that are read and written again, and
+//! fragments that are written beside others. `tests/text.rows` and the files beside it have what the program shows.
 #![tactic(auto)]
 
 #[cfg(test)]
-mod answer;
+mod layouts;
 #[cfg(test)]
-mod grammar;
-#[cfg(test)]
-mod levels;
-#[cfg(test)]
-mod line;
-#[cfg(test)]
-mod meaning;
-#[cfg(test)]
-mod refusals;
+mod texts;
 #[cfg(test)]
 mod tokens;
 #[cfg(test)]

@@ -1,34 +1,27 @@
 //! Texts and their tokens.
 
-use crate::line::at;
 use cedar_ast::M;
-use cedar_schema_tokens::{Lexeme, Token, read};
-use shorthand::checked::same;
+use cedar_schema_tokens::{Token, read};
+use checked::same;
 use std::alloc::Global;
 use std::test::Fail;
 
-/// Adds what stands at a token's place, and what a quoted text says.
-fn push_token(alloc: Global, line: &mut String, text: &str, token: &Token<'_>) -> M<()> {
-    line.push_str(at(text, token.loc))?;
-    match &token.lexeme {
-        Lexeme::Id(id) => line.push_str(format!(in alloc; "={id} ")?.as_str())?,
-        Lexeme::Text(said) => {
-            line.push_str(format!(in alloc; "={:?} ", said.as_str())?.as_str())?;
-        }
-        Lexeme::Symbol(symbol) => line.push_str(format!(in alloc; "={symbol:?} ")?.as_str())?,
-    }
-    Ok(())
+/// A token: what stands at its place, and what it is.
+fn token_text(alloc: Global, text: &str, token: &Token<'_>) -> M<String> {
+    let (start, stop) = (token.loc.start as usize, token.loc.stop as usize);
+    let there = text.get(start..stop).unwrap_or("?");
+    Ok(format!(in alloc; "{there}={:?}", token.lexeme)?)
 }
 
 /// The tokens of a text on one line, or the refusal.
 fn tokens(alloc: Global, text: &str) -> M<String> {
     match read(alloc, text, 0) {
         Ok(tokens) => {
-            let mut line = String::new(alloc);
+            let mut texts = Vec::new(alloc);
             for token in &tokens {
-                push_token(alloc, &mut line, text, token)?;
+                texts.push(token_text(alloc, text, token)?)?;
             }
-            Ok(line)
+            Ok(texts.join(alloc, " ")?)
         }
         Err(fault) => Ok(format!(in alloc; "{fault:?}")?),
     }
@@ -37,43 +30,48 @@ fn tokens(alloc: Global, text: &str) -> M<String> {
 /// Texts, each with its tokens.
 const TOKENS: &[(&str, &str)] = &[
     ("", ""),
-    ("a_1 _ Z9", "a_1=a_1 _=_ Z9=Z9 "),
+    ("a_1 _ Z9", r#"a_1=Id("a_1") _=Id("_") Z9=Id("Z9")"#),
     ("a-b", "BadCharacter(Loc { source: 0, start: 1, stop: 2 })"),
-    (":::", "::=PathSeparator :=Colon "),
-    (": :,;?", ":=Colon :=Colon ,=Comma ;=Semicolon ?=Question "),
+    (":::", "::=Symbol(PathSeparator) :=Symbol(Colon)"),
+    (
+        ": :,;?",
+        ":=Symbol(Colon) :=Symbol(Colon) ,=Symbol(Comma) ;=Symbol(Semicolon) ?=Symbol(Question)",
+    ),
     (
         "=<>[]",
-        "==Equals <=Less >=Greater [=OpenBracket ]=CloseBracket ",
+        "==Symbol(Equals) <=Symbol(Less) >=Symbol(Greater) [=Symbol(OpenBracket) \
+         ]=Symbol(CloseBracket)",
     ),
     (
         "{}()@",
-        "{=OpenBrace }=CloseBrace (=OpenParenthesis )=CloseParenthesis @=At ",
+        "{=Symbol(OpenBrace) }=Symbol(CloseBrace) (=Symbol(OpenParenthesis) \
+         )=Symbol(CloseParenthesis) @=Symbol(At)",
     ),
-    (r#""""#, r#"""="" "#),
-    (r#""a // b"c"#, r#""a // b"="a // b" c=c "#),
+    (r#""""#, r#"""=Text("")"#),
+    (r#""a // b"c"#, r#""a // b"=Text("a // b") c=Id("c")"#),
     (
         r#""\n\r\t\0\\\"\'""#,
-        "\"\\n\\r\\t\\0\\\\\\\"\\'\"=\"\\n\\r\\t\\0\\\\\\\"'\" ",
+        "\"\\n\\r\\t\\0\\\\\\\"\\'\"=Text(\"\\n\\r\\t\\0\\\\\\\"'\")",
     ),
     (
         r#""\x00\x7F\x7f\x41""#,
-        "\"\\x00\\x7F\\x7f\\x41\"=\"\\0\\u{7f}\\u{7f}A\" ",
+        "\"\\x00\\x7F\\x7f\\x41\"=Text(\"\\0\\u{7f}\\u{7f}A\")",
     ),
-    (r#""\u{0}\u{41}""#, r#""\u{0}\u{41}"="\0A" "#),
+    (r#""\u{0}\u{41}""#, r#""\u{0}\u{41}"=Text("\0A")"#),
     (
         r#""\u{00e4}\u{10FFFF}""#,
-        "\"\\u{00e4}\\u{10FFFF}\"=\"ä\\u{10ffff}\" ",
+        "\"\\u{00e4}\\u{10FFFF}\"=Text(\"ä\\u{10ffff}\")",
     ),
     (
         r#""\u{d7ff}\u{E000}""#,
-        "\"\\u{d7ff}\\u{E000}\"=\"\\u{d7ff}\\u{e000}\" ",
+        "\"\\u{d7ff}\\u{E000}\"=Text(\"\\u{d7ff}\\u{e000}\")",
     ),
-    ("\"ä\nb\tc\0\"", "\"ä\nb\tc\0\"=\"ä\\nb\\tc\\0\" "),
-    ("a//", "a=a "),
-    ("a// b\r\nc", "a=a c=c "),
+    ("\"ä\nb\tc\0\"", "\"ä\nb\tc\0\"=Text(\"ä\\nb\\tc\\0\")"),
+    ("a//", r#"a=Id("a")"#),
+    ("a// b\r\nc", r#"a=Id("a") c=Id("c")"#),
     (
         "a\u{b}\u{c}\u{1680}\u{200a}\u{2029}\u{202f}\u{205f}b",
-        "a=a b=b ",
+        r#"a=Id("a") b=Id("b")"#,
     ),
     (
         "a\u{200b}b",

@@ -1,18 +1,17 @@
 //! Copies of a fragment.
 
 use crate::stop::Stop;
-use cedar_json::fragment_from_json;
 use cedar_schema::json_schema::{ConditionalName, Fragment, RawName};
 use cedar_schema::namespace::ValidatorSchemaFragment;
+use cedar_schema_text::fragment_from_text;
 use std::alloc::Global;
 
 /// An action in a namespace, below one in another namespace.
-const BELOW: &str = r#"{"B": {"entityTypes": {}, "actions": {
-  "view": {"memberOf": [{"id": "all", "type": "A::Action"}]}}}}"#;
+const BELOW: &str = "namespace B { action view in A::Action::\"all\"; }";
 
 /// The fragment of one action.
 fn written(alloc: Global) -> Result<Fragment<RawName>, Stop> {
-    Ok(fragment_from_json(alloc, BELOW, 0)?)
+    Ok(fragment_from_text(alloc, BELOW, 0)?)
 }
 
 /// The text of a copy, which is to be that of what is copied.

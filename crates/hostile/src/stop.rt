@@ -1,8 +1,8 @@
 //! Why a scenario gives no answer.
 
-use cedar_json::JsonSchemaFault;
 use cedar_schema::below::{Memory, NameFault};
 use cedar_schema::{CoreTypeFault, JoinError, SchemaError};
+use cedar_schema_text::TextFault;
 use std::alloc::{AllocError, AllocFailed};
 
 /// Why a scenario gives no answer.
@@ -61,8 +61,8 @@ impl From<SchemaError> for Stop {
     }
 }
 
-impl From<JsonSchemaFault> for Stop {
-    fn from(refused: JsonSchemaFault) -> Self {
-        refused_where(matches!(refused, JsonSchemaFault::Memory))
+impl From<TextFault> for Stop {
+    fn from(refused: TextFault) -> Self {
+        refused_where(matches!(refused, TextFault::Memory))
     }
 }

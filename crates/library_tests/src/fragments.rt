@@ -1,19 +1,13 @@
-//! Tests of names and values, of fragments and of their plain data, of the names that they declare
-//! and define, of what references resolve to, and of common types that are elaborated.
+//! Tests of names and values, of fragments and their copies, of the names that they declare and
+//! define, of what references resolve to, and of common types that are elaborated.
 
-mod below;
 mod common;
-mod copies;
-mod declarations;
+pub(crate) mod copies;
+mod defined;
+mod entities;
 mod given;
 mod names;
-mod parts;
-pub(crate) mod plain;
-mod qualification;
-mod reading;
-mod refusals;
+pub(crate) mod nested;
+mod qualified;
 mod resolution;
-mod shadowing;
-mod shown;
-mod types;
-mod written;
+pub(crate) mod shown;

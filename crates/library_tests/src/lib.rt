@@ -2,6 +2,8 @@
 //! types and actions, of the closure of edges, and of Cedar's JSON.
 #![tactic(auto)]
 
+#[cfg(test)]
+mod asked;
 pub mod closure;
 #[cfg(test)]
 mod fragments;

@@ -2,6 +2,7 @@
 
 mod actions;
 mod attributes;
+mod between;
 mod copies;
 mod core_types;
 mod divergence;
@@ -9,7 +10,7 @@ mod edges;
 mod entity_types;
 mod joins;
 mod large;
-mod members;
+mod pairs;
 mod requests;
 mod separate;
 pub(crate) mod test_values;

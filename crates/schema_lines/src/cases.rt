@@ -1,4 +1,4 @@
-//! The built-in cases, as texts in Cedar's JSON schema format, one for each fragment.
+//! The built-in cases, as texts in Cedar's schema syntax, one for each fragment.
 
 ghost use Rattle.std.specs.Prelude.{◌≡◌, [], ◌∷◌, IfOk};
 ghost use Rattle.cedar_ast.specs.Extensions.{extension_types};
@@ -9,21 +9,18 @@ use crate::names::name;
 use cedar_json::{JsonSchemaFault, fragment_from_json};
 use cedar_schema::below::{CoreSchemaType, ExtensionFunction, Extensions, M};
 use cedar_schema::json_schema::{Fragment, RawName};
+use cedar_schema_text::{TextFault, fragment_from_text};
 use std::alloc::{AllocFailed, Global};
 use std::collections::BTreeMap;
 
 /// An entity type that is named as a built-in type: the name alone stands for it, and not for the
 /// built-in type.
 const ALIAS: &[&str] = &[
-    r#"{"": {"actions": {}, "entityTypes": {
-  "String": {},
-  "U": {"shape": {"type": "Record", "attributes": {
-    "a": {"type": "EntityOrCommon", "name": "String"},
-    "b": {"type": "EntityOrCommon", "name": "__cedar::String"},
-    "c": {"type": "String"}}}}}}}"#,
+    "entity String;
+entity U { a: String, b: __cedar::String, c: __cedar::String };",
 ];
 
-/// A name that is declared as a common type and as an entity type.
+/// A name that is declared as a common type and as an entity type. Only JSON can say which is meant.
 const BOTH: &[&str] = &[
     r#"{"N": {"actions": {}, "commonTypes": {"T": {"type": "Long"}},
   "entityTypes": {
@@ -35,77 +32,56 @@ const BOTH: &[&str] = &[
 
 /// Common types that form a cycle.
 const CYCLE: &[&str] = &[
-    r#"{"": {"actions": {}, "entityTypes": {}, "commonTypes": {
-  "A": {"type": "Record", "attributes": {
-    "b": {"type": "EntityOrCommon", "name": "B"},
-    "n": {"type": "EntityOrCommon", "name": "Long"}}},
-  "B": {"type": "Set", "element": {"type": "EntityOrCommon", "name": "A"}}}}}"#,
+    "type A = { b: B, n: Long };
+type B = Set<A>;",
 ];
 
 /// An entity type that is external in one fragment, and defined in another.
 const LINKED: &[&str] = &[
-    r#"{"": {"actions": {}, "entityTypes": {
-  "User": {"external": true, "memberOfTypes": ["Group"]}}}}"#,
-    r#"{"": {"actions": {}, "entityTypes": {
-  "Group": {},
-  "Team": {},
-  "User": {"memberOfTypes": ["Team"], "shape": {"type": "Record", "attributes": {
-    "age": {"type": "Long"}}}}}}}"#,
+    "external entity User in [Group];",
+    "entity Group;
+entity Team;
+entity User in [Team] { age: Long };",
 ];
 
 /// Users in groups, photos in albums, and the action of viewing a photo.
 const PHOTOS: &[&str] = &[
-    r#"{"": {
-  "entityTypes": {
-    "Album": {},
-    "Group": {},
-    "Photo": {"memberOfTypes": ["Album"]},
-    "User": {"memberOfTypes": ["Group"]}},
-  "actions": {"view_photo": {"appliesTo": {
-    "principalTypes": ["User", "Group"], "resourceTypes": ["Photo"]}}}}}"#,
+    "entity Album;
+entity Group;
+entity Photo in [Album];
+entity User in [Group];
+action view_photo appliesTo { principal: [User, Group], resource: [Photo] };",
 ];
 
 /// Two entity types, each below the other.
 const RING: &[&str] = &[
-    r#"{"": {"actions": {}, "entityTypes": {
-  "A": {"memberOfTypes": ["B"]},
-  "B": {"memberOfTypes": ["A"]}}}}"#,
+    "entity A in [B];
+entity B in [A];",
 ];
 
 /// A common type in a namespace, of the name of an entity type in the empty one.
-const SHADOW: &[&str] = &[
-    r#"{"": {"actions": {}, "entityTypes": {"User": {}}}}"#,
-    r#"{"N": {"actions": {}, "entityTypes": {}, "commonTypes": {"User": {"type": "Long"}}}}"#,
-];
+const SHADOW: &[&str] = &["entity User;", "namespace N { type User = Long; }"];
 
 /// Entity types with attributes of several types.
 const SHAPES: &[&str] = &[
-    r#"{"": {"actions": {}, "entityTypes": {
-  "Team": {"shape": {"type": "Record", "attributes": {
-    "lead": {"type": "Entity", "name": "User"}}}},
-  "User": {"shape": {"type": "Record", "attributes": {
-    "age": {"type": "Long"},
-    "home": {"type": "Record", "attributes": {"city": {"type": "String"}}},
-    "nick": {"type": "String", "required": false},
-    "roles": {"type": "Set", "element": {"type": "String"}}}}}}}}"#,
+    "entity Team { lead: User };
+entity User { age: Long, home: { city: String }, nick?: String, roles: Set<String> };",
 ];
 
 /// What `PHOTOS` declares, each declaration in a fragment of its own, the last first.
 const SPLIT: &[&str] = &[
-    r#"{"": {"entityTypes": {}, "actions": {"view_photo": {"appliesTo": {
-  "principalTypes": ["User", "Group"], "resourceTypes": ["Photo"]}}}}}"#,
-    r#"{"": {"actions": {}, "entityTypes": {"Album": {}}}}"#,
-    r#"{"": {"actions": {}, "entityTypes": {"Photo": {"memberOfTypes": ["Album"]}}}}"#,
-    r#"{"": {"actions": {}, "entityTypes": {"Group": {}}}}"#,
-    r#"{"": {"actions": {}, "entityTypes": {"User": {"memberOfTypes": ["Group"]}}}}"#,
+    "action view_photo appliesTo { principal: [User, Group], resource: [Photo] };",
+    "entity Album;",
+    "entity Photo in [Album];",
+    "entity Group;",
+    "entity User in [Group];",
 ];
 
 /// An external entity type below an enumerated one.
 const TINT: &[&str] = &[
-    r#"{"": {"actions": {}, "entityTypes": {
-  "Color": {"enum": ["red"]},
-  "Shade": {"memberOfTypes": ["Color"]},
-  "Tint": {"external": true, "memberOfTypes": ["Shade"]}}}}"#,
+    "entity Color enum [\"red\"];
+entity Shade in [Color];
+external entity Tint in [Shade];",
 ];
 
 /// The texts of a case.
@@ -130,7 +106,7 @@ fn texts_of(case: Case) -> &'static [&'static str] {
 pub(crate) enum Unread {
     /// A growth was refused.
     Memory,
-    /// A text of the case isn't one of the format.
+    /// A text of the case is in neither format.
     Text,
 }
 
@@ -140,10 +116,21 @@ impl<T: Drop> From<AllocFailed<T>> for Unread {
     }
 }
 
-/// The fragment of a text.
-fn fragment(alloc: Global, text: &str) -> Result<Fragment<RawName>, Unread> {
+/// The fragment of a text in the JSON format.
+fn fragment_of_json(alloc: Global, text: &str) -> Result<Fragment<RawName>, Unread> {
     fragment_from_json(alloc, text, 0).map_err(|fault| match fault {
         JsonSchemaFault::Memory => Unread::Memory,
+        _ => Unread::Text,
+    })
+}
+
+/// The fragment of a text, which is JSON where it begins with `{`.
+fn fragment(alloc: Global, text: &str) -> Result<Fragment<RawName>, Unread> {
+    if text.starts_with('{') {
+        return fragment_of_json(alloc, text);
+    }
+    fragment_from_text(alloc, text, 0).map_err(|fault| match fault {
+        TextFault::Memory => Unread::Memory,
         _ => Unread::Text,
     })
 }

@@ -1,12 +1,25 @@
-//! Tests of whole schemas: worked rows of what the builder answers, what schemas answer to
-//! questions, and what two versions of a schema admit apart from each other.
+//! Tests of whole schemas over Cedar's schema text: what schemas answer to questions, which are equal,
+//! what the builders and validation answer of what no file declares, what is converted back and
+//! compared, and how large types are.
 #![tactic(auto)]
 
 #[cfg(test)]
+mod comparisons;
+#[cfg(test)]
+mod converted_back;
+#[cfg(test)]
+mod equality;
+#[cfg(test)]
 mod measured;
 #[cfg(test)]
-mod queries;
+mod parts;
 #[cfg(test)]
-mod vectors;
+mod plain;
 #[cfg(test)]
-mod versions;
+mod questions;
+#[cfg(test)]
+mod reserved;
+#[cfg(test)]
+mod schemas;
+#[cfg(test)]
+mod validation;

@@ -6,7 +6,7 @@ use cedar_schema::SchemaError;
 use cedar_schema::below::{M, Memory};
 use cedar_schema::json_schema::{Fragment, RawName};
 use cedar_written_out::{DeclaredType, Measured, written_out};
-use shorthand::checked::same;
+use checked::same;
 use std::alloc::Global;
 use std::test::Fail;
 

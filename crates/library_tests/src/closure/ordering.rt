@@ -2,7 +2,7 @@
 
 use cedar_ast::M;
 use cedar_graph::{Ordered, lowest_first, topo_sort};
-use shorthand::checked::{one_of, same};
+use checked::{one_of, same};
 use std::alloc::Global;
 use std::test::Fail;
 

@@ -4,7 +4,7 @@ use crate::closure::member::{Member, edges_in_all, mark_of, nodes_of};
 use cedar_ast::M;
 use cedar_graph::{TCNode, compute_tc, compute_tc_counted, link_table};
 use cedar_table::Table;
-use shorthand::checked::{holds, one_of, same};
+use checked::{holds, one_of, same};
 use std::alloc::Global;
 use std::collections::BTreeMap;
 use std::test::Fail;

@@ -1,17 +1,19 @@
 //! What references resolve to, by what is defined under their names.
 
-use crate::fragments::declarations::fragments_of;
-use crate::fragments::refusals::refusal_text;
-use cedar_ast::{EntityType, InternalName};
+use crate::asked::{Question, Rows, check, told};
+use crate::fragments::copies::conditional;
+use crate::fragments::shown::is_alike;
+use crate::types::test_values::PLACE;
+use cedar_ast::EntityType;
 use cedar_fragments::namespace::ActionParent;
 use cedar_name_resolution::defs::{AllDefs, ResolveName, WrittenName, resolve_all};
-use cedar_schema_ast::json_schema::{ConditionalName, QualifyError, ReferenceType};
+use cedar_schema_ast::json_schema::{ConditionalName, ReferenceType, Type, TypeVariant};
 use cedar_schema_elements::ValidatorApplySpec;
-use cedar_schema_semantics::SchemaError;
-use shorthand::checked::same;
-use shorthand::names::{internal_name, raw};
+use checked::names::{internal_name, raw};
+use checked::{holds, same};
 use std::alloc::Global;
 use std::collections::HashSet;
+use std::fmt::Write;
 use std::test::Fail;
 
 /// A reference of a kind that is written in the namespace `N`.
@@ -20,65 +22,42 @@ fn reference(alloc: Global, written: &str, kind: ReferenceType) -> Result<Condit
     Ok(raw(alloc, written)?.conditionally_qualify_with(alloc, Some(&inside), kind)?)
 }
 
-/// In the namespace `N` the common type `T`, the entity type `Both`, the common type `Both` and the
-/// action `a`; in the empty namespace the entity types `T` and `Only` and the action `b`; and in a
-/// reserved one a common type.
-const DEFINED: &[&str] = &[
-    "N: type T = Long; type Both = Long; entity Both; action a",
-    ": entity T; external entity Only; action b",
-    "__cedar: type Foo = Long",
-];
+/// What is declared, beside two types in a reserved namespace.
+const DEFINED: &str = "namespace N {
+  type T = Long;
+  type Both = Long;
+  entity Both;
+  action a;
+}
+entity T, Only;
+action b;";
 
-/// The name that a reference resolved to, or why it was refused.
-fn shown(alloc: Global, resolved: Result<InternalName, QualifyError>) -> Result<String, Fail> {
-    match resolved {
-        Ok(full) => Ok(full.to_string(alloc)?),
-        Err(error) => Ok(error.to_string(alloc)?),
-    }
+/// The names of that.
+fn defined(alloc: Global) -> Result<AllDefs, Fail> {
+    let mut all_defs = AllDefs::single_fragment(alloc, &conditional(alloc, DEFINED)?)?;
+    all_defs.mark_as_defined_as_common_type(internal_name(alloc, "__cedar::Foo")?)?;
+    all_defs.mark_as_defined_as_entity_type(internal_name(alloc, "__cedar::U")?)?;
+    Ok(all_defs)
 }
 
-/// References that are written in the namespace `N`, each with what it resolves to.
-const REFERENCES: &[(&str, ReferenceType, &str)] = &[
-    ("T", ReferenceType::Common, "N::T"),
-    ("T", ReferenceType::Entity, "T"),
-    ("T", ReferenceType::CommonOrEntity, "N::T"),
-    ("Both", ReferenceType::Entity, "N::Both"),
-    ("Only", ReferenceType::CommonOrEntity, "Only"),
-    (
-        "Only",
-        ReferenceType::Common,
-        "no common type is declared as N::Only or Only",
-    ),
-    (
-        "Action",
-        ReferenceType::Entity,
-        "no entity type is declared as N::Action or Action",
-    ),
-    (
-        "__cedar::Foo",
-        ReferenceType::CommonOrEntity,
-        "__cedar::Foo",
-    ),
-    (
-        "M::Gone",
-        ReferenceType::CommonOrEntity,
-        "no type is declared as M::Gone",
-    ),
-];
-
-#[test]
-fn references_resolve_to_the_first_that_is_permitted(rt: HostRuntime) -> Result<(), Fail> {
-    let alloc = rt.alloc();
-    let all_defs = AllDefs::new(alloc, &fragments_of(alloc, DEFINED)?)?;
-    for &(written, kind, expected) in REFERENCES {
-        let found = reference(alloc, written, kind)?.resolve(&all_defs);
-        same(written, shown(alloc, found)?.as_str(), expected)?;
-    }
-    Ok(())
+/// What is asked about a text that is written in the namespace `N`.
+#[derive(Clone, Copy)]
+enum Asked {
+    /// What a reference of the kind resolves to.
+    Reference(ReferenceType),
+    /// What it stands for as a raw name, at a position of the kind.
+    Raw(ReferenceType),
+    /// What it stands for as a reference, at a position of the kind.
+    Conditional(ReferenceType),
+    /// The action of which it is the type, `::` and the id.
+    Parent,
+    /// What several entity types, with a blank between them, resolve to.
+    Several,
+    /// What requests by the principal on itself come to name.
+    Requests,
 }
 
-/// The name of what a name stands for in the namespace `N`, or why the reference that it is there
-/// is refused.
+/// What a name stands for in the namespace `N`, or why the reference that it is there is refused.
 fn found_within<N: WrittenName>(
     alloc: Global,
     name: &N,
@@ -90,91 +69,200 @@ fn found_within<N: WrittenName>(
         Some(full) => Ok(full.to_string(alloc)?),
         None => {
             let reference = name.reference_within(alloc, kind, Some(&inside))?;
-            shown(alloc, reference.resolve(all_defs))
+            told(alloc, reference.resolve(all_defs))
         }
     }
 }
 
-#[test]
-fn names_resolve_where_they_are_written(rt: HostRuntime) -> Result<(), Fail> {
-    let alloc = rt.alloc();
-    let all_defs = AllDefs::new(alloc, &fragments_of(alloc, DEFINED)?)?;
-    for &(written, kind, expected) in REFERENCES {
-        let name = raw(alloc, written)?;
-        let found = found_within(alloc, &name, kind, &all_defs)?;
-        same(written, found.as_str(), expected)?;
-        let reference = reference(alloc, written, kind)?;
-        let found = found_within(alloc, &reference, kind, &all_defs)?;
-        same(written, found.as_str(), expected)?;
-    }
-    Ok(())
+/// The action that a parent names in the namespace `N`, or why it is refused.
+fn parent_named(alloc: Global, text: &str, all_defs: &AllDefs) -> Result<String, Fail> {
+    let (ty, id) = text.rsplit_once("::").ok_or("no type")?;
+    let inside = internal_name(alloc, "N")?;
+    let parent = ActionParent {
+        id: String::from_str(alloc, id)?,
+        ty: raw(alloc, ty)?,
+        loc: None,
+    };
+    told(alloc, parent.named_within(Some(&inside), all_defs))
 }
 
-/// Parents of actions that are written in the namespace `N`, each an id and the name of a type,
-/// with the action that is named or the refusal.
-const PARENTS: &[(&str, &str, &str)] = &[
-    ("a", "Action", "N::Action::\"a\""),
-    ("b", "Action", "Action::\"b\""),
+/// What some entity types resolve to, with a blank behind each.
+fn all_resolved(alloc: Global, text: &str, all_defs: &AllDefs) -> Result<String, Fail> {
+    let mut references = Vec::new(alloc);
+    for name in text.split(' ') {
+        references.push(reference(alloc, name, ReferenceType::Entity)?)?;
+    }
+    let mut names = String::new(alloc);
+    for name in &resolve_all(references, all_defs)? {
+        write!(names, "{name} ")?;
+    }
+    Ok(names)
+}
+
+/// Just the reference to an entity type that is written in the namespace `N`.
+fn entity(alloc: Global, written: &str) -> Result<HashSet<ConditionalName>, Fail> {
+    let reference = reference(alloc, written, ReferenceType::Entity)?;
+    Ok(HashSet::from_iter(alloc, [reference])?)
+}
+
+/// The entity types of the principal and of the resource of requests by one on one other.
+fn of_one(alloc: Global, spec: &ValidatorApplySpec<EntityType>) -> Result<String, Fail> {
+    let principal = spec.applicable_principal_types().next();
+    let resource = spec.applicable_resource_types().next();
+    match (principal, resource) {
+        (Some(principal), Some(resource)) => Ok(format!(in alloc; "{principal} on {resource}")?),
+        _ => Err(Fail::from("no requests")),
+    }
+}
+
+/// What a copy of requests by a principal on itself comes to name, or why it is refused.
+fn requested(alloc: Global, text: &str, all_defs: &AllDefs) -> Result<String, Fail> {
+    let spec = ValidatorApplySpec::new(entity(alloc, text)?, entity(alloc, text)?);
+    let copy = spec.clone()?;
+    match copy.fully_qualify_type_references(alloc, all_defs) {
+        Ok(spec) => of_one(alloc, &spec),
+        Err(error) => Ok(format!(in alloc; "{error}")?),
+    }
+}
+
+impl Asked {
+    /// What is answered where some names are defined.
+    fn answer_over(self, alloc: Global, text: &str, all_defs: &AllDefs) -> Result<String, Fail> {
+        match self {
+            Asked::Reference(kind) => told(alloc, reference(alloc, text, kind)?.resolve(all_defs)),
+            Asked::Raw(kind) => found_within(alloc, &raw(alloc, text)?, kind, all_defs),
+            Asked::Conditional(kind) => {
+                found_within(alloc, &reference(alloc, text, kind)?, kind, all_defs)
+            }
+            Asked::Parent => parent_named(alloc, text, all_defs),
+            Asked::Several => all_resolved(alloc, text, all_defs),
+            Asked::Requests => requested(alloc, text, all_defs),
+        }
+    }
+}
+
+impl Question for Asked {
+    fn answer(self, alloc: Global, text: &str) -> Result<String, Fail> {
+        self.answer_over(alloc, text, &defined(alloc)?)
+    }
+}
+
+/// Names at a position that permits common types.
+const COMMON: Rows = &[
+    ("T", "N::T"),
+    ("Only", "no common type is declared as N::Only or Only"),
+];
+
+/// Names at a position that permits entity types.
+const ENTITY: Rows = &[
+    ("T", "T"),
+    ("Both", "N::Both"),
     (
-        "b",
-        "N::Action",
-        "no action is declared as \"b\" of type N::Action",
-    ),
-    (
-        "c",
         "Action",
-        "no action is declared as \"c\" of type N::Action or Action",
+        "no entity type is declared as N::Action or Action",
     ),
 ];
 
-/// The action that a parent names in the namespace `N`, or why it is refused.
-fn parent_named<N: WrittenName>(
-    alloc: Global,
-    parent: &ActionParent<N>,
-    all_defs: &AllDefs,
-) -> Result<String, Fail> {
-    let inside = internal_name(alloc, "N")?;
-    match parent.named_within(Some(&inside), all_defs) {
-        Ok(uid) => Ok(format!(in alloc; "{uid}")?),
-        Err(error) => Ok(refusal_text(alloc, error)?),
+/// Names at a position that permits both.
+const COMMON_OR_ENTITY: Rows = &[
+    ("T", "N::T"),
+    ("Only", "Only"),
+    ("__cedar::Foo", "__cedar::Foo"),
+    ("M::Gone", "no type is declared as M::Gone"),
+];
+
+/// Types and ids of parents of actions.
+const PARENTS: Rows = &[
+    ("Action::a", "N::Action::\"a\""),
+    ("Action::b", "Action::\"b\""),
+    (
+        "N::Action::b",
+        "no action is declared as \"b\" of type N::Action",
+    ),
+];
+
+/// Several entity types.
+const SEVERAL: Rows = &[("Only T Both", "Only T N::Both ")];
+
+/// Principals that are resources too.
+const REQUESTS: Rows = &[
+    ("Both", "N::Both on N::Both"),
+    ("Only", "Only on Only"),
+    ("U", "no entity type is declared as N::U or U"),
+    ("__cedar::U", "the name __cedar::U is reserved"),
+];
+
+/// All rows.
+const ROWS: &[(Asked, Rows)] = &[
+    (Asked::Reference(ReferenceType::Common), COMMON),
+    (Asked::Reference(ReferenceType::Entity), ENTITY),
+    (
+        Asked::Reference(ReferenceType::CommonOrEntity),
+        COMMON_OR_ENTITY,
+    ),
+    (Asked::Raw(ReferenceType::Common), COMMON),
+    (Asked::Raw(ReferenceType::Entity), ENTITY),
+    (Asked::Raw(ReferenceType::CommonOrEntity), COMMON_OR_ENTITY),
+    (Asked::Conditional(ReferenceType::Common), COMMON),
+    (Asked::Conditional(ReferenceType::Entity), ENTITY),
+    (
+        Asked::Conditional(ReferenceType::CommonOrEntity),
+        COMMON_OR_ENTITY,
+    ),
+    (Asked::Parent, PARENTS),
+    (Asked::Several, SEVERAL),
+    (Asked::Requests, REQUESTS),
+];
+
+#[test]
+fn names_resolve_where_they_are_written(rt: HostRuntime) -> Result<(), Fail> {
+    check(rt.alloc(), ROWS)
+}
+
+/// The type that refers to a name, of the kind that is said, at a place.
+fn written<N: Drop>(kind: ReferenceType, name: N) -> Type<N> {
+    let loc = Some(PLACE);
+    match kind {
+        ReferenceType::Common => Type::CommonTypeRef {
+            type_name: name,
+            loc,
+        },
+        ReferenceType::Entity => Type::Plain {
+            ty: TypeVariant::Entity { name },
+            loc,
+        },
+        ReferenceType::CommonOrEntity => Type::Plain {
+            ty: TypeVariant::EntityOrCommon { type_name: name },
+            loc,
+        },
     }
 }
 
+/// Names of types that are written in the namespace `N`, each with what it may be of.
+const WRITTEN: &[(&str, ReferenceType)] = &[
+    ("T@1", ReferenceType::Common),
+    ("T@1", ReferenceType::Entity),
+    ("T@1", ReferenceType::CommonOrEntity),
+    ("M::T@1", ReferenceType::Common),
+    ("M::T@1", ReferenceType::Entity),
+    ("M::T@1", ReferenceType::CommonOrEntity),
+];
+
+/// Whether the type that refers to a name is qualified as the name is that is qualified by itself.
+fn is_by_its_name(alloc: Global, name: &str, kind: ReferenceType) -> Result<bool, Fail> {
+    let inside = internal_name(alloc, "N")?;
+    let by_name = written(kind, reference(alloc, name, kind)?);
+    let ty = written(kind, raw(alloc, name)?);
+    let qualified = ty.conditionally_qualify_type_references(alloc, Some(&inside));
+    Ok(is_alike(alloc, qualified, &by_name))
+}
+
 #[test]
-fn parents_name_actions_where_they_are_written(rt: HostRuntime) -> Result<(), Fail> {
-    let alloc = rt.alloc();
-    let all_defs = AllDefs::new(alloc, &fragments_of(alloc, DEFINED)?)?;
-    for &(id, ty, expected) in PARENTS {
-        let parent = ActionParent {
-            id: String::from_str(alloc, id)?,
-            ty: raw(alloc, ty)?,
-            loc: None,
-        };
-        let found = parent_named(alloc, &parent, &all_defs)?;
-        same(expected, found.as_str(), expected)?;
+fn types_are_qualified_by_their_names(rt: HostRuntime) -> Result<(), Fail> {
+    for &(name, kind) in WRITTEN {
+        holds(is_by_its_name(rt.alloc(), name, kind)?, name)?;
     }
     Ok(())
-}
-
-/// What references of one kind that are written in the namespace `N` resolve to, with a blank
-/// before each.
-fn all_resolved(alloc: Global, written: &[&str], kind: ReferenceType) -> Result<String, Fail> {
-    let all_defs = AllDefs::new(alloc, &fragments_of(alloc, DEFINED)?)?;
-    let mut references = Vec::new(alloc);
-    for name in written {
-        references.push(reference(alloc, name, kind)?)?;
-    }
-    let mut text = String::new(alloc);
-    for name in &resolve_all(references, &all_defs)? {
-        text = format!(in alloc; "{text} {name}")?;
-    }
-    Ok(text)
-}
-
-#[test]
-fn several_references_resolve_in_turn(rt: HostRuntime) -> Result<(), Fail> {
-    let names = all_resolved(rt.alloc(), &["Only", "T", "Both"], ReferenceType::Entity)?;
-    same("entity types", names.as_str(), " Only T N::Both")
 }
 
 #[test]
@@ -183,74 +271,4 @@ fn names_in_full_are_those_of_declarations(rt: HostRuntime) -> Result<(), Fail> 
     let inside = internal_name(alloc, "A::N")?;
     let full = raw(alloc, "T")?.qualify_with(alloc, Some(&inside))?;
     same("T", full.to_string(alloc)?.as_str(), "A::N::T")
-}
-
-/// Just the reference to an entity type that is written in the namespace `N`.
-fn entity(alloc: Global, written: &str) -> Result<HashSet<ConditionalName>, Fail> {
-    let mut references = HashSet::new(alloc);
-    references.insert(reference(alloc, written, ReferenceType::Entity)?)?;
-    Ok(references)
-}
-
-/// The names of some entity types, and no others.
-fn entity_types(alloc: Global, names: &[&str]) -> Result<AllDefs, Fail> {
-    let mut all_defs = AllDefs::new(alloc, &fragments_of(alloc, &[])?)?;
-    for name in names {
-        all_defs.mark_as_defined_as_entity_type(internal_name(alloc, name)?)?;
-    }
-    Ok(all_defs)
-}
-
-/// The entity types of the principal and of the resource of requests by one on one other.
-fn of_one(alloc: Global, spec: &ValidatorApplySpec<EntityType>) -> Result<String, Fail> {
-    let mut principals = spec.applicable_principal_types();
-    let mut resources = spec.applicable_resource_types();
-    let principal = principals.next().ok_or("no principal")?;
-    let resource = resources.next().ok_or("no resource")?;
-    Ok(format!(in alloc; "{principal} on {resource}")?)
-}
-
-/// What is printed of requests that came to name what is defined, or why they were refused.
-fn requested(
-    alloc: Global,
-    qualified: Result<ValidatorApplySpec<EntityType>, SchemaError>,
-) -> Result<String, Fail> {
-    match qualified {
-        Ok(spec) => of_one(alloc, &spec),
-        Err(error) => Ok(refusal_text(alloc, error)?),
-    }
-}
-
-/// What requests by a principal on `T` come to name where some entity types are defined, or the
-/// refusal.
-fn named(alloc: Global, defined: &[&str], principal: &str) -> Result<String, Fail> {
-    let all_defs = entity_types(alloc, defined)?;
-    let spec = ValidatorApplySpec::new(entity(alloc, principal)?, entity(alloc, "T")?);
-    requested(alloc, spec.fully_qualify_type_references(alloc, &all_defs))
-}
-
-/// Defined entity types and a principal, each with what the requests come to name.
-const REQUESTS: &[(&[&str], &str, &str)] = &[
-    (&["N::U", "U", "T"], "U", "N::U on T"),
-    (&["U", "N::T"], "U", "U on N::T"),
-    (&["T"], "U", "no entity type is declared as N::U or U"),
-    (&["U"], "U", "no entity type is declared as N::T or T"),
-    (
-        &["__cedar::U", "T"],
-        "__cedar::U",
-        "the name __cedar::U is reserved",
-    ),
-];
-
-#[test]
-fn requests_name_the_entity_types_that_are_defined(rt: HostRuntime) -> Result<(), Fail> {
-    let alloc = rt.alloc();
-    for &(defined, principal, expected) in REQUESTS {
-        same(
-            expected,
-            named(alloc, defined, principal)?.as_str(),
-            expected,
-        )?;
-    }
-    Ok(())
 }

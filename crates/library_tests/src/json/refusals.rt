@@ -1,516 +1,222 @@
-//! Texts that are refused for their shape: with which fault, at which JSON pointer, and at which
-//! bytes. The marks `⟦` and `⟧` stand around the bytes.
+//! Texts that are refused, one with each kind of fault: at which JSON pointer, and at which bytes.
 
-use crate::json::texts::{Part, unmarked};
-use cedar_json::Expected::{Array, Flag, NoNull, Object, Text, TextOrNull};
-use cedar_json::FaultKind::{
-    KeyIsNoId, KeyIsNoName, KeyIsReserved, KeyIsReservedName, KeyIsTypeWord, Missing, NoChoices,
-    NoId, NoLong, NoName, ReservedId, ReservedName, UnknownField, Wants,
-};
-use cedar_json::{FaultKind, JsonSchemaFault, Place, Row, fragment_from_json};
-use shorthand::checked::holds;
+use crate::asked::{Question, Rows, check};
+use cedar_ast::{Loc, M};
+use cedar_json::{JsonSchemaFault, Place, fragment_from_json};
 use std::alloc::Global;
 use std::test::Fail;
 
-/// A part of a fragment with marks, the JSON pointer from the part to the value at fault, and the
-/// fault.
-type Refusal = (&'static str, &'static str, FaultKind);
-
-/// Whether a place has a pointer of two parts and these bytes of the source 7.
-fn is_there(place: &Place, front: &str, back: &str, start: u32, stop: u32) -> bool {
-    let Some(loc) = place.loc else {
-        return false;
-    };
-    place.pointer.as_str().strip_prefix(front) == Some(back)
-        && loc.source == 7
-        && loc.start == start
-        && loc.stop == stop
-}
-
-/// Whether a fragment with a part is refused as a row says.
-fn is_refused(alloc: Global, part: Part, refusal: Refusal) -> Result<bool, Fail> {
-    let (marked, pointer, kind) = refusal;
-    let whole = part.text(alloc, marked)?;
-    let wanted = unmarked(alloc, whole.as_str())?;
-    match fragment_from_json(alloc, wanted.text.as_str(), 7) {
-        Err(JsonSchemaFault::OutOfShape { at, fault }) => {
-            Ok(fault == kind && is_there(&at, part.pointer(), pointer, wanted.start, wanted.stop))
-        }
-        _ => Ok(false),
+/// A place: the JSON pointer and the bytes, with the number of the text.
+fn placed(alloc: Global, at: &Place) -> M<String> {
+    match at.loc {
+        Some(
+            Loc {
+                source,
+                start,
+                stop,
+            },
+        ) => Ok(format!(in alloc; "{}, {start} to {stop} of {source}", at.pointer)?),
+        None => Ok(String::new(alloc)),
     }
 }
 
-/// The first of some rows that isn't refused as it says, or no text.
-fn first_wrong(alloc: Global, part: Part, rows: &[Refusal]) -> Result<&'static str, Fail> {
-    for row in rows {
-        if !is_refused(alloc, part, *row)? {
-            return Ok(row.0);
+/// What is told of a refusal.
+fn told(alloc: Global, fault: &JsonSchemaFault) -> Result<String, Fail> {
+    match fault {
+        JsonSchemaFault::TwiceInObject { at, member } => {
+            Ok(format!(in alloc; "member {member} at {}", placed(alloc, at)?)?)
+        }
+        JsonSchemaFault::OutOfShape { at, fault } => {
+            Ok(format!(in alloc; "{fault:?} at {}", placed(alloc, at)?)?)
+        }
+        _ => Ok(format!(in alloc; "{fault:?}")?),
+    }
+}
+
+/// What is asked about a text.
+#[derive(Clone, Copy)]
+struct Read;
+
+impl Question for Read {
+    /// Whether it is read as the text of the number 7, or why it isn't.
+    fn answer(self, alloc: Global, text: &str) -> Result<String, Fail> {
+        match fragment_from_json(alloc, text, 7) {
+            Ok(_) => Ok(String::from_str(alloc, "read")?),
+            Err(fault) => told(alloc, &fault),
         }
     }
-    Ok("")
 }
 
-const TEXTS: &[Refusal] = &[
-    ("⟦[]⟧", "", Wants(Object)),
-    (" ⟦null⟧\n", "", Wants(Object)),
-    ("{⟦\"A:\"⟧: {}}", "", KeyIsNoName(0)),
-    ("{⟦\" A\"⟧: {}}", "", KeyIsNoName(0)),
-    ("{⟦\"A::\"⟧: {}}", "", KeyIsNoName(0)),
-    ("{⟦\"__cedar\"⟧: {}}", "", KeyIsReservedName(0)),
-    ("{⟦\"A::__cedar\"⟧: {}}", "", KeyIsReservedName(0)),
-    ("{\"A\": ⟦null⟧}", "/A", Wants(Object)),
+/// Texts that are no JSON, though they look as if they were some.
+const NO_JSON: Rows = &[
+    ("", "NotJson { up_to: 0, too_deep: false }"),
+    ("  ", "NotJson { up_to: 2, too_deep: false }"),
+    ("\u{feff}{}", "NotJson { up_to: 0, too_deep: false }"),
+    ("[\"a\tb\"]", "NotJson { up_to: 1, too_deep: false }"),
+    ("[1 2]", "NotJson { up_to: 3, too_deep: false }"),
+    ("{\"a\":1", "NotJson { up_to: 6, too_deep: false }"),
 ];
 
-const DEFINITIONS: &[Refusal] = &[
-    ("⟦{}⟧", "", Missing("entityTypes")),
-    ("⟦{\"entityTypes\": {}}⟧", "", Missing("actions")),
+/// A text with a key twice in an object, whose index is that of the second.
+const TWICE: Rows = &[
     (
-        "{\"actions\": {}, \"entityTypes\": {}, ⟦\"x\"⟧: 1}",
-        "",
-        UnknownField(Row::OfDefinition, 2),
+        "{\"\": 0, \"ä\": [], \"\": 1, \"\": 2}",
+        "member 2 at , 18 to 20 of 7",
     ),
     (
-        "{\"actions\": {}, \"entityTypes\": ⟦null⟧}",
-        "/entityTypes",
-        Wants(Object),
-    ),
-    (
-        "{\"actions\": ⟦null⟧, \"entityTypes\": {}}",
-        "/actions",
-        Wants(Object),
-    ),
-    (
-        "{\"actions\": {}, \"entityTypes\": {}, \"commonTypes\": ⟦null⟧}",
-        "/commonTypes",
-        Wants(Object),
-    ),
-    (
-        "{\"actions\": {}, \"entityTypes\": {}, \"annotations\": ⟦null⟧}",
-        "/annotations",
-        Wants(Object),
-    ),
-    (
-        "{\"actions\": {}, \"entityTypes\": {\"A\": {}, ⟦\"9\"⟧: {}}}",
-        "/entityTypes",
-        KeyIsNoId(1),
-    ),
-    (
-        "{\"actions\": {}, \"entityTypes\": {⟦\"__cedar\"⟧: {}}}",
-        "/entityTypes",
-        KeyIsReserved(0),
-    ),
-    (
-        "{\"actions\": {}, \"entityTypes\": {}, \"commonTypes\": {⟦\"\"⟧: {}}}",
-        "/commonTypes",
-        KeyIsNoId(0),
-    ),
-    (
-        "{\"actions\": {}, \"entityTypes\": {}, \"commonTypes\": {⟦\"__cedar\"⟧: {}}}",
-        "/commonTypes",
-        KeyIsReserved(0),
-    ),
-    (
-        "{\"actions\": {}, \"entityTypes\": {}, \"commonTypes\": {⟦\"Bool\"⟧: {}}}",
-        "/commonTypes",
-        KeyIsTypeWord(0),
-    ),
-    (
-        "{\"actions\": {\"a/b~c\": ⟦null⟧}, \"entityTypes\": {}}",
-        "/actions/a~1b~0c",
-        Wants(Object),
+        "[0, {\"k/\": {\"z~\": 3}}, {\"a\": [{\"b\":{}, \"b\":{}}]}]",
+        "member 1 at /2/a/0, 39 to 42 of 7",
     ),
 ];
 
-const COMMON_TYPES: &[Refusal] = &[
-    ("⟦null⟧", "", Wants(Object)),
-    ("⟦\"Long\"⟧", "", Wants(Object)),
-    ("⟦{}⟧", "", Missing("type")),
-    ("{\"type\": ⟦null⟧}", "/type", Wants(Text)),
-    ("{\"type\": ⟦\"A:B\"⟧}", "/type", NoName),
-    ("{\"type\": ⟦\"A :: B\"⟧}", "/type", NoName),
-    ("{\"type\": ⟦\"\"⟧}", "/type", NoName),
+/// Definitions that are out of shape.
+const DEFINITIONS: Rows = &[
+    ("[]", "Wants(Object) at , 0 to 2 of 7"),
+    ("{\"A:\": {}}", "KeyIsNoName(0) at , 1 to 5 of 7"),
     (
-        "{\"type\": \"Long\", ⟦\"required\"⟧: true}",
-        "",
-        UnknownField(Row::OfCommonType, 1),
+        "{\"__cedar\": {}}",
+        "KeyIsReservedName(0) at , 1 to 10 of 7",
+    ),
+    ("{\"\": {}}", "Missing(\"entityTypes\") at /, 5 to 7 of 7"),
+    (
+        "{\"\": {\"actions\": {}, \"entityTypes\": {}, \"x\": 1}}",
+        "UnknownField(OfDefinition, 2) at /, 40 to 43 of 7",
     ),
     (
-        "{\"type\": \"T\", ⟦\"name\"⟧: \"T\"}",
-        "",
-        UnknownField(Row::OfCommonType, 1),
+        "{\"\": {\"actions\": {}, \"entityTypes\": {\"A\": {}, \"9\": {}}}}",
+        "KeyIsNoId(1) at //entityTypes, 46 to 49 of 7",
     ),
     (
-        "{\"type\": \"Long\", \"annotations\": ⟦null⟧}",
-        "/annotations",
-        Wants(Object),
+        "{\"\": {\"actions\": {}, \"entityTypes\": {\"__cedar\": {}}}}",
+        "KeyIsReserved(0) at //entityTypes, 37 to 46 of 7",
     ),
     (
-        "{\"type\": \"Long\", \"annotations\": {\"a\": ⟦1⟧}}",
-        "/annotations/a",
-        Wants(TextOrNull),
-    ),
-    (
-        "{\"type\": \"Long\", \"annotations\": {⟦\"a b\"⟧: \"\"}}",
-        "/annotations",
-        KeyIsNoId(0),
-    ),
-    ("⟦{\"type\": \"Set\"}⟧", "", Missing("element")),
-    (
-        "{\"type\": \"Set\", \"element\": ⟦null⟧}",
-        "/element",
-        Wants(Object),
-    ),
-    (
-        "{\"type\": \"Set\", \"element\": {\"type\": \"Long\", ⟦\"annotations\"⟧: {}}}",
-        "/element",
-        UnknownField(Row::OfType, 1),
-    ),
-    ("⟦{\"type\": \"Entity\"}⟧", "", Missing("name")),
-    (
-        "{\"type\": \"Entity\", \"name\": ⟦null⟧}",
-        "/name",
-        Wants(Text),
-    ),
-    (
-        "{\"type\": \"EntityOrCommon\", \"name\": ⟦\"1\"⟧}",
-        "/name",
-        NoName,
-    ),
-    (
-        "{\"type\": \"Extension\", \"name\": ⟦\"__cedar\"⟧}",
-        "/name",
-        ReservedId,
-    ),
-    (
-        "{\"type\": \"Extension\", \"name\": ⟦\"a::b\"⟧}",
-        "/name",
-        NoId,
-    ),
-    (
-        "{\"type\": \"Set\", \"element\": {\"type\": \"Long\"}, ⟦\"name\"⟧: \"T\"}",
-        "",
-        UnknownField(Row::OfCommonType, 2),
-    ),
-    (
-        "{\"type\": \"Entity\", \"name\": \"E\", ⟦\"element\"⟧: {}}",
-        "",
-        UnknownField(Row::OfCommonType, 2),
-    ),
-    (
-        "{\"type\": \"EntityOrCommon\", \"name\": \"E\", ⟦\"attributes\"⟧: {}}",
-        "",
-        UnknownField(Row::OfCommonType, 2),
-    ),
-    (
-        "{\"type\": \"Extension\", \"name\": \"e\", ⟦\"additionalAttributes\"⟧: true}",
-        "",
-        UnknownField(Row::OfCommonType, 2),
-    ),
-    ("⟦{\"type\": \"EntityOrCommon\"}⟧", "", Missing("name")),
-    (
-        "{\"type\": \"EntityOrCommon\", \"name\": ⟦null⟧}",
-        "/name",
-        Wants(Text),
-    ),
-    ("⟦{\"type\": \"Extension\"}⟧", "", Missing("name")),
-    (
-        "{\"type\": \"Extension\", \"name\": ⟦null⟧}",
-        "/name",
-        Wants(Text),
-    ),
-    (
-        "{\"type\": \"Set\", \"element\": {\"type\": ⟦null⟧}}",
-        "/element/type",
-        Wants(Text),
+        "{\"\": {\"actions\": {}, \"entityTypes\": {}, \"commonTypes\": {\"Bool\": {}}}}",
+        "KeyIsTypeWord(0) at //commonTypes, 56 to 62 of 7",
     ),
 ];
 
-const RECORDS: &[Refusal] = &[
-    ("⟦{\"type\": \"Record\"}⟧", "", Missing("attributes")),
+/// Declarations that are out of shape.
+const DECLARATIONS: Rows = &[
     (
-        "{\"type\": \"Record\", \"attributes\": ⟦null⟧}",
-        "/attributes",
-        Wants(Object),
+        "{\"N\": {\"actions\": {}, \"entityTypes\": {\"E\": {\"enum\": null}}}}",
+        "Wants(Array) at /N/entityTypes/E/enum, 52 to 56 of 7",
     ),
     (
-        "{\"type\": \"Record\", \"attributes\": {}, \"additionalAttributes\": ⟦null⟧}",
-        "/additionalAttributes",
-        Wants(Flag),
+        "{\"N\": {\"actions\": {}, \"entityTypes\": {\"E\": {\"enum\": []}}}}",
+        "NoChoices at /N/entityTypes/E/enum, 52 to 54 of 7",
     ),
     (
-        "{\"type\": \"Record\", \"attributes\": {}, ⟦\"element\"⟧: {}}",
-        "",
-        UnknownField(Row::OfCommonType, 2),
+        "{\"N\": {\"actions\": {}, \"entityTypes\": {\"E\": {\"enum\": [\"a\"], \"tags\": \
+         {\"type\": \"Long\"}}}}}",
+        "UnknownField(OfEnumeratedType, 1) at /N/entityTypes/E, 59 to 65 of 7",
     ),
     (
-        "{\"type\": \"Record\", \"attributes\": {\"a\": ⟦null⟧}}",
-        "/attributes/a",
-        Wants(Object),
+        "{\"N\": {\"actions\": {}, \"entityTypes\": {\"E\": {\"memberOf\": []}}}}",
+        "UnknownField(OfEntityType, 0) at /N/entityTypes/E, 44 to 54 of 7",
     ),
     (
-        "{\"type\": \"Record\", \"attributes\": {\"a\": {\"type\": \"Long\", \"required\": ⟦1⟧}}}",
-        "/attributes/a/required",
-        Wants(Flag),
+        "{\"N::M\": {\"entityTypes\": {}, \"actions\": {\"a\": {\"applies_to\": null}}}}",
+        "UnknownField(OfAction, 0) at /N::M/actions/a, 47 to 59 of 7",
     ),
     (
-        "{\"type\": \"Record\", \"attributes\": {\"a\": {\"type\": \"Long\", ⟦\"x\"⟧: 1}}}",
-        "/attributes/a",
-        UnknownField(Row::OfAttribute, 1),
+        "{\"N::M\": {\"entityTypes\": {}, \"actions\": {\"a\": {\"appliesTo\": \
+         {\"principalTypes\": [], \"resourceTypes\": [], \"x\": 0}}}}}",
+        "UnknownField(OfAppliesTo, 2) at /N::M/actions/a/appliesTo, 104 to 107 of 7",
     ),
     (
-        "{\"type\": \"Record\", \"attributes\": {\"ä\\n\": {\"type\": ⟦\"\\u0031\"⟧}}}",
-        "/attributes/ä\n/type",
-        NoName,
+        "{\"N::M\": {\"entityTypes\": {}, \"actions\": {\"a\": {\"memberOf\": [{\"id\": \
+         \"\", \"x\": 0}]}}}}",
+        "UnknownField(OfParent, 1) at /N::M/actions/a/memberOf/0, 71 to 74 of 7",
     ),
     (
-        "{\"type\": \"Record\", \"attributes\": {\"a\": {\"type\": ⟦null⟧}}}",
-        "/attributes/a/type",
-        Wants(Text),
-    ),
-    (
-        "{\"type\": \"Record\", \"attributes\": {\"a\": {\"type\": \"Long\", \
-            \"required\": ⟦null⟧}}}",
-        "/attributes/a/required",
-        Wants(Flag),
-    ),
-    (
-        "{\"type\": \"Record\", \"attributes\": {\"a\": {\"type\": \"Long\", \
-            \"annotations\": ⟦null⟧}}}",
-        "/attributes/a/annotations",
-        Wants(Object),
-    ),
-    (
-        "{\"type\": \"Record\", \"attributes\": {\"a\": ⟦{\"required\": true}⟧}}",
-        "/attributes/a",
-        Missing("type"),
+        "{\"N::M\": {\"entityTypes\": {}, \"actions\": {\"a\": {\"attributes\": {\"a\": \
+         null}}}}}",
+        "Wants(NoNull) at /N::M/actions/a/attributes/a, 67 to 71 of 7",
     ),
 ];
 
-const ENTITY_TYPES: &[Refusal] = &[
-    ("⟦null⟧", "", Wants(Object)),
-    ("{\"enum\": ⟦null⟧}", "/enum", Wants(Array)),
-    ("{\"enum\": ⟦[]⟧}", "/enum", NoChoices),
-    ("{\"enum\": [\"a\" , ⟦1⟧ ]}", "/enum/1", Wants(Text)),
+/// Types and values that are out of shape.
+const TYPES: Rows = &[
     (
-        "{\"enum\": [\"a\"], ⟦\"tags\"⟧: {\"type\": \"Long\"}}",
-        "",
-        UnknownField(Row::OfEnumeratedType, 1),
+        "{\"\": {\"entityTypes\": {}, \"actions\": {}, \"commonTypes\": {\"T\": {\"type\": \
+         null}}}}",
+        "Wants(Text) at //commonTypes/T/type, 70 to 74 of 7",
     ),
     (
-        "{⟦\"memberOf\"⟧: []}",
-        "",
-        UnknownField(Row::OfEntityType, 0),
+        "{\"\": {\"entityTypes\": {}, \"actions\": {}, \"commonTypes\": {\"T\": {\"type\": \
+         \"A:B\"}}}}",
+        "NoName at //commonTypes/T/type, 70 to 75 of 7",
     ),
     (
-        "{\"memberOfTypes\": ⟦null⟧}",
-        "/memberOfTypes",
-        Wants(Array),
+        "{\"\": {\"entityTypes\": {}, \"actions\": {}, \"commonTypes\": {\"T\": {\"type\": \
+         \"Long\", \"required\": true}}}}",
+        "UnknownField(OfCommonType, 1) at //commonTypes/T, 78 to 88 of 7",
     ),
     (
-        "{\"memberOfTypes\": [\"A\", ⟦\"\"⟧]}",
-        "/memberOfTypes/1",
-        NoName,
-    ),
-    ("{\"shape\": ⟦null⟧}", "/shape", Wants(Object)),
-    ("{\"tags\": ⟦null⟧}", "/tags", Wants(Object)),
-    ("{\"external\": ⟦\"true\"⟧}", "/external", Wants(Flag)),
-    ("{\"annotations\": ⟦[]⟧}", "/annotations", Wants(Object)),
-    ("{\"enum\": [\"a\", ⟦null⟧]}", "/enum/1", Wants(Text)),
-    (
-        "{\"enum\": [\"a\"], \"external\": ⟦null⟧}",
-        "/external",
-        Wants(Flag),
+        "{\"\": {\"entityTypes\": {}, \"actions\": {}, \"commonTypes\": {\"T\": {\"type\": \
+         \"Long\", \"annotations\": {\"a\": 1}}}}}",
+        "Wants(TextOrNull) at //commonTypes/T/annotations/a, 99 to 100 of 7",
     ),
     (
-        "{\"enum\": [\"a\"], \"annotations\": ⟦null⟧}",
-        "/annotations",
-        Wants(Object),
+        "{\"\": {\"entityTypes\": {}, \"actions\": {}, \"commonTypes\": {\"T\": {\"type\": \
+         \"Set\", \"element\": {\"type\": \"Long\", \"annotations\": {}}}}}}",
+        "UnknownField(OfType, 1) at //commonTypes/T/element, 105 to 118 of 7",
     ),
     (
-        "{\"memberOfTypes\": [⟦null⟧]}",
-        "/memberOfTypes/0",
-        Wants(Text),
-    ),
-    ("{\"external\": ⟦null⟧}", "/external", Wants(Flag)),
-    ("{\"annotations\": ⟦null⟧}", "/annotations", Wants(Object)),
-];
-
-const ACTIONS: &[Refusal] = &[
-    ("⟦true⟧", "", Wants(Object)),
-    (
-        "{⟦\"applies_to\"⟧: null}",
-        "",
-        UnknownField(Row::OfAction, 0),
-    ),
-    ("{\"external\": ⟦null⟧}", "/external", Wants(Flag)),
-    (
-        "{\"appliesTo\": ⟦{\"principalTypes\": []}⟧}",
-        "/appliesTo",
-        Missing("resourceTypes"),
+        "{\"\": {\"entityTypes\": {}, \"actions\": {}, \"commonTypes\": {\"T\": {\"type\": \
+         \"Extension\", \"name\": \"__cedar\"}}}}",
+        "ReservedId at //commonTypes/T/name, 91 to 100 of 7",
     ),
     (
-        "{\"appliesTo\": {\"principalTypes\": ⟦null⟧, \"resourceTypes\": []}}",
-        "/appliesTo/principalTypes",
-        Wants(Array),
+        "{\"\": {\"entityTypes\": {}, \"actions\": {}, \"commonTypes\": {\"T\": {\"type\": \
+         \"Extension\", \"name\": \"a::b\"}}}}",
+        "NoId at //commonTypes/T/name, 91 to 97 of 7",
     ),
     (
-        "{\"appliesTo\": {\"principalTypes\": [], \"resourceTypes\": [⟦null⟧]}}",
-        "/appliesTo/resourceTypes/0",
-        Wants(Text),
+        "{\"\": {\"entityTypes\": {}, \"actions\": {}, \"commonTypes\": {\"T\": {\"type\": \
+         \"Record\", \"attributes\": {}, \"additionalAttributes\": null}}}}",
+        "Wants(Flag) at //commonTypes/T/additionalAttributes, 122 to 126 of 7",
     ),
     (
-        "{\"appliesTo\": {\"principalTypes\": [], \"resourceTypes\": [], ⟦\"x\"⟧: 0}}",
-        "/appliesTo",
-        UnknownField(Row::OfAppliesTo, 2),
+        "{\"\": {\"entityTypes\": {}, \"actions\": {}, \"commonTypes\": {\"T\": {\"type\": \
+         \"Record\", \"attributes\": {\"a\": {\"type\": \"Long\", \"x\": 1}}}}}}",
+        "UnknownField(OfAttribute, 1) at //commonTypes/T/attributes/a, 117 to 120 of 7",
     ),
     (
-        "{\"appliesTo\": {\"principalTypes\": [], \"resourceTypes\": [], \"context\": ⟦null⟧}}",
-        "/appliesTo/context",
-        Wants(Object),
-    ),
-    ("{\"memberOf\": [⟦null⟧]}", "/memberOf/0", Wants(Object)),
-    (
-        "{\"memberOf\": [{\"id\": \"\"}, ⟦{\"type\": \"A\"}⟧]}",
-        "/memberOf/1",
-        Missing("id"),
+        "{\"\": {\"entityTypes\": {}, \"actions\": {}, \"commonTypes\": {\"T\": {\"type\": \
+         \"Record\", \"attributes\": {\"ä\\n\": {\"type\": \"\\u0031\"}}}}}}",
+        "NoName at //commonTypes/T/attributes/ä\n/type, 112 to 120 of 7",
     ),
     (
-        "{\"memberOf\": [{\"id\": ⟦null⟧}]}",
-        "/memberOf/0/id",
-        Wants(Text),
+        "{\"\": {\"entityTypes\": {}, \"actions\": {\"a\": {\"attributes\": {\"v\": 1.0}}}}}",
+        "NoLong at //actions/a/attributes/v, 63 to 66 of 7",
     ),
     (
-        "{\"memberOf\": [{\"id\": \"\", \"type\": ⟦\" A\"⟧}]}",
-        "/memberOf/0/type",
-        NoName,
+        "{\"\": {\"entityTypes\": {}, \"actions\": {\"a\": {\"attributes\": {\"v\": \
+         {\"__entity\": {\"type\": \"__cedar\", \"id\": \"\"}}}}}}}",
+        "ReservedName at //actions/a/attributes/v/__entity/type, 85 to 94 of 7",
     ),
     (
-        "{\"memberOf\": [{\"id\": \"\", ⟦\"x\"⟧: 0}]}",
-        "/memberOf/0",
-        UnknownField(Row::OfParent, 1),
-    ),
-    ("{\"attributes\": ⟦[]⟧}", "/attributes", Wants(Object)),
-    ("⟦null⟧", "", Wants(Object)),
-    ("{\"annotations\": ⟦null⟧}", "/annotations", Wants(Object)),
-    (
-        "{\"appliesTo\": ⟦{\"resourceTypes\": []}⟧}",
-        "/appliesTo",
-        Missing("principalTypes"),
+        "{\"\": {\"entityTypes\": {}, \"actions\": {\"a\": {\"attributes\": {\"v\": \
+         {\"__entity\": {\"type\": \"A\", \"id\": \"\", \"x\": 0}}}}}}}",
+        "UnknownField(OfEntityUid, 2) at //actions/a/attributes/v/__entity, 100 to 103 of 7",
     ),
     (
-        "{\"appliesTo\": {\"principalTypes\": [⟦null⟧], \"resourceTypes\": []}}",
-        "/appliesTo/principalTypes/0",
-        Wants(Text),
-    ),
-    (
-        "{\"appliesTo\": {\"principalTypes\": [], \"resourceTypes\": ⟦null⟧}}",
-        "/appliesTo/resourceTypes",
-        Wants(Array),
-    ),
-    (
-        "{\"attributes\": {\"a\": ⟦null⟧}}",
-        "/attributes/a",
-        Wants(NoNull),
+        "{\"\": {\"entityTypes\": {}, \"actions\": {\"a\": {\"attributes\": {\"v\": \
+         {\"__extn\": {\"fn\": \"f\", \"arg\": 1, \"x\": 0}}}}}}}",
+        "UnknownField(OfCall, 2) at //actions/a/attributes/v/__extn, 96 to 99 of 7",
     ),
 ];
-
-const VALUES: &[Refusal] = &[
-    ("⟦null⟧", "", Wants(NoNull)),
-    ("[1 ,⟦null⟧]", "/1", Wants(NoNull)),
-    ("⟦1.0⟧", "", NoLong),
-    ("⟦1e3⟧", "", NoLong),
-    ("⟦-0⟧", "", NoLong),
-    ("⟦9223372036854775808⟧", "", NoLong),
-    ("⟦-9223372036854775809⟧", "", NoLong),
-    ("⟦123456789012345678901234567890⟧", "", NoLong),
-    (
-        "{\"__entity\": {\"type\": ⟦\"__cedar\"⟧, \"id\": \"\"}}",
-        "/__entity/type",
-        ReservedName,
-    ),
-    (
-        "{\"__entity\": {\"type\": \"A\", \"id\": ⟦null⟧}}",
-        "/__entity/id",
-        Wants(Text),
-    ),
-    (
-        "{\"__entity\": {\"type\": \"A\", \"id\": \"\", ⟦\"x\"⟧: 0}}",
-        "/__entity",
-        UnknownField(Row::OfEntityUid, 2),
-    ),
-    ("{\"__entity\": ⟦null⟧}", "/__entity", Wants(Object)),
-    (
-        "{\"__extn\": ⟦{\"fn\": \"ip\"}⟧}",
-        "/__extn",
-        Missing("arg"),
-    ),
-    (
-        "{\"__extn\": {\"fn\": ⟦\"A::__cedar\"⟧, \"arg\": 1}}",
-        "/__extn/fn",
-        ReservedName,
-    ),
-    (
-        "{\"__extn\": {\"fn\": \"f\", \"arg\": [⟦null⟧]}}",
-        "/__extn/arg/0",
-        Wants(NoNull),
-    ),
-    (
-        "{\"__extn\": {\"fn\": \"f\", \"arg\": 1, ⟦\"x\"⟧: 0}}",
-        "/__extn",
-        UnknownField(Row::OfCall, 2),
-    ),
-    ("{\"__extn\": ⟦null⟧, \"b\": 1}", "/__extn", Wants(NoNull)),
-    ("{\"a\": ⟦null⟧}", "/a", Wants(NoNull)),
-    (
-        "{\"__entity\": ⟦{\"id\": \"\"}⟧}",
-        "/__entity",
-        Missing("type"),
-    ),
-    (
-        "{\"__entity\": {\"type\": ⟦null⟧, \"id\": \"\"}}",
-        "/__entity/type",
-        Wants(Text),
-    ),
-    (
-        "{\"__entity\": ⟦{\"type\": \"A\"}⟧}",
-        "/__entity",
-        Missing("id"),
-    ),
-    ("{\"__extn\": ⟦null⟧}", "/__extn", Wants(Object)),
-    (
-        "{\"__extn\": {\"fn\": ⟦null⟧, \"arg\": 1}}",
-        "/__extn/fn",
-        Wants(Text),
-    ),
-    (
-        "{\"__extn\": {\"fn\": \"f\", \"arg\": ⟦null⟧}}",
-        "/__extn/arg",
-        Wants(NoNull),
-    ),
-    ("{\"__extn\": ⟦{\"arg\": 1}⟧}", "/__extn", Missing("fn")),
-];
-
-/// Fails where a row about a part of a fragment isn't refused as it says.
-fn check(alloc: Global, part: Part, rows: &'static [Refusal]) -> Result<(), Fail> {
-    let wrong = first_wrong(alloc, part, rows)?;
-    holds(wrong.is_empty(), wrong)
-}
 
 #[test]
-fn other_fragments_are_refused(rt: HostRuntime) -> Result<(), Fail> {
-    check(rt.alloc(), Part::Text, TEXTS)?;
-    check(rt.alloc(), Part::Definition, DEFINITIONS)
-}
-
-#[test]
-fn other_types_are_refused(rt: HostRuntime) -> Result<(), Fail> {
-    check(rt.alloc(), Part::CommonType, COMMON_TYPES)?;
-    check(rt.alloc(), Part::CommonType, RECORDS)?;
-    check(rt.alloc(), Part::EntityType, ENTITY_TYPES)
-}
-
-#[test]
-fn other_actions_are_refused(rt: HostRuntime) -> Result<(), Fail> {
-    check(rt.alloc(), Part::Action, ACTIONS)?;
-    check(rt.alloc(), Part::Value, VALUES)
+fn texts_are_refused_with_the_place(rt: HostRuntime) -> Result<(), Fail> {
+    let table = &[
+        (Read, NO_JSON),
+        (Read, TWICE),
+        (Read, DEFINITIONS),
+        (Read, DECLARATIONS),
+        (Read, TYPES),
+    ];
+    check(rt.alloc(), table)
 }

@@ -1,45 +1,60 @@
-//! Tests of attributes: of repeated names, and where those are of joined types.
+//! Attributes: those of repeated names, and where those of joined types were declared.
 
-use crate::types::test_values::{PLACE, sample, text};
+use crate::asked::{Question, Rows, check};
+use crate::types::test_values::{PLACE, made, text};
 use cedar_ast::ValidationMode;
 use cedar_types::{AttributeType, Attributes, OpenTag, Type};
-use shorthand::checked::{holds, same};
+use checked::same;
 use std::alloc::Global;
 use std::rc::Rc;
 use std::test::Fail;
 
-/// The attribute of a name and a type, declared at the place.
-fn attribute(alloc: Global, name: &str, ty: Type) -> Result<(String, AttributeType), Fail> {
-    let ty = Rc::new(alloc, ty)?;
-    let attribute = AttributeType::new_with_loc(ty, true, Some(PLACE));
-    Ok((text(alloc, name)?, attribute))
-}
+/// An attribute, declared at the place, and its name.
+type Named = (String, AttributeType);
 
-#[test]
-fn a_list_becomes_attributes(rt: HostRuntime) -> Result<(), Fail> {
-    let alloc = rt.alloc();
+/// The attributes of a text, each a name, `:` and the word of a type, declared at the place.
+fn attributes(alloc: Global, words: &str) -> Result<Vec<Named>, Fail> {
     let mut entries = Vec::new(alloc);
-    entries.push(attribute(alloc, "foo", Type::Long)?)?;
-    entries.push(attribute(alloc, "bar", Type::Long)?)?;
-    entries.push(attribute(alloc, "foo", Type::String)?)?;
-    let all = Attributes::from_entries(alloc, entries)?;
-    let shown = format!(in alloc; "{all}")?;
-    same("the attributes", shown.as_str(), "{bar: Long,foo: String,}")
+    for word in words.split(',') {
+        let (name, word) = word.split_once(':').ok_or("no type")?;
+        let name = text(alloc, name)?;
+        let ty = Rc::new(alloc, made(alloc, word)?)?;
+        entries.push((name, AttributeType::new_with_loc(ty, true, Some(PLACE))))?;
+    }
+    Ok(entries)
 }
 
-#[test]
-fn no_attributes_are_shown_as_none(rt: HostRuntime) -> Result<(), Fail> {
-    let none = Attributes::empty(rt.alloc())?;
-    let shown = format!(in rt.alloc(); "{none}")?;
-    same("no attributes", shown.as_str(), "{}")
+/// What is asked about a text.
+#[derive(Clone, Copy)]
+enum Asked {
+    /// The attributes of a list in it.
+    Listed,
+    /// The attributes of a list without places in it, each of which has to be there.
+    Required,
+    /// The join of two record types in it, and whether `bar` and `foo` of the join were declared at
+    /// the place.
+    Joined,
 }
 
-/// The closed record type of numbers at `bar` and of the type of a word at `foo`, both declared at
-/// the place.
-fn located(alloc: Global, foo: &str) -> Result<Type, Fail> {
+/// The attributes of a list.
+fn listed(alloc: Global, words: &str) -> Result<String, Fail> {
+    let all = Attributes::from_entries(alloc, attributes(alloc, words)?)?;
+    Ok(format!(in alloc; "{all}")?)
+}
+
+/// The attributes of a list, each of which has to be there.
+fn required(alloc: Global, words: &str) -> Result<String, Fail> {
     let mut items = Vec::new(alloc);
-    items.push(attribute(alloc, "bar", Type::Long)?)?;
-    items.push(attribute(alloc, "foo", sample(alloc, foo)?)?)?;
+    for (name, attribute) in attributes(alloc, words)? {
+        items.push((name, attribute.attr_type))?;
+    }
+    let all = Attributes::with_required_attributes(alloc, items)?;
+    Ok(format!(in alloc; "{} of {all}", all.keys().count())?)
+}
+
+/// The closed record type of a list.
+fn record(alloc: Global, words: &str) -> Result<Type, Fail> {
+    let items = attributes(alloc, words)?;
     Ok(Type::record_with_attributes(alloc, items, OpenTag::ClosedAttributes)?)
 }
 
@@ -51,63 +66,61 @@ fn is_located(ty: &Type, name: &str) -> bool {
     }
 }
 
-/// The join of such types.
-fn joined(alloc: Global, first: &str, second: &str) -> Result<Type, Fail> {
-    let first = located(alloc, first)?;
-    let second = located(alloc, second)?;
-    let mode = ValidationMode::Permissive;
-    Type::least_upper_bound(alloc, &first, &second, mode).map_err(|_| Fail::from("no join"))
-}
-
-/// The text of such a join, and whether `bar` and `foo` were declared at the place.
-fn shown(alloc: Global, first: &str, second: &str) -> Result<String, Fail> {
-    let join = joined(alloc, first, second)?;
+/// The join of the record types of two lists, between which stands a blank.
+fn joined(alloc: Global, words: &str) -> Result<String, Fail> {
+    let (first, second) = words.split_once(' ').ok_or("one list")?;
+    let a = record(alloc, first)?;
+    let b = record(alloc, second)?;
+    let join = Type::least_upper_bound(alloc, &a, &b, ValidationMode::Permissive)?;
     let (bar, foo) = (is_located(&join, "bar"), is_located(&join, "foo"));
     Ok(format!(in alloc; "{join} {bar} {foo}")?)
 }
 
-/// Types at `foo`, each two with the text of the join: what is joined with itself keeps its
-/// locations, and what is joined with another type has none.
-const JOINED: &[(&str, &str, &str)] = &[
-    ("true", "false", "{bar: Long,foo: Bool,} false false"),
+impl Question for Asked {
+    fn answer(self, alloc: Global, text: &str) -> Result<String, Fail> {
+        match self {
+            Asked::Listed => listed(alloc, text),
+            Asked::Required => required(alloc, text),
+            Asked::Joined => joined(alloc, text),
+        }
+    }
+}
+
+/// A list of attributes, the last of a name of which wins.
+const LISTED: Rows = &[("foo:long,bar:long,foo:string", "{bar: Long,foo: String,}")];
+
+/// The same of such that have to be there.
+const REQUIRED: Rows = &[("b:long,a:long,b:string", "2 of {a: Long,b: String,}")];
+
+/// What is joined with itself keeps its locations, and what is joined with another type has none.
+const JOINED: Rows = &[
     (
-        "true",
-        "true",
+        "bar:long,foo:true bar:long,foo:false",
+        "{bar: Long,foo: Bool,} false false",
+    ),
+    (
+        "bar:long,foo:true bar:long,foo:true",
         "{bar: Long,foo: __cedar::internal::True,} true true",
     ),
     (
-        "false",
-        "string",
+        "bar:long,foo:false bar:long,foo:string",
         "__cedar::internal::OpenRecord{bar: Long,} false false",
     ),
 ];
 
 #[test]
-fn joins_of_equal_types_alone_keep_locations(rt: HostRuntime) -> Result<(), Fail> {
-    for &(first, second, expected) in JOINED {
-        same(
-            "a join",
-            shown(rt.alloc(), first, second)?.as_str(),
-            expected,
-        )?;
-    }
-    Ok(())
-}
-
-/// The attributes of repeated names, each of which has to be there: the last of a name wins.
-fn repeated(alloc: Global) -> Result<Attributes, Fail> {
-    let mut items = Vec::new(alloc);
-    for (name, word) in [("b", "long"), ("a", "long"), ("b", "string")] {
-        items.push((text(alloc, name)?, Rc::new(alloc, sample(alloc, word)?)?))?;
-    }
-    Ok(Attributes::with_required_attributes(alloc, items)?)
+fn attributes_are_listed_and_joined(rt: HostRuntime) -> Result<(), Fail> {
+    let table = &[
+        (Asked::Listed, LISTED),
+        (Asked::Required, REQUIRED),
+        (Asked::Joined, JOINED),
+    ];
+    check(rt.alloc(), table)
 }
 
 #[test]
-fn the_last_of_repeated_names_wins(rt: HostRuntime) -> Result<(), Fail> {
-    let alloc = rt.alloc();
-    let attributes = repeated(alloc)?;
-    holds(attributes.keys().count() == 2, "a and b")?;
-    let shown = format!(in alloc; "{attributes}")?;
-    same("attributes", shown.as_str(), "{a: Long,b: String,}")
+fn no_attributes_are_shown_as_none(rt: HostRuntime) -> Result<(), Fail> {
+    let none = Attributes::empty(rt.alloc())?;
+    let shown = format!(in rt.alloc(); "{none}")?;
+    same("no attributes", shown.as_str(), "{}")
 }

@@ -2,8 +2,8 @@
 
 use cedar_ast::ValidationMode;
 use cedar_types::Type;
-use shorthand::checked::{holds, same};
-use shorthand::names::entity_type;
+use checked::names::entity_type;
+use checked::{holds, same};
 use std::alloc::Global;
 use std::rc::Rc;
 use std::test::Fail;

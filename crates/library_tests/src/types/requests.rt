@@ -1,9 +1,10 @@
 //! Tests of the types of a request.
 
-use cedar_schema_elements::UnlinkedRequestEnv;
+use cedar_ast::M;
+use cedar_schema_elements::{RequestEnv, UnlinkedRequestEnv};
 use cedar_types::Type;
-use shorthand::checked::{holds, same};
-use shorthand::names::{entity_type, uid};
+use checked::names::{entity_type, uid};
+use checked::same;
 use std::alloc::Global;
 use std::test::Fail;
 
@@ -14,43 +15,35 @@ fn of_users(alloc: Global) -> Result<UnlinkedRequestEnv, Fail> {
     Ok(UnlinkedRequestEnv::new(alloc, user, view, photo, Type::Long)?)
 }
 
-/// Whether two owners lend the same types.
-fn lend_the_same(one: &UnlinkedRequestEnv, other: &UnlinkedRequestEnv) -> bool {
-    let (borrowed, copied) = (one.as_request_env(), other.as_request_env());
-    borrowed.principal == copied.principal
-        && borrowed.action == copied.action
-        && borrowed.resource == copied.resource
-        && borrowed.context == copied.context
-}
-
-/// Whether an owner lends one by one the types that it lends together.
-fn lends_each(owned: &UnlinkedRequestEnv) -> bool {
-    let borrowed = owned.as_request_env();
-    owned.principal() == borrowed.principal
-        && owned.action() == borrowed.action
-        && owned.resource() == borrowed.resource
-        && owned.context() == borrowed.context
-}
-
 /// The types that an owner lends one by one, in words.
-fn words_of(alloc: Global, owned: &UnlinkedRequestEnv) -> Result<String, Fail> {
+fn words_of(alloc: Global, owned: &UnlinkedRequestEnv) -> M<String> {
     let (principal, action) = (owned.principal(), owned.action());
     let (resource, context) = (owned.resource(), owned.context());
     Ok(format!(in alloc; "{principal} {action} {resource} {context}")?)
 }
+
+/// Those that it lends together.
+fn lent_words(alloc: Global, owned: &UnlinkedRequestEnv) -> M<String> {
+    let RequestEnv {
+        principal,
+        action,
+        resource,
+        context,
+    } = owned.as_request_env();
+    Ok(format!(in alloc; "{principal} {action} {resource} {context}")?)
+}
+
+/// The words for all of these.
+const WORDS: &str = "User Action::\"view\" Photo Long";
 
 #[test]
 fn the_types_of_a_request_are_copied_and_borrowed(rt: HostRuntime) -> Result<(), Fail> {
     let alloc = rt.alloc();
     let owned = of_users(alloc)?;
     let copy = owned.clone()?;
-    holds(lend_the_same(&owned, &copy), "a copy")?;
-    holds(lends_each(&copy), "each type of a copy")?;
-    same(
-        "a copy",
-        &words_of(alloc, &copy)?,
-        r#"User Action::"view" Photo Long"#,
-    )
+    same("one by one", words_of(alloc, &owned)?.as_str(), WORDS)?;
+    same("together", lent_words(alloc, &owned)?.as_str(), WORDS)?;
+    same("a copy", lent_words(alloc, &copy)?.as_str(), WORDS)
 }
 
 #[test]

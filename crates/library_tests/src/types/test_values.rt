@@ -2,7 +2,7 @@
 
 use cedar_ast::{Loc, RestrictedExpr};
 use cedar_types::{AttributeType, EntityKind, EntityLUB, OpenTag, Type};
-use shorthand::names::{entity_type, name, uid};
+use checked::names::{entity_type, name, uid};
 use std::alloc::Global;
 use std::collections::BTreeMap;
 use std::rc::Rc;
@@ -78,8 +78,10 @@ fn record(
     Ok(Type::record_with_attributes(alloc, items, openness)?)
 }
 
+/// Records that admit further attributes.
 const OPEN: OpenTag = OpenTag::OpenAttributes;
 
+/// Records that admit none.
 const CLOSED: OpenTag = OpenTag::ClosedAttributes;
 
 /// A record type: its word, whether it is open, and of each attribute its name, whether it is
@@ -105,6 +107,11 @@ const RECORDS: &[Record] = &[
     ("a-never", CLOSED, &[("a", true, "never")]),
     ("ip", CLOSED, &[("ip", true, "ipaddr")]),
     ("ip-long", CLOSED, &[("ip", true, "long")]),
+    (
+        "roles",
+        CLOSED,
+        &[("name", true, "string"), ("role", true, "set-Role")],
+    ),
     (
         "r1",
         CLOSED,
@@ -196,14 +203,43 @@ const RECORDS: &[Record] = &[
     ),
 ];
 
-/// The type of a word.
-pub(crate) fn sample(alloc: Global, word: &str) -> Result<Type, Fail> {
+/// The type of a word that has no `user-` and no `deep-` before it.
+fn sample(alloc: Global, word: &str) -> Result<Type, Fail> {
     for &(named, openness, attributes) in RECORDS {
         if named == word {
             return record(alloc, openness, attributes);
         }
     }
     simple(alloc, word)
+}
+
+/// The closed record of one required attribute.
+fn one(alloc: Global, name: &str, ty: Type) -> Result<Type, Fail> {
+    let items = vec![in alloc; (text(alloc, name)?, Rc::new(alloc, ty)?)]?;
+    Ok(Type::record_with_required_attributes(alloc, items, CLOSED)?)
+}
+
+/// The closed record of sets of closed records of an attribute of a type.
+fn deep(alloc: Global, word: &str) -> Result<Type, Fail> {
+    let inner = one(alloc, "y", sample(alloc, word)?)?;
+    one(alloc, "x", Type::set(Rc::new(alloc, inner)?))
+}
+
+/// The closed record of an address, the closed record of a city of a type.
+fn user(alloc: Global, word: &str) -> Result<Type, Fail> {
+    let address = one(alloc, "city", sample(alloc, word)?)?;
+    one(alloc, "address", address)
+}
+
+/// The type of a word.
+pub(crate) fn made(alloc: Global, word: &str) -> Result<Type, Fail> {
+    if let Some(city) = word.strip_prefix("user-") {
+        return user(alloc, city);
+    }
+    match word.strip_prefix("deep-") {
+        Some(inner) => deep(alloc, inner),
+        None => sample(alloc, word),
+    }
 }
 
 /// The value of a word: a number, `true`, the entity `Foo::"blue"`, a call without arguments such

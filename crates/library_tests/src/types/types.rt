@@ -1,14 +1,68 @@
-//! Tests of types and of how they compare.
+//! Questions about one type: what it prints as, its core type, and its samples.
 
-use crate::types::test_values::sample;
-use cedar_ast::{Memory, ValidationMode};
-use cedar_types::{JoinError, LubHelp, Type};
-use shorthand::checked::{holds, same};
+use crate::asked::{Question, Rows, check, told};
+use crate::types::core_types::core_text;
+use crate::types::divergence::{sample_names, sampled};
+use crate::types::separate::what_is_known;
+use crate::types::test_values::made;
+use cedar_ast::Memory;
+use cedar_types::{JoinError, JoinOrder, LubHelp, Type, core_type_of};
+use checked::same;
 use std::alloc::Global;
 use std::test::Fail;
 
+/// What is asked about the type of a word.
+#[derive(Clone, Copy)]
+enum Asked {
+    /// What its copy prints as.
+    Text,
+    /// Whether the any-set stands nowhere in it.
+    Clean,
+    /// Whether the word is the name of a primitive type.
+    Primitive,
+    /// The kind of its core type, or why it has none.
+    Core,
+    /// Whether its sample is of it.
+    Sample,
+    /// The names of the samples of its attributes.
+    SampleNames,
+}
+
+/// The kind of a core type, or why there is none.
+fn core_of(alloc: Global, ty: Type) -> Result<String, Fail> {
+    match core_type_of(alloc, ty) {
+        Ok(core) => Ok(core_text(alloc, &core)?),
+        Err(fault) => Ok(format!(in alloc; "{fault:?}")?),
+    }
+}
+
+/// Whether the sample of a type is of it.
+fn sample_of(alloc: Global, ty: &Type) -> Result<String, Fail> {
+    let known = what_is_known(alloc)?;
+    Ok(String::from_str(alloc, sampled(alloc, &known, ty)?)?)
+}
+
+/// The names of the samples of the attributes of a type.
+fn sample_names_of(alloc: Global, ty: &Type) -> Result<String, Fail> {
+    sample_names(alloc, &what_is_known(alloc)?, ty)
+}
+
+impl Question for Asked {
+    fn answer(self, alloc: Global, text: &str) -> Result<String, Fail> {
+        let ty = made(alloc, text)?;
+        match self {
+            Asked::Text => told(alloc, ty.clone()),
+            Asked::Clean => Ok(format!(in alloc; "{}", ty.is_clean())?),
+            Asked::Primitive => Ok(format!(in alloc; "{}", Type::is_primitive(text))?),
+            Asked::Core => core_of(alloc, ty),
+            Asked::Sample => sample_of(alloc, &ty),
+            Asked::SampleNames => sample_names_of(alloc, &ty),
+        }
+    }
+}
+
 /// Types, each with its text.
-const TEXTS: &[(&str, &str)] = &[
+const TEXTS: Rows = &[
     ("never", "__cedar::internal::Never"),
     ("true", "__cedar::internal::True"),
     ("false", "__cedar::internal::False"),
@@ -39,95 +93,96 @@ const TEXTS: &[(&str, &str)] = &[
     ),
 ];
 
-/// The text of a copy of the type of a word.
-fn printed(alloc: Global, word: &str) -> Result<String, Fail> {
-    let copy = sample(alloc, word)?.clone()?;
-    Ok(copy.to_string(alloc)?)
-}
-
-#[test]
-fn copies_of_types_print_their_words(rt: HostRuntime) -> Result<(), Fail> {
-    let alloc = rt.alloc();
-    for &(word, expected) in TEXTS {
-        same(word, printed(alloc, word)?.as_str(), expected)?;
-    }
-    Ok(())
-}
+/// Types, each with whether it is clean.
+const CLEAN: Rows = &[
+    ("long", "true"),
+    ("set-long", "true"),
+    ("mixed", "true"),
+    ("Foo|Bar", "true"),
+    ("any-set", "false"),
+    ("any-set-and-long", "false"),
+];
 
 /// Words, each with whether it is the name of a primitive type.
-const PRIMITIVES: &[(&str, bool)] = &[
-    ("Bool", true),
-    ("Long", true),
-    ("String", true),
-    ("Set", false),
+const PRIMITIVES: Rows = &[
+    ("Bool", "true"),
+    ("Long", "true"),
+    ("String", "true"),
+    ("Set", "false"),
+];
+
+/// Types, each with the kind of its core type, or why it has none.
+const CORES: Rows = &[
+    ("true", "Bool"),
+    ("bool", "Bool"),
+    ("long", "Long"),
+    ("string", "String"),
+    ("any-set", "EmptySet"),
+    ("set-Foo", "Set"),
+    ("Foo", "Entity Foo"),
+    ("mixed", "Record"),
+    ("ipaddr", "Extension ipaddr"),
+    ("never", "NeverType"),
+    ("set-never", "NeverType"),
+    ("a-never", "NeverType"),
+    ("any-entity", "AnyEntityType"),
+    ("Foo|Bar", "UnionType"),
+];
+
+/// Types, and whether their samples are of them, if they have some.
+const SAMPLED: Rows = &[
+    ("long", "a sample of it"),
+    ("false", "a sample of it"),
+    ("string", "a sample of it"),
+    ("Foo|Bar", "a sample of it"),
+    ("any-entity", "a sample of it"),
+    ("any-set", "a sample of it"),
+    ("set-ipaddr", "a sample of it"),
+    ("ipaddr", "a sample of it"),
+    ("deep-bool", "a sample of it"),
+    ("mixed", "a sample of it"),
+    ("ipaddr-and-long", "a sample of it"),
+    ("a-never", "not sampled"),
+    ("decimal", "not sampled"),
+];
+
+/// Record types, and the names of the samples of their attributes, if they have some.
+const SAMPLE_NAMES: Rows = &[
+    ("unit", "has"),
+    ("any-optional", "has"),
+    ("one-optional", "has foo"),
+    ("mixed", "has a"),
+    ("ace", "has a c e"),
+    ("ipaddr-and-long", "has a b"),
+    ("a-never", "not sampled"),
+];
+
+/// All rows.
+const ROWS: &[(Asked, Rows)] = &[
+    (Asked::Text, TEXTS),
+    (Asked::Clean, CLEAN),
+    (Asked::Primitive, PRIMITIVES),
+    (Asked::Core, CORES),
+    (Asked::Sample, SAMPLED),
+    (Asked::SampleNames, SAMPLE_NAMES),
 ];
 
 #[test]
-fn primitive_types_are_reported_by_name(_rt: HostRuntime) -> Result<(), Fail> {
-    for &(word, is_primitive) in PRIMITIVES {
-        holds(Type::is_primitive(word) == is_primitive, word)?;
-    }
-    Ok(())
+fn types_print_and_have_samples(rt: HostRuntime) -> Result<(), Fail> {
+    check(rt.alloc(), ROWS)
 }
+
+/// What is said of types that have no join.
+const REFUSED: &str = "the types have no least upper bound (help: RecordWidth)";
 
 #[test]
 fn errors_print_their_cause(rt: HostRuntime) -> Result<(), Fail> {
-    let alloc = rt.alloc();
-    for (refused, expected) in [
-        (
-            JoinError::Help(LubHelp::RecordWidth),
-            "the types have no least upper bound (help: RecordWidth)",
-        ),
-        (JoinError::from(Memory), "out of memory"),
-    ] {
-        same("refused", refused.to_string(alloc)?.as_str(), expected)?;
-    }
-    Ok(())
-}
-
-/// Pairs of types: whether the first is below the second in strict mode and in permissive mode, and
-/// whether they are disjoint.
-const PAIRS: &[(&str, &str, bool, bool, bool)] = &[
-    ("unit", "a-long-optional", false, false, false),
-    ("a-true", "a-bool", true, true, false),
-    ("a-bool", "a-true", false, false, false),
-    ("a-long-open", "any-record", false, true, false),
-    ("a-long", "a-long-optional", false, true, false),
-    ("a-long-optional", "a-long", false, false, false),
-    ("any-record", "unit", false, false, false),
-    ("unit", "any-record", true, true, false),
-    ("a-long", "unit", false, false, false),
-    ("never", "a-long", true, true, false),
-    ("set-never", "set-long", true, true, false),
-    ("set-long", "set-never", false, false, false),
-    ("set-long", "any-set", true, true, false),
-    ("any-set", "set-long", false, false, false),
-    ("Foo", "any-entity", false, true, false),
-    ("any-entity", "Foo", false, false, false),
-    ("Foo", "Foo", true, true, false),
-    ("Foo", "Bar", false, false, true),
-    ("Foo", "Foo|Bar", false, true, false),
-    ("Foo|Bar", "Foo", false, false, false),
-    ("true", "bool", true, true, false),
-    ("long", "string", false, false, false),
-    ("ipaddr", "string", false, false, false),
-];
-
-/// Whether the type of one word is below that of another in strict mode and in permissive mode, and
-/// whether they are disjoint.
-fn compared(alloc: Global, first: &str, second: &str) -> Result<(bool, bool, bool), Fail> {
-    let (a, b) = (sample(alloc, first)?, sample(alloc, second)?);
-    let strict = Type::is_subtype(&a, &b, ValidationMode::Strict);
-    let permissive = Type::is_subtype(&a, &b, ValidationMode::Permissive);
-    Ok((strict, permissive, Type::are_types_disjoint(&a, &b)))
-}
-
-#[test]
-fn types_are_below_others_by_their_rules(rt: HostRuntime) -> Result<(), Fail> {
-    let alloc = rt.alloc();
-    for &(first, second, strict, permissive, disjoint) in PAIRS {
-        let answers = compared(alloc, first, second)?;
-        holds(answers == (strict, permissive, disjoint), first)?;
-    }
-    Ok(())
+    let refused: Result<Type, JoinError> = Err(JoinError::Help(LubHelp::RecordWidth));
+    same("no join", told(rt.alloc(), refused)?.as_str(), REFUSED)?;
+    let refused: Result<Type, JoinError> = Err(JoinError::from(Memory));
+    same(
+        "memory",
+        told(rt.alloc(), refused)?.as_str(),
+        "out of memory",
+    )
 }
