@@ -5,6 +5,8 @@ import re
 from pathlib import Path
 
 CRATES = Path(__file__).resolve().parent.parent / "crates"
+# The libraries that crates of tests share.
+SHARED = ["checked"]
 DECLARED = re.compile(r"^(?:pub(?:\(crate\))? )?trait \w+", re.M)
 IMPL = re.compile(r"^impl\b(?:<[^{\n]*?>)? *(?:(\w+)(?:<[^\n]*?>)? for )?(\w+)", re.M)
 CALL = re.compile(
@@ -17,7 +19,7 @@ STRUCT = re.compile(r"^pub struct (\w+)[^{;]*\{(.*?)^\}", re.M | re.S)
 FIELD = re.compile(r"^    pub (\w+): ([^\n]+?),?$", re.M)
 ALIAS = re.compile(r"^(?:pub(?:\(crate\))? )?type (\w+)[^=\n]*= ([^;]+);", re.M)
 CONSTANT = re.compile(r"^(?:pub(?:\(crate\))? )?const (\w+): ([^=]+?) =", re.M)
-IMPORT = re.compile(r"^use (crate|shorthand)((?:::\w+)*)::(\{[^}]*\}|\w+);", re.M)
+IMPORT = re.compile(r"^use (crate|checked)((?:::\w+)*)::(\{[^}]*\}|\w+);", re.M)
 FUNCTION = re.compile(r"^(?:pub(?:\(crate\))? )?fn (\w+)", re.M)
 COMMENT = re.compile(r"^ *//.*", re.M)
 TEXT = re.compile(r'r#".*?"#|"(?:[^"\\]|\\.)*"', re.S)
@@ -278,7 +280,7 @@ def given_in(crate, types):
 
 
 def imported(text, given, spelled):
-    """What the functions give that a file imports from its own crate or from `shorthand`."""
+    """What the functions give that a file imports from its own crate or from one that tests share."""
     found = {}
     for crate, place, names in IMPORT.findall(text):
         known = given.get(place.strip(":").replace("::", "/"), {}) if crate == "crate" else spelled
@@ -289,7 +291,8 @@ def imported(text, given, spelled):
 def functions(crate, types):
     """The functions of a crate of tests."""
     given = given_in(crate, types)
-    spelled = {it: ty for names in given_in("shorthand", types).values() for it, ty in names.items()}
+    shared = [names for crate in SHARED for names in given_in(crate, types).values()]
+    spelled = {it: ty for names in shared for it, ty in names.items()}
     for path in files(crate):
         text = TEXT.sub('""', COMMENT.sub("", path.read_text()))
         beside = imported(text, given, spelled) | given[module_of(path, crate)]

@@ -77,6 +77,13 @@ impl<R: Files + Input + AllocGlobal> FileAccess for SystemFiles<'_, R> {
         }
     }
 
+    fn is_kept(&mut self, name: &str) -> bool {
+        match fs::metadata(self.rt, name) {
+            Ok(found) => found.is_file(),
+            Err(_) => false,
+        }
+    }
+
     fn replace(&mut self, alloc: Global, name: &str, text: &str) -> Result<(), FileFault> {
         match replace(self.rt, name, text) {
             Ok(()) => Ok(()),

@@ -2,9 +2,9 @@
 
 use crate::finding::{Finding, file_of};
 use crate::outcome::Outcome;
-use crate::repeating::{Repeated, shortened};
+use crate::repeating::shortened;
 use crate::text::Text;
-use cedar_ast::{EntityType, EntityUID, M, Memory, NameFault};
+use cedar_ast::{EntityType, EntityUID, M, Memory};
 use cedar_schema::{CompleteError, IncompleteSchemaError, RequestEnv, ValidatorSchema};
 use std::alloc::Global;
 
@@ -126,31 +126,11 @@ impl Answer {
         let kind = AnswerKind::Nothing;
         Answer { kind, text }
     }
-}
 
-/// Why a word is no name or no uid.
-fn bad_word(alloc: Global, word: &str, fault: NameFault) -> Answer {
-    let text = match fault {
-        NameFault::Memory(refused) => Err(refused),
-        fault => format!(in alloc; "{}: {fault}", Repeated(word)).or(Err(Memory)),
-    };
-    let kind = AnswerKind::BadWord;
-    Answer { kind, text }
-}
-
-/// The entity type that a word names.
-pub(crate) fn type_named(alloc: Global, word: &str) -> Result<EntityType, Answer> {
-    match EntityType::from_str(alloc, word) {
-        Ok(ty) => Ok(ty),
-        Err(fault) => Err(bad_word(alloc, word, fault)),
-    }
-}
-
-/// The uid that a word spells.
-pub(crate) fn uid_named(alloc: Global, word: &str) -> Result<EntityUID, Answer> {
-    match EntityUID::from_str(alloc, word) {
-        Ok(uid) => Ok(uid),
-        Err(fault) => Err(bad_word(alloc, word, fault)),
+    /// Why a word of the question is none.
+    pub(crate) fn bad_word(text: M<String>) -> Self {
+        let kind = AnswerKind::BadWord;
+        Answer { kind, text }
     }
 }
 

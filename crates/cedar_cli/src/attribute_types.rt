@@ -1,6 +1,7 @@
 //! The types of attributes, of tags and of contexts.
 
-use crate::answers::{Answer, type_named, uid_named};
+use crate::answers::Answer;
+use crate::asked_for::{no_action, no_type, type_named, uid_named};
 use crate::repeating::{Repeated, shortened};
 use crate::text::Text;
 use cedar_ast::{EntityType, EntityUID, Memory, Quoted};
@@ -98,7 +99,7 @@ fn type_answer(
     match schema.get_entity_type(ty) {
         Some(declared) if is_of_tags => tags_answer(alloc, declared),
         Some(declared) => attributes_answer(alloc, schema, declared, names),
-        None => nothing(alloc, format_args!("the schema has no entity type {ty}")),
+        None => no_type(alloc, schema, ty),
     }
 }
 
@@ -125,7 +126,7 @@ fn context_answer(
 ) -> Answer {
     match schema.context_type(action) {
         Some(context) => type_below(alloc, schema, context, names),
-        None => nothing(alloc, format_args!("the schema defines no action {action}")),
+        None => no_action(alloc, schema, action),
     }
 }
 
@@ -136,7 +137,7 @@ pub(crate) fn action_answer(
     uid: &str,
     names: &[&str],
 ) -> Answer {
-    match uid_named(alloc, uid) {
+    match uid_named(alloc, schema, uid) {
         Ok(action) => context_answer(alloc, schema, &action, names),
         Err(why) => why,
     }

@@ -2,10 +2,8 @@
 
 ghost use Rattle.std.specs.Prelude.{◌≡◌, IfOk};
 
-use crate::answers::{
-    Answer, AnswerKind, EnvironmentFilter, counts, environment_lines, incomplete, type_named,
-    uid_named,
-};
+use crate::answers::{Answer, AnswerKind, counts, environment_lines, incomplete};
+use crate::asked_for::{EnvironmentWords, environments_asked};
 use crate::attribute_types::{action_answer, entity_answer};
 use crate::building::{BuiltFiles, built};
 use crate::comparing::{ReportOptions, compare_files};
@@ -13,7 +11,7 @@ use crate::file_format::FileFormat;
 use crate::files::FileAccess;
 use crate::finding::{Finding, Source};
 use crate::graph::graph;
-use crate::laying_out::format;
+use crate::laying_out::{Use, format};
 use crate::limits::Walk;
 use crate::linking::{Target, is_read, link};
 use crate::outcome::{Outcome, OutputFormat, refused};
@@ -23,7 +21,7 @@ use crate::status::Status;
 use crate::text::Text;
 use crate::translating::translate;
 use crate::words::{Command, FilesCommand, Question};
-use cedar_ast::{EntityType, EntityUID, M, Memory};
+use cedar_ast::{M, Memory};
 use cedar_schema::ValidatorSchema;
 use clap::ArgMatches;
 use schema_lines::escaped_lines_of;
@@ -126,43 +124,14 @@ fn type_answer(alloc: Global, matches: &ArgMatches<'_>, schema: &ValidatorSchema
     action_answer(alloc, schema, action, attributes)
 }
 
-/// The entity type that an option names, if it is given.
-fn type_given(
-    alloc: Global,
-    matches: &ArgMatches<'_>,
-    id: &str,
-) -> Result<Option<EntityType>, Answer> {
-    match matches.get_str(id) {
-        Some(word) => Ok(Some(type_named(alloc, word)?)),
-        None => Ok(None),
-    }
-}
-
-/// The action that an option names, if it is given.
-fn action_given(alloc: Global, matches: &ArgMatches<'_>) -> Result<Option<EntityUID>, Answer> {
-    match matches.get_str("action") {
-        Some(word) => Ok(Some(uid_named(alloc, word)?)),
-        None => Ok(None),
-    }
-}
-
-/// What environments are asked for.
-fn environment_filter(
-    alloc: Global,
-    matches: &ArgMatches<'_>,
-) -> Result<EnvironmentFilter, Answer> {
-    let principal = type_given(alloc, matches, "principal")?;
-    let resource = type_given(alloc, matches, "resource")?;
-    Ok(EnvironmentFilter {
-        principal,
-        action: action_given(alloc, matches)?,
-        resource,
-    })
-}
-
 /// The environments that are asked for.
 fn environments(alloc: Global, matches: &ArgMatches<'_>, schema: &ValidatorSchema) -> Answer {
-    match environment_filter(alloc, matches) {
+    let words = EnvironmentWords {
+        principal: matches.get_str("principal"),
+        action: matches.get_str("action"),
+        resource: matches.get_str("resource"),
+    };
+    match environments_asked(alloc, schema, words) {
         Ok(filter) => Answer::lines(environment_lines(alloc, schema, &filter)),
         Err(why) => why,
     }
@@ -314,11 +283,35 @@ fn compared<F: FileAccess>(alloc: Global, files: &mut F, matches: &ArgMatches<'_
     compare_files(alloc, files, old, new, options)
 }
 
+/// What becomes of layouts, by the words.
+fn use_of(matches: &ArgMatches<'_>) -> Use {
+    if matches.get_flag("check") {
+        Use::Test
+    } else if matches.get_flag("write") {
+        Use::Write
+    } else {
+        Use::Print
+    }
+}
+
 /// What the command that lays out gives.
-fn laid_out<F: FileAccess>(alloc: Global, files: &mut F, matches: &ArgMatches<'_>) -> M<Outcome> {
-    let name = matches.get_str("FILE").unwrap_or("-");
-    let is_test = matches.get_flag("check");
-    format(alloc, files, name, read_options(matches), is_test)
+fn laid_out<F: FileAccess>(
+    alloc: Global,
+    files: &mut F,
+    matches: &ArgMatches<'_>,
+    names: &[&str],
+) -> M<Outcome> {
+    let how = use_of(matches);
+    match how {
+        Use::Print if names.len() > 1 => usage(
+            alloc,
+            "several files are laid out by `--write`, or tested by `--check`",
+        ),
+        Use::Write if input_count(names) > 0 => {
+            usage(alloc, "standard input (`-`) can't be written over")
+        }
+        _ => format(alloc, files, names, read_options(matches), how),
+    }
 }
 
 /// What a command gives over files that are given together.
@@ -336,6 +329,7 @@ fn over_files<F: FileAccess>(
         FilesCommand::Check => check(alloc, files, names, read_options(matches)),
         FilesCommand::Link => linked(alloc, files, matches, names),
         FilesCommand::Translate => translated(alloc, files, matches, names),
+        FilesCommand::Format => laid_out(alloc, files, matches, names),
         FilesCommand::Ask(question) => over_schema(alloc, files, question, matches, names),
     }
 }
@@ -348,7 +342,6 @@ pub(crate) fn outcome_of<F: FileAccess>(
     matches: &ArgMatches<'_>,
 ) -> M<Outcome> {
     match command {
-        Command::Format => laid_out(alloc, files, matches),
         Command::Compare => compared(alloc, files, matches),
         Command::Files(command) => over_files(alloc, files, command, matches),
     }

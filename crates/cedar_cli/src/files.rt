@@ -34,6 +34,9 @@ pub trait FileAccess {
     /// Whether a file of a name is there, as far as the system tells.
     fn is_there(&mut self, name: &str) -> bool;
 
+    /// Whether a name leads to a file that keeps what is written, as far as the system tells.
+    fn is_kept(&mut self, name: &str) -> bool;
+
     /// Puts a text in the place of a file, whole or not at all.
     fn replace(&mut self, alloc: Global, name: &str, text: &str) -> Result<(), FileFault>;
 }

@@ -5,6 +5,7 @@
 #![tactic(auto)]
 
 mod answers;
+mod asked_for;
 mod attribute_types;
 mod building;
 mod cause_text;

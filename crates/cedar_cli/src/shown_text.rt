@@ -4,9 +4,9 @@ use crate::text::Text;
 use cedar_ast::M;
 use schema_lines::is_hidden;
 
-/// Whether a character of a text is hidden. Such stand in quoted texts alone, but for line ends.
+/// Whether a character of a text is hidden, and no line end or tab.
 fn is_hidden_in_text(character: char) -> bool {
-    character != '\n' && is_hidden(character)
+    character != '\n' && character != '\t' && is_hidden(character)
 }
 
 /// Adds a text, with an escape for each character of it that is hidden.
@@ -20,7 +20,8 @@ fn push_shown(text: &mut Text, from: &str) {
     }
 }
 
-/// A text with an escape for each character that would control a terminal, which reads the same.
+/// A text with an escape for each character that would control a terminal. It reads the same, since
+/// such characters stand in quoted texts and in comments alone.
 pub(crate) fn shown_text(text: String) -> M<String> {
     if !text.as_str().chars().any(is_hidden_in_text) {
         return Ok(text);

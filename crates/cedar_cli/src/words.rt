@@ -55,6 +55,8 @@ pub(crate) enum FilesCommand {
     Link,
     /// Writes each in another format.
     Translate,
+    /// Lays them out.
+    Format,
 }
 
 /// A command.
@@ -62,8 +64,6 @@ pub(crate) enum FilesCommand {
 pub(crate) enum Command {
     /// One over files that are read together.
     Files(FilesCommand),
-    /// Lays a file out.
-    Format,
     /// Compares two versions of a schema.
     Compare,
 }
@@ -243,18 +243,18 @@ const TRANSLATE: &[Choice] = &[
 
 /// The options of the command that lays out.
 const FORMAT: &[Choice] = &[
-    Choice {
-        name: "FILE",
-        help: "The file; `-` is standard input",
-        is_required: true,
-        is_positional: true,
-        ..OPTION
-    },
+    FILES,
     INPUT,
     JSON,
     Choice {
         name: "check",
-        help: "Write nothing, and end with status 1 where the file differs",
+        help: "Write nothing, and end with status 1 where a file differs",
+        ..FLAG
+    },
+    Choice {
+        name: "write",
+        help: "Write each file over, where it differs",
+        against: &["check"],
         ..FLAG
     },
 ];
@@ -342,9 +342,9 @@ const ROWS: &[Row] = &[
     },
     Row {
         name: "format",
-        about: "Lays a file out in the order of the format, with all that it says",
-        example: "Example: cedar_check format photos.json --check",
-        command: Command::Format,
+        about: "Lays files out, with all that they say",
+        example: "Example: cedar_check format photos.json photos.cedarschema --write",
+        command: Command::Files(FilesCommand::Format),
     },
     Row {
         name: "compare",
@@ -374,7 +374,7 @@ impl Command {
             Command::Files(FilesCommand::Ask(question)) => question.choices(),
             Command::Files(FilesCommand::Link) => LINK,
             Command::Files(FilesCommand::Translate) => TRANSLATE,
-            Command::Format => FORMAT,
+            Command::Files(FilesCommand::Format) => FORMAT,
             Command::Compare => COMPARE,
         }
     }
