@@ -29,6 +29,7 @@ pub use Rattle.cedar_elaboration.specs.DeclaredTypes.{AreElaborated, AreTypesOf}
 pub use Rattle.cedar_elaboration.specs.Scope.{Covers, elaborated_types}
 pub use Rattle.cedar_elaboration.specs.SoundTypes.{CommonTypesAreSound}
 pub use Rattle.cedar_elaboration.specs.declared.type_scope.TypeScope.{TypeScope}
+pub use Rattle.cedar_entities.specs.Entities.{MayStandAbove}
 pub use Rattle.cedar_entities.specs.Exists.{Exists, IsIdOf, MayHaveId}
 pub use Rattle.cedar_fragments.specs.DefinitionFault.{HasNoDefinitionFault, NamesAllWithAttributes}
 pub use Rattle.cedar_fragments.specs.FragmentDeclarations.{conditional_bag, written_bag}

@@ -1,10 +1,10 @@
 //! Which entities exist.
 
 ghost use Rattle.std.specs.Prelude.{◌↔◌, Contains, IsTrue, map};
-ghost use Rattle.cedar_schema.specs.Words.{Exists, IsIdOf, MayHaveId, eid_text, items_of, plain_kind, schema_of, uid_of};
+ghost use Rattle.cedar_schema.specs.Words.{Exists, IsIdOf, MayHaveId, MayStandAbove, eid_text, items_of, plain_kind, schema_of, type_name, uid_of};
 
 use crate::schema::ValidatorSchema;
-use cedar_ast::{Eid, EntityUID, NonEmpty};
+use cedar_ast::{Eid, EntityType, EntityUID, NonEmpty};
 use cedar_schema_elements::ValidatorEntityTypeKind;
 
 /// Whether an id is one of some choices.
@@ -15,23 +15,13 @@ fn has_choice(choices: &NonEmpty<Eid>, eid: &Eid) -> bool
 }
 
 /// Whether an entity of a kind may have the id: of an enumerated type it has to be a choice.
-fn may_have_id(kind: &ValidatorEntityTypeKind, eid: &Eid) -> bool
+fn kind_has_id(kind: &ValidatorEntityTypeKind, eid: &Eid) -> bool
     ensures { IsTrue result ↔ IsIdOf (plain_kind kind.now) (eid_text eid.now) }
 {
     match kind {
         ValidatorEntityTypeKind::Enum(choices) => has_choice(choices, eid),
         ValidatorEntityTypeKind::Standard(_) => true,
         ValidatorEntityTypeKind::External => true,
-    }
-}
-
-/// Whether the entity type of a uid, if the schema has one, may have its id.
-fn has_its_id(schema: &ValidatorSchema, uid: &EntityUID) -> bool
-    ensures { IsTrue result ↔ MayHaveId (schema_of schema.now) (uid_of uid.now) }
-{
-    match schema.get_entity_type(uid.entity_type()) {
-        Some(ty) => may_have_id(&ty.kind, uid.eid()),
-        None => true,
     }
 }
 
@@ -47,6 +37,31 @@ impl ValidatorSchema {
         if uid.entity_type().is_action() && !self.is_known_action_id(uid) {
             return false;
         }
-        has_its_id(self, uid)
+        self.may_have_id(uid)
+    }
+
+    /// Whether the entity type of a uid may have its id: of an enumerated entity type of the schema
+    /// it has to be a choice (RFC 53), and any other may have every id.
+    pub fn may_have_id(&self, uid: &EntityUID) -> bool
+        ensures { IsTrue result ↔ MayHaveId (schema_of self.now) (uid_of uid.now) }
+    {
+        match self.get_entity_type(uid.entity_type()) {
+            Some(ty) => kind_has_id(&ty.kind, uid.eid()),
+            None => true,
+        }
+    }
+
+    /// Whether an entity may stand above those of an entity type: its own entity type has that one
+    /// among its descendants, and has the entity's id among its choices if it is enumerated.
+    pub fn may_stand_above(&self, ty: &EntityType, upper: &EntityUID) -> bool
+        ensures { IsTrue result
+            ↔ MayStandAbove (schema_of self.now) (type_name ty.now) (uid_of upper.now) }
+    {
+        match self.get_entity_type(upper.entity_type()) {
+            Some(found) => {
+                found.has_descendant_entity_type(ty) && kind_has_id(&found.kind, upper.eid())
+            }
+            None => false,
+        }
     }
 }
