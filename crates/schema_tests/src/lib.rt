@@ -1,6 +1,6 @@
 //! Tests of whole schemas over Cedar's schema text: what schemas answer to questions, which are equal,
 //! what the builders and validation answer of what no file declares, what is converted back and
-//! compared, and how large types are.
+//! compared, how large types are, and which requests conform.
 #![tactic(auto)]
 
 #[cfg(test)]
@@ -17,6 +17,8 @@ mod parts;
 mod plain;
 #[cfg(test)]
 mod questions;
+#[cfg(test)]
+mod requests;
 #[cfg(test)]
 mod reserved;
 #[cfg(test)]

@@ -1,0 +1,5 @@
+pub mod Mismatch
+pub mod Naming
+pub mod Plain
+pub mod RequestFault
+pub mod ValueFault
