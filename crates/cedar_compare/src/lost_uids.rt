@@ -57,7 +57,8 @@ fn lost_if_enumerated(
     if is_enumerated {
         return lost_choices(alloc, old, new);
     }
-    Ok(BTreeMap::new(alloc))
+    let lost = BTreeMap::new(alloc);
+    Ok(lost)
 }
 
 /// Whether a uid exists in a schema, of which it may be known that nothing is enumerated there.

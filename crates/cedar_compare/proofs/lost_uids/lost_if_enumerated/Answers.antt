@@ -9,5 +9,5 @@ pub returns : goal.returns
 returns c =
     let old = schema_of c.args.old.now in
     let new = schema_of c.args.new.now in
-    lost_first old new (λ uid. IsActionType uid.ty) c.new.result c.new.ensures.empty
+    lost_first old new (λ uid. IsActionType uid.ty) c.new-lost.result c.new-lost.ensures.empty
     (actions_lost old new (⊎_elim (λ yes. absurd (false≢true (sym c.if-is_enumerated.false ∙ yes))) (λ none. none) c.requires))
