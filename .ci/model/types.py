@@ -50,8 +50,28 @@ def mark(field):
     return "" if field.required else "?"
 
 
+def entity_types(ty):
+    """The entity types that a type names."""
+    if isinstance(ty, SetOf):
+        return entity_types(ty.element)
+    if isinstance(ty, Record):
+        return {name for field in ty.fields.values() for name in entity_types(field.type)}
+    return {ty.name} if ty.kind == "entity" else set()
+
+
+def uids(value):
+    """The types and ids of the entities that a value, as Cedar's JSON writes it, names."""
+    if isinstance(value, list):
+        return {uid for item in value for uid in uids(item)}
+    if not isinstance(value, dict) or "__extn" in value:
+        return set()
+    if "__entity" in value:
+        return {(value["__entity"]["type"], value["__entity"]["id"])}
+    return {uid for held in value.values() for uid in uids(held)}
+
+
 def is_included(one, other):
-    """Whether each value of one type is one of the other."""
+    """Whether each value of one type is one of the other, whatever exists."""
     if type(one) is not type(other):
         return False
     if isinstance(one, Basic):

@@ -120,6 +120,27 @@ fn push_context(text: &mut Text, sides: &Sides<'_>, uid: &EntityUID, steps: &[St
     push_parts(text, sides, parts, steps, "has no such action");
 }
 
+/// Adds the path down a part of an entity or of a request.
+fn push_path(text: &mut Text, part: cedar_compare::Part, steps: &[Step]) {
+    match part {
+        cedar_compare::Part::Attributes => push_attribute_path(text, steps),
+        cedar_compare::Part::Tags => {
+            text.push_str("tags");
+            push_steps(text, steps);
+        }
+        cedar_compare::Part::Context => {
+            text.push_str("context");
+            push_steps(text, steps);
+        }
+    }
+}
+
+/// Adds that a uid, which may be named at the end of a path, doesn't exist in the other version.
+fn push_missing(text: &mut Text, sides: &Sides<'_>, uid: &EntityUID) {
+    let sort = if uid.is_action() { "action" } else { "choice" };
+    write!(text, ": {uid} is no {sort} in {}", sides.other_name);
+}
+
 /// Adds why the other version lacks what a difference names.
 pub(crate) fn push_cause(text: &mut Text, sides: &Sides<'_>, difference: &Difference) {
     let uid = uid_of(difference);
@@ -135,5 +156,9 @@ pub(crate) fn push_cause(text: &mut Text, sides: &Sides<'_>, difference: &Differ
         Cause::Attributes(steps) => push_attributes(text, sides, uid.entity_type(), steps),
         Cause::Tags(steps) => push_tags(text, sides, uid.entity_type(), steps),
         Cause::Context(steps) => push_context(text, sides, uid, steps),
+        Cause::NoSuchEntity { part, steps, uid } => {
+            push_path(text, *part, steps);
+            push_missing(text, sides, uid);
+        }
     }
 }

@@ -1,7 +1,7 @@
 -- Actions whose entities the new version of a schema lacks, and those that it keeps.
-use Rattle.std.proofs.Common.{◌≡◌, ◌⊎◌, [], ◌∷◌, inl, inr, subst, sym, ◌∙◌, ⊎_elim, Contains}
+use Rattle.std.proofs.Common.{◌≡◌, ◌⊎◌, inl, inr, subst, sym, ◌∙◌, ⊎_elim, Contains}
 use Rattle.cedar_ast.proofs.Basics.{Contains-none, no_members}
-use Rattle.cedar_compare.specs.Words.{ActionEntity, AreTagsOf, DefinesAction, EntityTypeKind, Entries, Extensions, Has, IsActionCause, IsEntityOfAction, IsEntityOfKind, IsEntityOfType, IsLostAction, IsReal, KeepsAction, ListsApart, ListsDescendantAction, MayStandAbove, PlainCause, PlainSchema, PlainUid, action_above, enumerated_kind, external_kind, removed, map_value, record_of, standard_kind}
+use Rattle.cedar_compare.specs.Words.{ActionEntity, AreTagsOf, DefinesAction, EntityTypeKind, Entries, Extensions, Has, IsActionCause, IsEntityOfAction, IsEntityOfKind, IsEntityOfType, IsLostAction, IsReal, KeepsAction, ListsApart, ListsDescendantAction, MayStandAbove, NamesWhatExists, PlainCause, PlainSchema, PlainUid, action_above, enumerated_kind, external_kind, removed, map_value, record_of, standard_kind}
 
 -- an entity that agrees with one of a kind in all but the order of its ancestors is one of it
 of_same_parts : (extensions : Extensions) (schema : PlainSchema) (kind : EntityTypeKind) (one it : ActionEntity) → it.uid ≡ one.uid
@@ -11,7 +11,14 @@ of_same_parts : (extensions : Extensions) (schema : PlainSchema) (kind : EntityT
 of_same_parts extensions schema (standard_kind fields openness tags) one it uid attributes tags_same above of = (
   subst (λ (a : Entries). Has extensions (map_value a) (record_of fields openness)) (sym attributes) of.0,
   subst (AreTagsOf extensions tags) (sym tags_same) of.1,
-  λ upper among. subst (λ (u : PlainUid). MayStandAbove schema u.ty upper) (sym uid) (of.2 upper (above upper among)),
+  record {
+    attributes = subst (λ (a : Entries). NamesWhatExists schema (map_value a)) (sym attributes) of.2.attributes;
+    tags = subst (λ (a : Entries). NamesWhatExists schema (map_value a)) (sym tags_same) of.2.tags;
+  },
+  record {
+    above = λ upper among. subst (λ (u : PlainUid). MayStandAbove schema u.ty upper) (sym uid) (of.3.above upper (above upper among));
+    not_itself = λ among. of.3.not_itself (subst (Contains one.ancestors) uid (above it.uid among));
+  },
 )
 of_same_parts extensions schema (enumerated_kind choices) one it uid attributes tags_same above of = (
   subst (λ (u : PlainUid). Contains choices u.eid) (sym uid) of.0,

@@ -106,7 +106,7 @@ module _ (extensions : Extensions) (old new : PlainSchema) where
     lost_among (type_subject name) (it, named, (real, (ty, there, of), none)) =
         all.types name ty (subst (λ n. Contains old.entity_types (n, ty)) named there)
     lost_among (action_subject uid) (it, named, (real, of, none)) = all.actions uid (subst (DefinesAction old) named of.defined)
-    lost_among (environment_subject p u r) (it, types, (real, (environment, of, types', has, first, second), none)) =
+    lost_among (environment_subject p u r) (it, types, (real, (environment, of, types', has, names, first, second), none)) =
         let P : PlainName → PlainUid → PlainName → Type 0 = λ q v s. Contains subjects (environment_subject q v s) in
         subst (λ q. P q u r) (sym types'.principal_type ∙ types.principal_type)
         (subst (λ v. P environment.principal v r) (sym types'.of_action ∙ types.of_action)
@@ -135,7 +135,7 @@ module _ (extensions : Extensions) (old new : PlainSchema) where
               (λ of'. keeps (type_subject it.uid.ty) (all.types it.uid.ty of'.0 of'.1) it refl real of')
               (λ of'. keeps (action_subject it.uid) (all.actions it.uid of'.defined) it refl real of')
               of;
-          requests = λ it real (environment, of, types, has, first, second).
+          requests = λ it real (environment, of, types, has, names, first, second).
               keeps (environment_subject environment.principal environment.action environment.resource) (all.environments environment of) it types real
-              (environment, of, types, has, first, second);
+              (environment, of, types, has, names, first, second);
         }

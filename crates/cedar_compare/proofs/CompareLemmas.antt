@@ -1,7 +1,5 @@
 -- What is reported of two versions of a schema as their parts are gone over.
 use Rattle.std.proofs.Common.{◌≡◌, Bool, true, List, [], ◌∷◌, ◌++◌, Option, Some, None, inl, inr, refl, ap, subst, sym, ◌∙◌, ⊎_elim, map, Contains}
-use Rattle.std.proofs.Math.Logic.{∥∥₁_elim}
-use Rattle.std.proofs.Props.{props}
 use Rattle.std.proofs.lemmas.Bool.{false≢true}
 use Rattle.std.proofs.lemmas.List.{map-append}
 use Rattle.std.proofs.lemmas.List.Elements.{Contains-append_cases, Contains-append_left, Contains-append_right}
@@ -13,11 +11,10 @@ use Rattle.std.specs.declared.cmp.Ordering.TheVariants.{Less}
 use Rattle.cedar_ast.proofs.Basics.{Contains-image, Contains-none, no_members}
 use Rattle.cedar_ast.proofs.Lists.{Contains-cons, Contains-cons_cases, Contains-preimage}
 use Rattle.cedar_ast.proofs.Ordered.{IsStrictlySortedBy-map}
-use Rattle.cedar_ast.proofs.PlainNames.{name_cmp-total, uid_cmp-total}
 use Rattle.cedar_compare.proofs.AllLemmas.{AreAllSubjects, RequestsSoFar, all_losses, nothing_lost, requests_more}
 use Rattle.cedar_compare.proofs.LeftLemmas.{SureSoFar}
 use Rattle.cedar_compare.proofs.ReportedLemmas.{AnswersSoFar, answered_append, answered_none, reported_kept, reported_lost, reported_none}
-use Rattle.cedar_compare.specs.Words.{ActionEntity, ActionKind, AreActionAnswers, AreActionEntities, AreAllRequests, AreAnswers, AreEnvironmentSubjects, AreLosses, Difference, Entity, EntityType, EntityTypeKind, EntityUID, Extensions, IsAnswer, IsCompleteSchema, IsEntityOfAction, IsKeyed, IsLoss, Keeps, PlainDifference, PlainName, PlainSchema, PlainUid, SchemaAction, SchemaEntityType, Subject, ValidatorActionId, ValidatorEntityType, ValidatorSchema, action_entries, action_lost, action_of, action_subject, action_subjects, defined_action, entity_lost, entity_type_of, entity_uid, environment_subject, external_action, external_actions, external_kind, external_types, is_external_kind, is_external_type, name_cmp, plain_action_entity, plain_action_entry, plain_difference, plain_entry, plain_type, request_lost, schema_entries, schema_of, schema_with, subject_cmp, type_name, type_subject, type_subjects, uid_cmp, uid_of, unresolved, unresolved_action, unresolved_type}
+use Rattle.cedar_compare.specs.Words.{ActionEntity, ActionKind, AreActionAnswers, AreActionEntities, AreAllRequests, AreAnswers, AreEnvironmentSubjects, AreLosses, Difference, Entity, EntityType, EntityTypeKind, EntityUID, Extensions, IsAnswer, IsCompleteSchema, IsEntityOfAction, IsLoss, Keeps, PlainDifference, PlainName, PlainSchema, PlainUid, SchemaAction, SchemaEntityType, Subject, ValidatorActionId, ValidatorEntityType, ValidatorSchema, action_entries, action_lost, action_of, action_subject, action_subjects, defined_action, entity_lost, entity_type_of, entity_uid, environment_subject, external_action, external_actions, external_kind, external_types, is_external_kind, is_external_type, name_cmp, plain_action_entity, plain_action_entry, plain_difference, plain_entry, plain_type, request_lost, schema_entries, schema_of, schema_with, subject_cmp, type_name, type_subject, type_subjects, uid_cmp, uid_of, unresolved, unresolved_action, unresolved_type}
 use Rattle.cedar_queries.proofs.SelectedLemmas.{Contains-kept}
 use Rattle.cedar_schema_semantics.proofs.OccurrenceLemmas.{Contains-filter}
 

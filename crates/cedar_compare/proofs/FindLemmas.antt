@@ -1,13 +1,7 @@
 -- What is found of a name or of a uid.
-use Rattle.std.proofs.Common.{◌≡◌, Bool, true, false, cond, List, [], ◌∷◌, Option, Some, None, IsTrue, not, inl, inr, refl, ap, subst, sym, ◌∙◌, ⊎_elim, map, Contains, arith}
+use Rattle.std.proofs.Common.{◌≡◌, Bool, true, false, List, [], ◌∷◌, Option, Some, None, IsTrue, not, refl, ap, subst, ◌∙◌, map, Contains}
 use Rattle.std.proofs.lemmas.Bool.{false≢true}
-use Rattle.std.specs.Bool.{Decides}
-use Rattle.std.specs.Map.{lookup}
-use Rattle.std.specs.Option.{option_map}
-use Rattle.std.specs.Ordering.{is_eq}
-use Rattle.cedar_ast.proofs.Lists.{Contains-cons, Contains-cons_cases}
-use Rattle.cedar_compare.specs.Words.{AreChoicesAt, DefinesAction, IsActionAt, IsAt, IsDefinedKind, IsKeyed, IsTypeAt, ListsDescendantAction, PlainName, PlainSchema, PlainUid, SchemaAction, SchemaEntityType, Text, ValidatorActionId, ValidatorEntityType, ValidatorSchema, action_entries, action_of, action_of_uid, entity_type_named, kind_choices, name_cmp, plain_type, schema_entries, schema_of, type_name, uid_cmp, uid_of}
-use Rattle.cedar_schema_semantics.proofs.OccurrenceLemmas.{name_test, uid_test}
+use Rattle.cedar_compare.specs.Words.{AreChoicesAt, DefinesAction, IsDefinedKind, IsKeyed, ListsDescendantAction, PlainName, PlainSchema, PlainUid, SchemaAction, SchemaEntityType, Text, kind_choices}
 
 -- the keys of entries as plain data are what the keys stand for
 pub plain_keys : {K V P D : Type 0} (f : K → P) (g : V → D) (entries : List (K × V))

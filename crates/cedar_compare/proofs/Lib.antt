@@ -8,10 +8,12 @@ pub mod BelowLemmas
 pub mod ChoiceLemmas
 pub mod CompareLemmas
 pub mod EntityLemmas
+pub mod ExistingLemmas
 pub mod FindLemmas
 pub mod FreshLemmas
 pub mod LeftLemmas
 pub mod LostLemmas
+pub mod LostUidLemmas
 pub mod NoTags
 pub mod ReportedLemmas
 pub mod RequestLemmas

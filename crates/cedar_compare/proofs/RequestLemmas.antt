@@ -1,7 +1,7 @@
 -- Requests that the new version of a schema lacks, and environments of which it keeps all.
 use Rattle.std.proofs.Common.{◌≡◌, List, Option, Some, None, refl, ap, subst, sym, ◌∙◌, Contains}
 use Rattle.cedar_compare.proofs.LostLemmas.{choices_of_id, id_of_choices}
-use Rattle.cedar_compare.specs.Words.{ActionKind, AreChoicesAt, Environment, Extensions, Has, IsEnvironmentOf, IsIdOf, IsKeyed, IsLostRequest, IsOfTypes, IsRealRequest, IsRequestIn, IsRequestOf, IsUidOfType, IsUidOutside, KeepsRequest, LacksChoice, MayHave, MayHaveId, PlainName, PlainRequest, PlainSchema, PlainUid, SchemaAction, SchemaEntityType, Text, Ty, ValuesIncluded, defined_action, external_action}
+use Rattle.cedar_compare.specs.Words.{ActionKind, AreChoicesAt, Environment, Extensions, Has, IncludedBetween, IsEnvironmentOf, IsIdOf, IsKeyed, IsLostRequest, IsOfTypes, IsRealRequest, IsRequestIn, IsRequestOf, IsUidOfType, IsUidOutside, KeepsRequest, LacksChoice, MayHave, MayHaveId, NamesWhatExists, PlainName, PlainRequest, PlainSchema, PlainUid, SchemaAction, SchemaEntityType, Text, Ty, defined_action, external_action}
 
 module _ (schema : PlainSchema) (keyed : IsKeyed schema) where
   -- the schema may have the uid where the choices of its type say so
@@ -50,27 +50,27 @@ module _ (extensions : Extensions) (old new : PlainSchema) where
   module _ (principal : PlainName) (uid : PlainUid) (resource : PlainName) (ty : Ty)
       (asked : IsEnvironmentOf old (record { principal = principal; action = uid; resource = resource; context = ty })) where
     -- a request of an environment of the old schema is one of it
-    request_there : (it : PlainRequest) → IsOfTypes principal uid resource it → Has extensions it.context ty
+    request_there : (it : PlainRequest) → IsOfTypes principal uid resource it → Has extensions it.context ty → NamesWhatExists old it.context
         → MayHaveId old it.principal → MayHaveId old it.resource → IsRequestIn extensions old it
-    request_there it types has first second =
-        (record { principal = principal; action = uid; resource = resource; context = ty }, asked, types, has, first, second)
+    request_there it types has names first second =
+        (record { principal = principal; action = uid; resource = resource; context = ty }, asked, types, has, names, first, second)
 
     -- it is lost where the new schema refuses it in each environment of its types
     pub lost_request : (it : PlainRequest) → IsOfTypes principal uid resource it → IsRealRequest it → Has extensions it.context ty
-        → MayHaveId old it.principal → MayHaveId old it.resource
+        → NamesWhatExists old it.context → MayHaveId old it.principal → MayHaveId old it.resource
         → ((other : Ty) → IsEnvironmentOf new (record { principal = principal; action = uid; resource = resource; context = other })
-        → Has extensions it.context other → MayHaveId new it.principal → MayHaveId new it.resource → ⊥)
+        → Has extensions it.context other → NamesWhatExists new it.context → MayHaveId new it.principal → MayHaveId new it.resource → ⊥)
         → IsLostRequest extensions old new it
-    lost_request it types real has first second refused = (
+    lost_request it types real has names first second refused = (
       real,
-      request_there it types has first second,
-      λ (environment, of, types', has', first', second').
+      request_there it types has names first second,
+      λ (environment, of, types', has', names', first', second').
           let P : PlainName → PlainUid → PlainName → Type 0 = λ p a r. IsEnvironmentOf new
           (record { principal = p; action = a; resource = r; context = environment.context }) in
           let one = subst (λ p. P p environment.action environment.resource) (sym types'.principal_type ∙ types.principal_type) of in
           let two = subst (λ a. P principal a environment.resource) (sym types'.of_action ∙ types.of_action) one in
           let three = subst (λ r. P principal uid r) (sym types'.resource_type ∙ types.resource_type) two in
-          refused environment.context three has' first' second',
+          refused environment.context three has' names' first' second',
     )
 
   -- the requests of an environment are kept where the new schema has it, with a context that each
@@ -78,16 +78,19 @@ module _ (extensions : Extensions) (old new : PlainSchema) where
   pub kept_requests : IsKeyed old → (principal : PlainName) (uid : PlainUid) (resource : PlainName) (ty other : Ty)
       → IsEnvironmentOf old (record { principal = principal; action = uid; resource = resource; context = ty })
       → IsEnvironmentOf new (record { principal = principal; action = uid; resource = resource; context = other })
-      → ValuesIncluded extensions ty other
+      → IncludedBetween extensions old ty new other
       → ((it : PlainUid) → IsUidOfType old principal it → MayHaveId new it)
       → ((it : PlainUid) → IsUidOfType old resource it → MayHaveId new it)
       → KeepsRequest extensions old new principal uid resource
   kept_requests keyed principal uid resource ty other asked still included first second it types real
-      (environment, of, types', has, may, may') = (
+      (environment, of, types', has, names, may, may') =
+      let context = included it.context real.3
+      (subst (Has extensions it.context) (sym (context_once keyed uid ty environment asked (sym types'.of_action ∙ types.of_action) of)) has) names in (
         record { principal = principal; action = uid; resource = resource; context = other },
         still,
         types,
-        included it.context real.3 (subst (Has extensions it.context) (sym (context_once keyed uid ty environment asked (sym types'.of_action ∙ types.of_action) of)) has),
+        context.0,
+        context.1,
         first it.principal (types.principal_type, may),
         second it.resource (types.resource_type, may'),
       )

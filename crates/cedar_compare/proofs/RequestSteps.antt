@@ -12,7 +12,8 @@ use Rattle.cedar_ast.proofs.Lists.{Contains-cons, Contains-cons_cases, Contains-
 use Rattle.cedar_compare.proofs.AllLemmas.{principals_below}
 use Rattle.cedar_compare.proofs.ReportedLemmas.{AnswersSoFar, answered_append, answered_none, reported_lost}
 use Rattle.cedar_compare.proofs.RequestLemmas.{kept_requests, lacking, lost_request}
-use Rattle.cedar_compare.specs.Words.{ActionKind, AreActionAnswers, AreAnswers, Environment, Extensions, Has, HasEnvironment, IsActionAt, IsAnswer, IsAppliedBy, IsContextIn, IsContextOf, IsContextOutside, IsEnvironmentFor, IsEnvironmentLacking, IsEnvironmentOf, IsKeyed, IsLostRequest, IsOfTypes, IsOutsideAt, IsRequestOf, IsSampleRequest, IsUidOfType, IsUidOutside, KeepsOf, LacksChoice, MayHaveId, PlainDifference, PlainName, PlainRequest, PlainSchema, PlainStep, PlainUid, SameItems, SchemaAction, Subject, Tree, Ty, choice_removed, context_at, context_outside, defined_action, environment_subject, external_action, removed, kind_context, kind_principals, kind_resources, name_cmp, request_lost, subject_cmp, subjects_with}
+use Rattle.cedar_compare.specs.Words.{ActionKind, AreActionAnswers, AreAnswers, AreValuesApart, Environment, Extensions, Has, HasEnvironment, IsActionAt, IsAnswer, IsAppliedBy, IsContextIn, IsContextOf, IsContextOutside, IsEnvironmentFor, IsEnvironmentLacking, IsEnvironmentOf, IsKeyed, IsLostRequest, IsOfTypes, IsRequestOf, IsSampleRequest, IsUidOfType, IsUidOutside, KeepsOf, LacksChoice, MayHaveId, NamesWhatExists, PlainBetween, PlainDifference, PlainName, PlainRequest, PlainSchema, PlainStep, PlainUid, SameItems, SchemaAction, Subject, Ty, choice_removed, context_at, defined_action, environment_subject, external_action, kind_context, kind_principals, kind_resources, name_cmp, removed, request_lost, subject_cmp, subjects_with, values_apart}
+use Rattle.cedar_compare.specs.declared.difference.Part.TheVariants.{Context}
 use Rattle.cedar_schema_semantics.proofs.OccurrenceLemmas.{Contains-flat_map, Contains-given}
 
 -- the context of an environment is that of its action
@@ -77,7 +78,7 @@ module _ (schema : PlainSchema) (uid : PlainUid) where
 module _ (extensions : Extensions) (old new : PlainSchema) (principal : PlainName) (uid : PlainUid) (resource : PlainName) (ty : Ty)
     (asked : IsEnvironmentOf old (record { principal = principal; action = uid; resource = resource; context = ty })) where
   module _ (first second : PlainUid) (it : PlainRequest) (of_first : IsUidOfType old principal first)
-      (of_second : IsUidOfType old resource second) (sample : IsSampleRequest extensions first uid second ty it) where
+      (of_second : IsUidOfType old resource second) (sample : IsSampleRequest extensions old first uid second ty it) where
     -- a sample is of the types of its uids
     sample_types : IsOfTypes principal uid resource it
     sample_types = record {
@@ -95,10 +96,10 @@ module _ (extensions : Extensions) (old new : PlainSchema) (principal : PlainNam
 
     -- and it is lost where the new schema refuses it in each such environment
     sample_lost : ((other : Ty) → IsEnvironmentOf new (record { principal = principal; action = uid; resource = resource; context = other })
-        → Has extensions it.context other → MayHaveId new it.principal → MayHaveId new it.resource → ⊥)
+        → Has extensions it.context other → NamesWhatExists new it.context → MayHaveId new it.principal → MayHaveId new it.resource → ⊥)
         → IsLostRequest extensions old new it
     sample_lost refused =
-        lost_request extensions old new principal uid resource ty asked it sample_types sample.real sample.has
+        lost_request extensions old new principal uid resource ty asked it sample_types sample.real sample.has sample.exists
         (subst (MayHaveId old) (sym sample.principal_is) of_first.1) (subst (MayHaveId old) (sym sample.resource_is) of_second.1) refused
 
     -- an environment for it is one of its types
@@ -117,7 +118,7 @@ module _ (extensions : Extensions) (old new : PlainSchema) (principal : PlainNam
     removed_answer lacks = (
       sample_subject,
       (
-        sample_lost (λ other of has may may'. lacks (other, of)),
+        sample_lost (λ other of has names may may'. lacks (other, of)),
         λ environment for_it. lacks (environment_there new environment for_it),
       ),
     )
@@ -130,7 +131,7 @@ module _ (extensions : Extensions) (old new : PlainSchema) (principal : PlainNam
         ⊎_elim (λ one. inl (one ∙ sym sample.principal_is)) (λ other. inr (other ∙ sym sample.resource_is)) is in (
           sample_subject,
           (
-            sample_lost (λ other of has may may'. lacking new lost lacks (⊎_elim
+            sample_lost (λ other of has names may may'. lacking new lost lacks (⊎_elim
                 (λ one. subst (MayHaveId new) (sym one) may)
                 (λ one. subst (MayHaveId new) (sym one) may')
                 is_one)),
@@ -139,25 +140,28 @@ module _ (extensions : Extensions) (old new : PlainSchema) (principal : PlainNam
         )
 
     -- that of one whose context the new schema's can't be
-    pub context_answer : IsKeyed new → (o : Option SchemaAction) → IsActionAt new uid o → (value : Tree) (steps reported : List PlainStep)
-        → IsContextOutside extensions ty (context_at o) (Some (value, steps)) → it.context ≡ value → reported ≡ steps
-        → HasEnvironment new principal uid resource
-        → IsAnswer extensions old new (environment_subject principal uid resource) (Some (request_lost it (context_outside reported)))
-    context_answer keyed o at value steps reported (upper, is, real, has, hasn't, outside) same same_steps (other, still) =
+    pub context_answer : IsKeyed new → (o : Option SchemaAction) → IsActionAt new uid o → (found : PlainBetween) (steps : List PlainStep)
+        (lost : Option PlainUid) → IsContextOutside extensions old new ty (context_at o) (Some found) → it.context ≡ found.value
+        → steps ≡ found.steps → lost ≡ found.lost → HasEnvironment new principal uid resource
+        → IsAnswer extensions old new (environment_subject principal uid resource) (Some (request_lost it (values_apart Context steps lost)))
+    context_answer keyed o at found steps lost (upper, is, outside) same same_steps same_lost (other, still) =
         let upper_is : (one : Ty)
         → IsEnvironmentOf new (record { principal = principal; action = uid; resource = resource; context = one }) → upper ≡ one = λ one of.
         some_same upper one (sym is ∙ context_there new uid keyed o at principal resource one of) in (
           sample_subject,
           (
-            sample_lost (λ one of has' may may'. hasn't (subst (λ v. Has extensions v upper) same
-                (subst (Has extensions it.context) (sym (upper_is one of)) has'))),
+            sample_lost (λ one of has' names may may'. outside.lacks (
+              subst (λ v. Has extensions v upper) same (subst (Has extensions it.context) (sym (upper_is one of)) has'),
+              subst (NamesWhatExists new) same names,
+            )),
             (
               record { principal = principal; action = uid; resource = resource; context = ty },
               record { principal = principal; action = uid; resource = resource; context = other },
               (asked, sample_types),
               (still, sample_types),
-              subst (λ s. IsOutsideAt extensions s ty other) (sym same_steps)
-                  (subst (IsOutsideAt extensions steps ty) (upper_is other still) outside),
+              subst (λ s. AreValuesApart extensions old new s lost ty other) (sym same_steps)
+                  (subst (λ l. AreValuesApart extensions old new found.steps l ty other) (sym same_lost)
+                  (subst (AreValuesApart extensions old new found.steps found.lost ty) (upper_is other still) outside.apart)),
             ),
           ),
         )
@@ -168,7 +172,7 @@ module _ (extensions : Extensions) (old new : PlainSchema) (principal : PlainNam
 
   -- the requests of an environment are kept where nothing is outside
   pub kept_answer : IsKeyed old → IsKeyed new → (o : Option SchemaAction) → IsActionAt new uid o
-      → IsContextOutside extensions ty (context_at o) None → HasEnvironment new principal uid resource
+      → IsContextOutside extensions old new ty (context_at o) None → HasEnvironment new principal uid resource
       → IsUidOutside old new principal None → IsUidOutside old new resource None
       → IsAnswer extensions old new (environment_subject principal uid resource) None
   kept_answer keyed keyed' o at within (other, still) first second =

@@ -1,6 +1,9 @@
 -- A schema keeps all that another admits which is the same.
 use Rattle.std.proofs.Common.{◌≡◌, inl, inr, subst, sym, ◌∙◌, ⊎_elim, Contains}
-use Rattle.cedar_compare.specs.Words.{ActionEntity, ActionKind, EntityTypeKind, Environment, Extensions, HoldsPairwise, IsEntityIn, IsEntityOfKind, IsIdOf, IsRequestIn, IsRequestOf, Keeps, ListsDescendantAction, MayHaveId, MayStandAbove, PlainName, PlainRequest, PlainSchema, PlainUid, SameAction, SameActionKind, SameEntityType, SameItems, SameSchema, SchemaAction, SchemaEntityType, defined_action, enumerated_kind, external_kind, standard_kind}
+use Rattle.cedar_compare.specs.Words.{ActionEntity, ActionKind, EntityTypeKind, Environment, Exists, Extensions, HoldsPairwise, IsEntityIn, IsEntityOfKind, IsIdOf, IsReal, IsRealRequest, IsRequestIn, IsRequestOf, IsValue, Keeps, KeepsUids, ListsDescendantAction, MayHaveId, MayStandAbove, NamesWhatExists, PlainName, PlainRequest, PlainSchema, PlainUid, SameAction, SameActionKind, SameEntityType, SameItems, SameSchema, SchemaAction, SchemaEntityType, Tree, defined_action, enumerated_kind, external_kind, map_value, standard_kind}
+use Rattle.cedar_ast.proofs.Basics.{Contains-image}
+use Rattle.cedar_entities.proofs.KeptLemmas.{all_kept}
+use Rattle.cedar_schema_semantics.proofs.OccurrenceLemmas.{Contains-entry}
 use Rattle.cedar_schema_semantics.proofs.SameActions.{action_back, defined_like}
 use Rattle.cedar_schema_semantics.proofs.TurnLemmas.{turn_back, turn_forth}
 
@@ -65,18 +68,50 @@ module _ (extensions : Extensions) (old new : PlainSchema) (alike : AreAlike old
       let found = type_there old new alike upper.ty may.0 may.1 in
       (found.0, found.1, (found.3 name).0 may.2, subst (λ kind. IsIdOf kind upper.eid) found.2 may.3)
 
+  -- an id that a type may have it still may
+  id_there : (uid : PlainUid) → MayHaveId old uid → MayHaveId new uid
+  id_there uid may it among =
+      let found = type_there new old (alike_back old new alike) uid.ty it among in
+      subst (λ kind. IsIdOf kind uid.eid) (sym found.2) (may found.0 found.1)
+
+  -- a uid that exists still does
+  exists_there : KeepsUids (Exists old) (Exists new)
+  exists_there uid real exists = record {
+    choice = id_there uid exists.choice;
+    action = λ of_actions.
+        let it = Contains-entry old.actions uid (exists.action of_actions) in
+        let found = action_there old new alike uid it.0 it.1 in
+        Contains-image (λ (entry : PlainUid × SchemaAction). entry.0) new.actions (uid, found.0) found.1;
+  }
+
+  -- so what names what exists still does
+  names_there : (value : Tree) → IsValue value → NamesWhatExists old value → NamesWhatExists new value
+  names_there value real names = all_kept (Exists old) (Exists new) value exists_there real names
+
   -- entities of a kind stay so
-  kind_there : (kind : EntityTypeKind) (it : ActionEntity) → IsEntityOfKind extensions old kind it → IsEntityOfKind extensions new kind it
-  kind_there (standard_kind fields openness tags) it of = (of.0, of.1, λ upper among. stand_there it.uid.ty upper (of.2 upper among))
-  kind_there (enumerated_kind choices) it of = of
-  kind_there external_kind it of = of
+  kind_there : (kind : EntityTypeKind) (it : ActionEntity) → IsReal it → IsEntityOfKind extensions old kind it
+      → IsEntityOfKind extensions new kind it
+  kind_there (standard_kind fields openness tags) it real of = (
+    of.0,
+    of.1,
+    record {
+      attributes = names_there (map_value it.attributes) real.1 of.2.attributes;
+      tags = names_there (map_value it.tags) real.2 of.2.tags;
+    },
+    record {
+      above = λ upper among. stand_there it.uid.ty upper (of.3.above upper among);
+      not_itself = of.3.not_itself;
+    },
+  )
+  kind_there (enumerated_kind choices) it real of = of
+  kind_there external_kind it real of = of
 
   -- each entity stays one
-  entity_there : (it : ActionEntity) → IsEntityIn extensions old it → IsEntityIn extensions new it
-  entity_there it among =
+  entity_there : (it : ActionEntity) → IsReal it → IsEntityIn extensions old it → IsEntityIn extensions new it
+  entity_there it real among =
       ⊎_elim
       (λ of. (let found = type_there old new alike it.uid.ty of.0 of.1 in
-      inl (found.0, found.1, kind_there found.0.kind it (subst (λ kind. IsEntityOfKind extensions old kind it) found.2 of.2))))
+      inl (found.0, found.1, kind_there found.0.kind it real (subst (λ kind. IsEntityOfKind extensions old kind it) found.2 of.2))))
       (λ of. (let found = action_there old new alike it.uid of.defined.0 of.defined.1 in
       inr (record {
         defined = (found.0, found.1, defined_like of.defined.0.kind found.0.kind found.2 of.defined.2);
@@ -89,20 +124,15 @@ module _ (extensions : Extensions) (old new : PlainSchema) (alike : AreAlike old
       })))
       among
 
-  -- an id that a type may have it still may
-  id_there : (uid : PlainUid) → MayHaveId old uid → MayHaveId new uid
-  id_there uid may it among =
-      let found = type_there new old (alike_back old new alike) uid.ty it among in
-      subst (λ kind. IsIdOf kind uid.eid) (sym found.2) (may found.0 found.1)
-
   -- each request stays one
-  request_there : (it : PlainRequest) → IsRequestIn extensions old it → IsRequestIn extensions new it
-  request_there it (environment, (action, among, asked), types, has, first, second) =
+  request_there : (it : PlainRequest) → IsRealRequest it → IsRequestIn extensions old it → IsRequestIn extensions new it
+  request_there it real (environment, (action, among, asked), types, has, names, first, second) =
       let found = action_there old new alike environment.action action among in (
         environment,
         (found.0, found.1, asked_like action.kind found.0.kind environment found.2 asked),
         types,
         has,
+        names_there it.context real.3 names,
         id_there it.principal first,
         id_there it.resource second,
       )
@@ -110,8 +140,8 @@ module _ (extensions : Extensions) (old new : PlainSchema) (alike : AreAlike old
   -- so all is kept
   alike_keeps : Keeps extensions old new
   alike_keeps = record {
-    entities = λ it real of. entity_there it of;
-    requests = λ it real of. request_there it of;
+    entities = λ it real of. entity_there it real of;
+    requests = λ it real of. request_there it real of;
   }
 
 -- schemas that are the same keep each other

@@ -1,13 +1,10 @@
 -- Lists in strict order.
-use Rattle.std.proofs.Common.{◌≡◌, List, [], ◌∷◌, ◌++◌, inl, inr, refl, ap, sym, ◌∙◌, ⊎_elim, map, Contains, arith}
-use Rattle.std.specs.Cmp.{IsTotalOrder}
+use Rattle.std.proofs.Common.{◌≡◌, List, [], ◌∷◌, ◌++◌, inl, inr, refl, Contains}
 use Rattle.std.specs.List.{AllByRecursion}
 use Rattle.std.specs.List.Sorted.{IsStrictlySortedBy}
 use Rattle.std.specs.declared.cmp.Ordering.{Ordering}
 use Rattle.std.specs.declared.cmp.Ordering.TheVariants.{Less}
-use Rattle.cedar_ast.proofs.Basics.{AllByRecursion-at, Contains-image}
-use Rattle.cedar_ast.proofs.Lists.{Contains-cons, Contains-cons_cases}
-use Rattle.cedar_ast.proofs.Ordered.{not_itself}
+use Rattle.cedar_ast.proofs.Lists.{Contains-cons}
 
 module _ {A : Type 0} where
   -- what holds of each of two lists holds of both together

@@ -1,5 +1,5 @@
 -- What is found above nodes, one node after another, where for each one that is lost is kept.
-use Rattle.std.proofs.Common.{◌≡◌, ◌⊎◌, Bool, true, false, cond, List, [], ◌∷◌, Option, Some, None, is_some, inl, inr, refl, ap, subst, sym, ◌∙◌, ⊎_elim, Contains, arith}
+use Rattle.std.proofs.Common.{◌≡◌, ◌⊎◌, Bool, true, false, cond, List, [], ◌∷◌, Option, Some, None, is_some, inl, inr, refl, ap, subst, sym, ◌∙◌, ⊎_elim, Contains}
 use Rattle.std.proofs.lemmas.Bool.{false≢true}
 use Rattle.std.specs.BTreeMap.{BTreeMap, get, get_by, is_at}
 use Rattle.std.specs.Bool.{Decides}

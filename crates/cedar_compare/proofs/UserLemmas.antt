@@ -1,8 +1,8 @@
 -- Schemas of one entity type.
-use Rattle.std.proofs.Common.{◌≡◌, [], ◌∷◌, Contains, ap, arith, inl, refl, subst, sym, ⊎_elim}
+use Rattle.std.proofs.Common.{◌≡◌, [], Contains, ap, arith, inl, refl, subst, sym, ⊎_elim}
 use Rattle.cedar_ast.proofs.Basics.{Contains-none, Contains-single}
 use Rattle.cedar_ast.proofs.Lists.{Contains-cons}
-use Rattle.cedar_compare.specs.Words.{ActionEntity, EntityTypeKind, Extensions, IsEntityIn, IsEntityOfKind, IsEntityOfType, IsName, IsReal, IsText, Keeps, LosesEntityType, MayStandAbove, PlainName, PlainUid, SchemaEntityType, Text, no_entry, user, user_of, users}
+use Rattle.cedar_compare.specs.Words.{ActionEntity, EntityTypeKind, Exists, Extensions, IsEntityIn, IsEntityOfKind, IsEntityOfType, IsIdOf, IsName, IsReal, IsStandard, IsText, Keeps, KeepsUids, LosesEntityType, MayStandAbove, PlainName, PlainUid, SchemaEntityType, Text, no_entry, standard_kind, user, user_of, users}
 
 -- the schema's entity type is of its kind
 pub user_kind : (kind : EntityTypeKind) (name : PlainName) (ty : SchemaEntityType) → Contains (users kind).entity_types (name, ty)
@@ -39,13 +39,25 @@ kind_of_entity extensions kind it named of = (
 
 -- a schema is kept where each entity of its kind is one of the other's
 pub users_keep : (extensions : Extensions) (lower upper : EntityTypeKind)
-    → ((it : ActionEntity) → IsEntityOfKind extensions (users lower) lower it → IsEntityOfKind extensions (users upper) upper it)
+    → ((it : ActionEntity) → IsReal it → IsEntityOfKind extensions (users lower) lower it
+    → IsEntityOfKind extensions (users upper) upper it)
     → Keeps extensions (users lower) (users upper)
 users_keep extensions lower upper each = record {
   entities = λ it real of. (let own = entity_of_kind extensions lower it of in
-      inl (kind_of_entity extensions upper it own.0 (each it own.1)));
+      inl (kind_of_entity extensions upper it own.0 (each it real own.1)));
   requests = λ it real of. absurd (Contains-none _ of.1.1);
 }
+
+-- a uid that exists beside entities of a kind exists beside those of a standard one
+pub users_keep_uids : (lower upper : EntityTypeKind) → IsStandard upper → KeepsUids (Exists (users lower)) (Exists (users upper))
+users_keep_uids lower upper standard uid real exists = record {
+  choice = λ it there. subst (λ (ty : SchemaEntityType). IsIdOf ty.kind uid.eid) (user_kind upper uid.ty it there).1 (any_id upper standard);
+  action = exists.action;
+}
+  where
+    any_id : (kind : EntityTypeKind) → IsStandard kind → IsIdOf kind uid.eid
+    any_id (standard_kind fields openness tags) standard' = tt
+    any_id _ standard' = absurd standard'
 
 -- an entity of `User` with an id and nothing else
 abbrev pub bare : Text → ActionEntity

@@ -2,14 +2,14 @@
 use Rattle.std.specs.Prelude.{◌≡◌, ◌++◌, List, ℕ, Contains, codes, string_bytes}
 use Rattle.cedar_ast.specs.Words.{PlainName, PlainUid, Tree}
 use Rattle.cedar_ast.specs.declared.extension.Extensions.{Extensions}
-use Rattle.cedar_compare.specs.Versions.{IsSchemaSampled}
+use Rattle.cedar_compare.specs.Sampled.{IsSampled, IsSchemaSampled}
 use Rattle.cedar_compare.specs.declared.compare_fault.CompareFault.{CompareFault}
 use Rattle.cedar_compare.specs.declared.compare_fault.CompareFault.TheVariants as fault
 use Rattle.cedar_compare.specs.declared.compare_fault.Version.{Version}
 use Rattle.cedar_compare.specs.declared.compare_fault.Version.TheVariants.{New, Old}
 use Rattle.cedar_queries.specs.Leaves.{schema_leaves}
 use Rattle.cedar_schema_semantics.specs.Words.{PlainSchema, SchemaAction, SchemaEntityType, external_action, external_kind}
-use Rattle.cedar_type_rules.specs.Words.{IsInhabitedWith, Ty, ty_text}
+use Rattle.cedar_type_rules.specs.Words.{Ty, ty_text}
 
 -- the word for a version
 abbrev pub version_word : Version → List ℕ
@@ -37,7 +37,7 @@ pub record IsCompleteSchema (schema : PlainSchema) : Type 0 where
 abbrev pub IsUnsampledType : Extensions → List Tree → PlainSchema → List ℕ → Type 0
 IsUnsampledType extensions samples schema text = (ty : Ty)
     × Contains (schema_leaves schema.entity_types schema.actions) ty
-    × (¬ IsInhabitedWith extensions samples ty) × (text ≡ ty_text ty)
+    × (¬ IsSampled extensions samples schema ty) × (text ≡ ty_text ty)
 
 -- a refusal is true of two schemas; that memory ran out says nothing of them
 abbrev pub IsCompareFault : Extensions → List Tree → PlainSchema → PlainSchema → CompareFault

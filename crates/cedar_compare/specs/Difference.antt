@@ -8,8 +8,12 @@ use Rattle.cedar_ast.specs.Words.{PlainName, PlainUid, name_cmp, uid_cmp}
 use Rattle.cedar_ast.specs.declared.extension.Extensions.{Extensions}
 use Rattle.cedar_compare.specs.Choices.{MayHave, kind_choices}
 use Rattle.cedar_compare.specs.Keeps.{IsLostAction, IsLostEntity, IsLostRequest, KeepsAction, KeepsEntityType, KeepsRequest, LosesAction, LosesEntityType, LosesRequest}
+use Rattle.cedar_compare.specs.declared.difference.Part.{Part}
+use Rattle.cedar_compare.specs.declared.difference.Part.TheVariants.{Attributes, Context, Tags}
+use Rattle.cedar_counterexample.specs.Between.{IsApartAt}
+use Rattle.cedar_counterexample.specs.Steps.{PlainStep}
+use Rattle.cedar_entities.specs.Exists.{Exists}
 use Rattle.cedar_entities.specs.Requests.{IsOfTypes, PlainRequest}
-use Rattle.cedar_counterexample.specs.Steps.{IsOutsideAt, PlainStep}
 use Rattle.cedar_schema_semantics.specs.Words.{ActionEntity, DefinesAction, EntityTypeKind, Environment, IsEnvironmentOf, ListsDescendant, ListsDescendantAction, PlainSchema, SchemaEntityType, enumerated_kind, external_kind, standard_kind}
 use Rattle.cedar_type_rules.specs.Ty.{Ty, record_of}
 
@@ -32,15 +36,14 @@ subject_cmp (environment_subject p a r) (environment_subject q b s) =
     ordering_then (uid_cmp a b) (ordering_then (name_cmp p q) (name_cmp r s))
 subject_cmp (environment_subject p a r) _ = Greater
 
--- why something is lost, as plain data
+-- why something is lost, as plain data: of values of a part, at the end of the steps the types
+-- part, or they lead to where values may name a uid that is lost
 pub data PlainCause : Type 0 where
   removed : PlainCause
   choice_removed : PlainUid → PlainCause
   type_above : PlainName → PlainCause
   action_above : PlainUid → PlainCause
-  attributes_outside : List PlainStep → PlainCause
-  tags_outside : List PlainStep → PlainCause
-  context_outside : List PlainStep → PlainCause
+  values_apart : Part → List PlainStep → Option PlainUid → PlainCause
 
 -- a difference as plain data: what is lost of an entity type, of an action or of an environment,
 -- and why
@@ -69,23 +72,31 @@ abbrev pub LacksChoice : PlainSchema → PlainUid → Type 0
 LacksChoice schema uid = (it : SchemaEntityType) × Contains schema.entity_types (uid.ty, it)
     × ¬ MayHave (kind_choices it.kind) uid.eid
 
--- tags of a type are outside others at the end of some steps: there are no others, or a part of the
--- one type isn't included there
-abbrev pub AreTagsOutside : Extensions → List PlainStep → Option Ty → Option Ty → Type 0
-AreTagsOutside extensions steps (Some ty) None = steps ≡ []
-AreTagsOutside extensions steps (Some ty) (Some other) = IsOutsideAt extensions steps ty other
-AreTagsOutside extensions steps None other = ⊥
+-- values of two types part between two schemas: at the end of the steps the types do, or they lead
+-- to where the values may name a uid that exists in the old schema and not in the new
+abbrev pub AreValuesApart : Extensions → PlainSchema → PlainSchema → List PlainStep
+    → Option PlainUid → Ty → Ty → Type 0
+AreValuesApart extensions old new = IsApartAt extensions (Exists old) (Exists new)
 
--- a cause is true of two kinds of an entity type: at the end of the steps a part of the attributes'
--- or of the tags' types isn't included
-abbrev pub IsCauseOfKinds : Extensions → EntityTypeKind → EntityTypeKind → PlainCause → Type 0
-IsCauseOfKinds extensions (standard_kind fields openness tags)
-    (standard_kind others other_openness other_tags) (attributes_outside steps) =
-    IsOutsideAt extensions steps (record_of fields openness) (record_of others other_openness)
-IsCauseOfKinds extensions (standard_kind fields openness tags)
-    (standard_kind others other_openness other_tags) (tags_outside steps) =
-    AreTagsOutside extensions steps tags other_tags
-IsCauseOfKinds extensions old new cause = ⊥
+-- tags of two types part: there are no others, or their types part
+abbrev pub AreTagsApart : Extensions → PlainSchema → PlainSchema → List PlainStep
+    → Option PlainUid → Option Ty → Option Ty → Type 0
+AreTagsApart extensions old new steps lost (Some ty) None = (steps ≡ []) × (lost ≡ None)
+AreTagsApart extensions old new steps lost (Some ty) (Some other) =
+    AreValuesApart extensions old new steps lost ty other
+AreTagsApart extensions old new steps lost None other = ⊥
+
+-- a cause is true of two kinds of an entity type: their attributes or their tags part
+abbrev pub IsCauseOfKinds : Extensions → PlainSchema → PlainSchema → EntityTypeKind
+    → EntityTypeKind → PlainCause → Type 0
+IsCauseOfKinds extensions old new (standard_kind fields openness tags)
+    (standard_kind others other_openness other_tags) (values_apart Attributes steps lost) =
+    AreValuesApart extensions old new steps lost (record_of fields openness)
+    (record_of others other_openness)
+IsCauseOfKinds extensions old new (standard_kind fields openness tags)
+    (standard_kind others other_openness other_tags) (values_apart Tags steps lost) =
+    AreTagsApart extensions old new steps lost tags other_tags
+IsCauseOfKinds extensions old new kind other cause = ⊥
 
 -- a cause is true of an entity of an entity type that is lost
 abbrev pub IsTypeCause : Extensions → PlainSchema → PlainSchema → ActionEntity → PlainCause → Type 0
@@ -99,11 +110,11 @@ IsTypeCause extensions old new it (choice_removed uid) =
 -- an entity type is no longer above
 IsTypeCause extensions old new it (type_above upper) =
     ListsDescendant old it.uid.ty upper × ¬ ListsDescendant new it.uid.ty upper
--- attributes or tags aren't included
+-- attributes or tags part
 IsTypeCause extensions old new it cause =
     (ty other : SchemaEntityType) × Contains old.entity_types (it.uid.ty, ty)
     × Contains new.entity_types (it.uid.ty, other)
-    × IsCauseOfKinds extensions ty.kind other.kind cause
+    × IsCauseOfKinds extensions old new ty.kind other.kind cause
 
 -- a cause is true of an action whose entity is lost: the new schema doesn't define it, or one of
 -- the two schemas alone lists it below the other action
@@ -128,10 +139,10 @@ IsRequestCause extensions old new it removed =
 -- an enumerated type is without the choice that the principal or the resource is
 IsRequestCause extensions old new it (choice_removed uid) =
     ((uid ≡ it.principal) ⊎ (uid ≡ it.resource)) × LacksChoice new uid
--- a part of the context's type isn't included
-IsRequestCause extensions old new it (context_outside steps) =
+-- contexts part
+IsRequestCause extensions old new it (values_apart Context steps lost) =
     (one other : Environment) × IsEnvironmentFor old it one × IsEnvironmentFor new it other
-    × IsOutsideAt extensions steps one.context other.context
+    × AreValuesApart extensions old new steps lost one.context other.context
 IsRequestCause extensions old new it cause = ⊥
 
 -- a difference is true of two schemas: what it carries is lost, and its cause is true

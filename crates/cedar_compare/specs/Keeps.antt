@@ -2,10 +2,8 @@
 use Rattle.std.specs.Prelude.{◌≡◌}
 use Rattle.cedar_ast.specs.Words.{PlainName, PlainUid}
 use Rattle.cedar_ast.specs.declared.extension.Extensions.{Extensions}
-use Rattle.cedar_entities.specs.Entities.{IsReal}
-use Rattle.cedar_compare.specs.Entities.{IsEntityIn, IsEntityOfType}
-use Rattle.cedar_entities.specs.Requests.{IsOfTypes, IsRealRequest, PlainRequest}
-use Rattle.cedar_compare.specs.Requests.{IsRequestIn}
+use Rattle.cedar_entities.specs.Entities.{IsEntityIn, IsEntityOfType, IsReal}
+use Rattle.cedar_entities.specs.Requests.{IsOfTypes, IsRealRequest, IsRequestIn, PlainRequest}
 use Rattle.cedar_schema_semantics.specs.Words.{ActionEntity, IsEntityOfAction, PlainSchema}
 
 -- every entity and every request of the old schema is one of the new

@@ -2,44 +2,49 @@
 use Rattle.std.specs.Prelude.{◌≡◌, List, [], Option, Some, None, Contains}
 use Rattle.cedar_ast.specs.Words.{Entries, IsValue, PlainName, PlainUid, Text, Tree, entry, map_value, no_entry}
 use Rattle.cedar_ast.specs.declared.extension.Extensions.{Extensions}
-use Rattle.cedar_compare.specs.Difference.{AreTagsOutside, IsLoss, IsTypeCause, PlainCause, PlainDifference, subject_of, type_subject}
-use Rattle.cedar_entities.specs.Entities.{AreTagsOf, MayStandAbove}
-use Rattle.cedar_compare.specs.Entities.{IsEntityIn}
-use Rattle.cedar_counterexample.specs.Steps.{PlainStep, steps_of}
-use Rattle.cedar_counterexample.specs.declared.found.Outside.{Outside}
+use Rattle.cedar_compare.specs.Difference.{AreTagsApart, IsLoss, IsTypeCause, PlainCause, PlainDifference, subject_of, type_subject}
+use Rattle.cedar_counterexample.specs.Between.{PlainBetween}
+use Rattle.cedar_entities.specs.Entities.{AreTagsOf, IsEntityIn, MayStandAbove}
+use Rattle.cedar_entities.specs.Naming.{NamesWhatExists}
 use Rattle.cedar_schema_semantics.specs.Words.{ActionEntity, PlainSchema, SchemaEntityType, enumerated_kind}
 use Rattle.cedar_type_rules.specs.Words.{Fields, Has, Ty, record_of}
 use Rattle.cedar_type_rules.specs.declared.open_tag.OpenTag.{OpenTag}
-use Rattle.cedar_types.specs.Samples.{value_tree}
 
--- values are a real record of a type
-abbrev pub IsSampleOf : Extensions → Fields → OpenTag → Entries → Type 0
-IsSampleOf extensions fields openness values =
+-- values are a real record of a type that names what exists in the schema
+abbrev pub IsSampleOf : Extensions → PlainSchema → Fields → OpenTag → Entries → Type 0
+IsSampleOf extensions schema fields openness values =
     IsValue (map_value values) × Has extensions (map_value values) (record_of fields openness)
+    × NamesWhatExists schema (map_value values)
+
+-- tags of an entity are those of a type, and name what exists in the schema
+abbrev pub AreTagsIn : Extensions → PlainSchema → Option Ty → Entries → Type 0
+AreTagsIn extensions schema ty tags =
+    AreTagsOf extensions ty tags × NamesWhatExists schema (map_value tags)
 
 -- one tag, whose name is empty
 abbrev pub one_tag : Tree → Entries
 one_tag value = entry [] value no_entry
 
--- a value that is outside, with the steps to where it is
-abbrev pub plain_outside : Outside → Tree × List PlainStep
-plain_outside it = (value_tree it.value, steps_of it.steps)
-
 -- what is found of the tags of two types: a value of a tag that only the first has, or that all
 -- tags of the one are tags of the other
-abbrev pub IsTagOutside : Extensions → Option Ty → Option Ty → Option (Tree × List PlainStep)
-    → Type 0
-IsTagOutside extensions old new None = (tags : Entries) → IsValue (map_value tags)
-    → AreTagsOf extensions old tags → AreTagsOf extensions new tags
-IsTagOutside extensions old new (Some found) =
-    IsValue found.0 × AreTagsOf extensions old (one_tag found.0)
-    × (¬ AreTagsOf extensions new (one_tag found.0)) × AreTagsOutside extensions found.1 old new
+abbrev pub IsTagOutside : Extensions → PlainSchema → PlainSchema → Option Ty → Option Ty
+    → Option PlainBetween → Type 0
+IsTagOutside extensions old new ty other None = (tags : Entries) → IsValue (map_value tags)
+    → AreTagsIn extensions old ty tags → AreTagsIn extensions new other tags
+IsTagOutside extensions old new ty other (Some found) =
+    IsValue found.value × AreTagsIn extensions old ty (one_tag found.value)
+    × (¬ AreTagsIn extensions new other (one_tag found.value))
+    × AreTagsApart extensions old new found.steps found.lost ty other
 
 -- a cause is true of each entity of a type that has the uid above it
 abbrev pub IsAncestorCause : Extensions → PlainSchema → PlainSchema → PlainName → PlainUid
     → PlainCause → Type 0
 IsAncestorCause extensions old new name upper cause = (it : ActionEntity) → it.uid.ty ≡ name
     → Contains it.ancestors upper → IsTypeCause extensions old new it cause
+
+-- a uid may stand above an entity: it isn't the entity, and may stand above those of its type
+abbrev pub MayStandOver : PlainSchema → PlainUid → PlainUid → Type 0
+MayStandOver schema lower upper = (¬ (upper ≡ lower)) × MayStandAbove schema lower.ty upper
 
 -- the entity of a uid, without attributes, tags and ancestors
 abbrev pub bare_entity : PlainName → Text → ActionEntity
@@ -87,7 +92,7 @@ IsBelowAnswer extensions old new name (Some difference) =
 abbrev pub IsBesideAnswer : Extensions → PlainSchema → PlainSchema → PlainName → Option Ty
     → Option Ty → Option PlainDifference → Type 0
 IsBesideAnswer extensions old new name tags other_tags None =
-    IsTagOutside extensions tags other_tags None
+    IsTagOutside extensions old new tags other_tags None
     × ((upper : PlainUid) → MayStandAbove old name upper → MayStandAbove new name upper)
 IsBesideAnswer extensions old new name tags other_tags (Some difference) =
     IsTypeLoss extensions old new name difference

@@ -5,7 +5,7 @@ use Rattle.cedar_ast.specs.Words.{PlainName, PlainUid, uid_of}
 use Rattle.cedar_ast.specs.declared.extension.Extensions.{Extensions}
 use Rattle.cedar_compare.specs.Difference.{Subject, environment_subject}
 use Rattle.cedar_schema.specs.Lookup.{IsActionAt}
-use Rattle.cedar_compare.specs.LostEntities.{plain_outside}
+use Rattle.cedar_counterexample.specs.Between.{between_of}
 use Rattle.cedar_compare.specs.PlainRequests.{IsContextOutside}
 use Rattle.cedar_compare.specs.declared.requests.ComparedRequests.{ComparedRequests}
 use Rattle.cedar_schema_elements.specs.Words.{action_of, kind_context, kind_principals, kind_resources}
@@ -24,11 +24,11 @@ new_action it = option_map action_of (option_copied it.new)
 
 -- the requests are those of an action in both versions: the action of the new one is found, and a
 -- value of the context that the new one's can't be
-pub record AreRequestsOf (extensions : Extensions) (new : PlainSchema) (it : ComparedRequests)
-    : Type 0 where
+pub record AreRequestsOf (extensions : Extensions) (old new : PlainSchema)
+    (it : ComparedRequests) : Type 0 where
   pub action : IsActionAt new (uid_of it.uid.now) (new_action it)
-  pub context : IsContextOutside extensions (ty_of it.context.now) (context_at (new_action it))
-      (option_map plain_outside it.outside)
+  pub context : IsContextOutside extensions old new (ty_of it.context.now)
+      (context_at (new_action it)) (option_map between_of it.outside)
 
 -- the environment of some requests with a principal and a resource
 abbrev pub environment_with : ComparedRequests → PlainName → PlainName → Environment

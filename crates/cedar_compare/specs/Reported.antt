@@ -1,11 +1,13 @@
 -- Differences as plain data.
+use Rattle.std.specs.Prelude.{None, Some}
 use Rattle.cedar_ast.specs.Words.{type_name, uid_of}
-use Rattle.cedar_compare.specs.Difference.{PlainCause, PlainDifference, action_above, action_lost, attributes_outside, choice_removed, context_outside, entity_lost, removed, request_lost, tags_outside, type_above}
+use Rattle.cedar_compare.specs.Difference.{PlainCause, PlainDifference, action_above, action_lost, choice_removed, entity_lost, removed, request_lost, type_above, values_apart}
 use Rattle.cedar_entities.specs.Requests.{PlainRequest}
 use Rattle.cedar_compare.specs.declared.difference.Cause.{Cause}
 use Rattle.cedar_compare.specs.declared.difference.Cause.TheVariants as cause
 use Rattle.cedar_compare.specs.declared.difference.Difference.{Difference}
 use Rattle.cedar_compare.specs.declared.difference.Difference.TheVariants as difference
+use Rattle.cedar_compare.specs.declared.difference.Part.TheVariants as part
 use Rattle.cedar_compare.specs.declared.difference.Request.{Request}
 use Rattle.cedar_counterexample.specs.Steps.{steps_of}
 use Rattle.cedar_schema_elements.specs.ActionEntities.{plain_action_entity}
@@ -26,9 +28,11 @@ plain_cause cause.Gone = removed
 plain_cause (cause.Choice uid) = choice_removed (uid_of uid)
 plain_cause (cause.AncestorType ty) = type_above (type_name ty)
 plain_cause (cause.AncestorAction uid) = action_above (uid_of uid)
-plain_cause (cause.Attributes steps) = attributes_outside (steps_of steps)
-plain_cause (cause.Tags steps) = tags_outside (steps_of steps)
-plain_cause (cause.Context steps) = context_outside (steps_of steps)
+plain_cause (cause.Attributes steps) = values_apart part.Attributes (steps_of steps) None
+plain_cause (cause.Tags steps) = values_apart part.Tags (steps_of steps) None
+plain_cause (cause.Context steps) = values_apart part.Context (steps_of steps) None
+plain_cause (cause.NoSuchEntity it steps uid) =
+    values_apart it (steps_of steps) (Some (uid_of uid))
 
 -- a difference as plain data
 abbrev pub plain_difference : Difference → PlainDifference

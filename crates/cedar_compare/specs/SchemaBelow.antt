@@ -2,7 +2,7 @@
 use Rattle.std.specs.Prelude.{◌≡◌, ◌↔◌, Option, Some, None, Contains}
 use Rattle.cedar_ast.specs.Words.{Included, PlainName, PlainUid}
 use Rattle.cedar_ast.specs.declared.validation_mode.ValidationMode.TheVariants.{Permissive}
-use Rattle.cedar_schema_semantics.specs.Words.{ActionKind, EntityTypeKind, Environment, HasEntityType, IsEnvironmentOf, ListsDescendantAction, PlainSchema, SchemaAction, SchemaEntityType, defined_action, enumerated_kind, external_action, external_kind, standard_kind}
+use Rattle.cedar_schema_semantics.specs.Words.{ActionKind, EntityTypeKind, HasEntityType, IsEnumerated, ListsDescendantAction, PlainSchema, SchemaAction, SchemaEntityType, defined_action, enumerated_kind, external_action, external_kind, standard_kind}
 use Rattle.cedar_type_rules.specs.Words.{Below, Ty, record_of}
 
 -- tags go over to another type: there are none, or their type is below that one
@@ -32,13 +32,15 @@ ActionBelow external_action external_action = Unit {0}
 ActionBelow _ _ = ⊥
 
 -- a schema is below another: each of its entity types is one of the other, of a kind above and with
--- no fewer descendants; its actions go over, and stand below just the same ones; and names of
--- entity types stand for one in the other schema, and those of requests for one in this
+-- no fewer descendants; each that is enumerated in the other is one of this; its actions go over,
+-- and stand below just the same ones; and names of entity types stand for one in the other
 pub record SchemaBelow (old new : PlainSchema) : Type 0 where
   pub entity_types : (name : PlainName) (it : SchemaEntityType)
       → Contains old.entity_types (name, it)
       → (other : SchemaEntityType) × Contains new.entity_types (name, other)
       × KindBelow it.kind other.kind × Included it.descendants other.descendants
+  pub enumerated : (name : PlainName) (it : SchemaEntityType)
+      → Contains new.entity_types (name, it) → IsEnumerated it.kind → HasEntityType old name
   pub actions : (uid : PlainUid) (it : SchemaAction) → Contains old.actions (uid, it)
       → (other : SchemaAction) × Contains new.actions (uid, other) × ActionBelow it.kind other.kind
   pub listed : (lower upper : PlainUid) → ListsDescendantAction old lower upper
@@ -46,5 +48,3 @@ pub record SchemaBelow (old new : PlainSchema) : Type 0 where
   pub once : (name : PlainName) (it other : SchemaEntityType)
       → Contains new.entity_types (name, it) → Contains new.entity_types (name, other)
       → it ≡ other
-  pub named : (it : Environment) → IsEnvironmentOf old it
-      → HasEntityType old it.principal × HasEntityType old it.resource

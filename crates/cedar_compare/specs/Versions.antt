@@ -1,20 +1,14 @@
 -- Two versions of a schema that are compared.
-use Rattle.std.specs.Prelude.{◌≡◌, List, map}
-use Rattle.cedar_ast.specs.Words.{Entries, IsValue, PlainName, PlainUid, Tree, entities_of, uid_value}
-use Rattle.cedar_ast.specs.declared.extension.Extensions.{Extensions}
+use Rattle.std.specs.Prelude.{◌≡◌, List, Contains, map}
+use Rattle.cedar_ast.specs.Words.{Entries, IsValue, PlainName, PlainUid, entities_of, uid_value}
 use Rattle.cedar_compare.specs.Fresh.{IsFreshIn}
+use Rattle.cedar_compare.specs.Sampled.{IsSchemaSampled}
 use Rattle.cedar_schema.specs.Lookup.{IsKeyed}
 use Rattle.cedar_compare.specs.declared.versions.Versions.{Versions}
 use Rattle.cedar_schema.specs.ValidatorSchema.{action_entries, schema_of}
 use Rattle.cedar_schema_elements.specs.ActionEntities.{plain_action_entity, schema_with}
-use Rattle.cedar_schema_semantics.specs.Words.{ActionEntity, AreActionEntities, EntityTypeKind, IsTypeIn, PlainSchema, standard_kind}
-use Rattle.cedar_type_rules.specs.Words.{IsInhabitedWith, Ty}
+use Rattle.cedar_schema_semantics.specs.Words.{ActionEntity, AreActionEntities, EntityTypeKind, PlainSchema, standard_kind}
 use Rattle.cedar_types.specs.Samples.{value_trees}
-
--- each type in a schema is inhabited by the samples
-abbrev pub IsSchemaSampled : Extensions → List Tree → PlainSchema → Type 0
-IsSchemaSampled extensions samples schema =
-    (ty : Ty) → IsTypeIn schema ty → IsInhabitedWith extensions samples ty
 
 -- the old version
 abbrev pub old_of : Versions → PlainSchema
@@ -38,7 +32,8 @@ abbrev pub IsStandard : EntityTypeKind → Type 0
 IsStandard (standard_kind fields openness tags) = Unit {0}
 IsStandard _ = ⊥
 
--- an entity is of a uid that a schema doesn't name, with these attributes, tags and ancestors
+-- an entity is of a uid that a schema doesn't name, with these attributes, tags and ancestors, of
+-- which it isn't one
 pub record IsFreshEntity (schema : PlainSchema) (name : PlainName) (attributes tags : Entries)
     (ancestors : List PlainUid) (it : ActionEntity) : Type 0 where
   pub fresh : IsFreshIn schema name it.uid
@@ -46,3 +41,4 @@ pub record IsFreshEntity (schema : PlainSchema) (name : PlainName) (attributes t
   pub attributes_are : it.attributes ≡ attributes
   pub tags_are : it.tags ≡ tags
   pub ancestors_are : it.ancestors ≡ ancestors
+  pub not_itself : ¬ Contains ancestors it.uid

@@ -4,7 +4,8 @@ ghost use Rattle.std.specs.Prelude.{◌↔◌, ◌∷◌, List, Contains, IfOk, 
 ghost use Rattle.cedar_compare.specs.Words.{AreActionAncestors, AreActionAncestorsSoFar, AreVersions, IsKeyed, ListsDescendantAction, PlainUid, action_of, new_of, old_of, schema_of, uid_of};
 
 use crate::keeping::keep;
-use crate::versions::{Versions, find_action};
+use crate::looking_up::find_action;
+use crate::versions::Versions;
 use cedar_ast::{EntityUID, M};
 use cedar_schema::{TCNode, ValidatorActionId, ValidatorSchema};
 use std::collections::BTreeMap;

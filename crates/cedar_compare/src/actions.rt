@@ -7,7 +7,8 @@ ghost use Rattle.cedar_compare.specs.Words.{AreActionAncestors, AreVersions, Def
 use crate::action_ancestors::ActionAncestors;
 use crate::bare::is_bare_of_type;
 use crate::difference::{Cause, Difference};
-use crate::versions::{Versions, find_action};
+use crate::looking_up::find_action;
+use crate::versions::Versions;
 use cedar_ast::{Entity, EntityUID, M};
 use cedar_schema::ValidatorSchema;
 use std::collections::{BTreeMap, BTreeSet};

@@ -6,7 +6,8 @@ ghost use Rattle.cedar_compare.specs.Words.{AreAncestorsLost, AreAncestorsSoFar,
 
 use crate::choices::{choices_of, id_outside, some_id};
 use crate::keeping::keep;
-use crate::versions::{Versions, find_type};
+use crate::looking_up::find_type;
+use crate::versions::Versions;
 use cedar_ast::{Eid, EntityType, EntityUID, M};
 use cedar_schema::{ValidatorEntityType, ValidatorEntityTypeKind};
 use std::collections::BTreeMap;

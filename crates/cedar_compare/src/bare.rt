@@ -1,10 +1,10 @@
 //! Entities without attributes and tags.
 
-ghost use Rattle.std.specs.Prelude.{◌≡◌, ◌↔◌, Contains, IsTrue, []};
-ghost use Rattle.cedar_compare.specs.Words.{Extensions, Has, IsEntityOfType, IsKeyed, MayStandAbove, OpenTag, PlainUid, entity_ancestors, entity_attrs, entity_tags, entity_uid, fields_of, map_value, named_values, no_entry, plain_action_entity, record_of, schema_of, type_name, uid_of};
+ghost use Rattle.std.specs.Prelude.{◌≡◌, ◌↔◌, IsTrue, []};
+ghost use Rattle.cedar_compare.specs.Words.{AreAncestorsIn, Extensions, Has, IsEntityOfType, IsKeyed, MayStandAbove, MayStandOver, OpenTag, entity_ancestors, entity_attrs, entity_tags, fields_of, map_value, named_values, no_entry, plain_action_entity, record_of, schema_of, type_name, uid_of};
 
 use crate::choices::{choices_of, has_choice};
-use crate::versions::find_type;
+use crate::looking_up::find_type;
 use cedar_ast::{Entity, EntityType, EntityUID};
 use cedar_schema::{ValidatorEntityTypeKind, ValidatorSchema};
 use cedar_types::Attributes;
@@ -40,14 +40,27 @@ fn may_stand_above(schema: &ValidatorSchema, name: &EntityType, upper: &EntityUI
     }
 }
 
-/// Whether each ancestor of an entity may stand above those of its type.
+/// Whether a uid may stand above an entity: it isn't the entity, and may stand above its type.
+fn may_stand_over(schema: &ValidatorSchema, lower: &EntityUID, upper: &EntityUID) -> bool
+    requires { IsKeyed (schema_of schema.now) }
+    ensures { IsTrue result
+        ↔ MayStandOver (schema_of schema.now) (uid_of lower.now) (uid_of upper.now) }
+{
+    if upper == lower {
+        return false;
+    }
+    may_stand_above(schema, lower.entity_type(), upper)
+}
+
+/// Whether each ancestor of an entity may stand above those of its type, and isn't the entity
+/// itself.
 fn may_all_stand_above(schema: &ValidatorSchema, entity: &Entity) -> bool
     requires { IsKeyed (schema_of schema.now) }
-    ensures { IsTrue result ↔ ((upper : PlainUid) → Contains (entity_ancestors entity.now) upper
-        → MayStandAbove (schema_of schema.now) (entity_uid entity.now).ty upper) }
+    ensures { IsTrue result
+        ↔ AreAncestorsIn (schema_of schema.now) (plain_action_entity entity.now) }
 {
     for upper in entity.ancestors() {
-        if !may_stand_above(schema, entity.uid().entity_type(), upper) {
+        if !may_stand_over(schema, entity.uid(), upper) {
             return false;
         }
     }

@@ -22,8 +22,9 @@ pub enum CompareFault {
     /// This version declares an entity type or an action to be elsewhere (RFC 116), so it isn't
     /// known what it admits.
     Incomplete(Version),
-    /// In a type of this version stands one of which there is no value: it is `Never`, or an
-    /// extension type of which there is no sample. The text is how it is printed.
+    /// In a type of this version stands one of which there is no value: it is `Never`, an extension
+    /// type of which there is no sample, or names a type of actions of which there is none. The
+    /// text is how it is printed.
     Unsampled(Version, String),
     /// A growth was refused.
     Memory(Memory),

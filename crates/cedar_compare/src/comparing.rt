@@ -1,14 +1,17 @@
 //! Two versions of a schema, compared.
 
-ghost use Rattle.std.specs.Prelude.{◌≡◌, ◌↔◌, [], IfErr, IfOk, IfSome, None, OnOk, map, string_bytes};
-ghost use Rattle.cedar_compare.specs.Words.{AreActionEntities, AreLosses, IsComparable, IsCompareFault, IsSchemaSampled, IsUnsampledType, IsVersionFault, Keeps, action_entries, entities_of, plain_action_entity, plain_difference, schema_of, schema_with, value_trees};
+ghost use Rattle.std.specs.Prelude.{◌≡◌, ◌↔◌, [], IfErr, IfOk, IfSome, IsTrue, None, OnOk, map, string_bytes};
+ghost use Rattle.cedar_compare.specs.Words.{AreActionEntities, AreLosses, IsComparable, IsCompareFault, IsLeafSampled, IsSampled, IsSchemaSampled, IsUnsampledType, IsVersionFault, Keeps, action_entries, entities_of, plain_action_entity, plain_difference, schema_of, schema_with, ty_of, value_trees};
 
 use crate::compare_fault::{CompareFault, Version};
 use crate::difference::Difference;
+use crate::existing::has_uids;
 use crate::losses::losses;
+use crate::lost_uids::lost_uids;
 use crate::versions::Versions;
 use cedar_ast::{Entities, Extensions, M, Value};
 use cedar_schema::ValidatorSchema;
+use cedar_types::Type;
 use std::alloc::Global;
 
 /// What two versions of a schema admit apart from each other.
@@ -22,7 +25,24 @@ pub struct Comparison {
     pub gained: Vec<Difference>,
 }
 
-/// A type in a schema of which there is no sample, as it is printed, if there is one.
+/// Whether a leaf of a type is sampled: it is inhabited by the samples, and names no type of actions
+/// of which there is none.
+fn is_leaf_sampled(
+    schema: &ValidatorSchema,
+    ty: &Type,
+    extensions: &Extensions,
+    samples: &[Value],
+) -> bool
+    ensures yes { IsTrue result → IsLeafSampled extensions.now (value_trees samples.now)
+        (schema_of schema.now) (ty_of ty.now) }
+    ensures no { IsSampled extensions.now (value_trees samples.now) (schema_of schema.now)
+        (ty_of ty.now) → IsTrue result }
+{
+    ty.is_sampled(extensions, samples) && has_uids(schema, ty)
+}
+
+/// A type in a schema of which there is no sample, or which names a type of actions of which there
+/// is none, as it is printed, if there is one.
 fn unsampled(
     alloc: Global,
     schema: &ValidatorSchema,
@@ -36,7 +56,7 @@ fn unsampled(
 {
     for ty in schema.leaf_types(alloc)? {
         let ty = ty?;
-        if !ty.is_sampled(extensions, samples) {
+        if !is_leaf_sampled(schema, ty, extensions, samples) {
             return Ok(Some(ty.to_string(alloc)?));
         }
     }
@@ -100,6 +120,7 @@ fn lost<'a>(
         new_actions: new.actions,
         extensions,
         samples,
+        lost: lost_uids(alloc, old.schema, new.schema)?,
     };
     losses(&versions, old.actions)
 }
@@ -110,14 +131,18 @@ fn lost<'a>(
 /// an entity or a request that the new one doesn't, once, each with such an entity or request as a
 /// witness, and with why it is lost; `gained` is the same of the new version and the old one. So
 /// nothing is lost exactly where every entity and every request of the old version is one of the
-/// new. An entity is one of a schema where its attributes and tags have their types and each of its
-/// ancestors may stand there, as a choice of an enumerated type does alone; a request where one of
-/// the schema's environments has the types of its principal and resource and its action, and its
-/// context has the environment's type (the Cedar reference on schemas, RFC 53 and RFC 82).
+/// new. An entity is one of a schema where its attributes and tags have their types and name what
+/// exists in the schema, and each of its ancestors is another entity and may stand there, as a
+/// choice of an enumerated type does alone; a request where one of the schema's environments has
+/// the types of its principal and resource and its action, and its context has the environment's
+/// type and names what exists (the Cedar reference on schemas, RFC 53 and RFC 82). Of an enumerated
+/// type its choices exist, of a type of actions the schema's actions, and of another type every
+/// entity.
 ///
 /// The samples are values of the extension types, one of each at least. The refusals are
 /// `Incomplete` where one of the two schemas declares something to be elsewhere, `Unsampled` where
-/// a type in one of them is `Never` or an extension type without a sample, and `Memory`.
+/// a type in one of them is `Never`, an extension type without a sample, or a type of actions
+/// without an action, and `Memory`.
 pub fn compare(
     alloc: Global,
     old: &ValidatorSchema,

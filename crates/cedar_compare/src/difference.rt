@@ -1,5 +1,9 @@
 //! Differences between two versions of a schema.
 
+ghost use Rattle.std.specs.Prelude.{◌≡◌};
+ghost use Rattle.std.specs.Option.{option_map};
+ghost use Rattle.cedar_compare.specs.Words.{plain_cause, steps_of, uid_of, values_apart};
+
 use cedar_ast::{Entity, EntityType, EntityUID, Value};
 use cedar_counterexample::Step;
 
@@ -14,6 +18,17 @@ pub struct Request {
     pub resource: EntityUID,
     /// The context. It is a record wherever the type of the action's context is one.
     pub context: Value,
+}
+
+/// A part of an entity or of a request that has values.
+#[derive(Clone, Copy, Debug, Drop, PartialEq, Eq)]
+pub enum Part {
+    /// The attributes of an entity.
+    Attributes,
+    /// The tags of an entity.
+    Tags,
+    /// The context of a request.
+    Context,
 }
 
 /// Why a schema lacks an entity or a request of another.
@@ -37,6 +52,32 @@ pub enum Cause {
     Tags(Vec<Step>),
     /// The same of the types of the context.
     Context(Vec<Step>),
+    /// Values of this part may name this uid, which exists in the one schema and not in the other:
+    /// it is no longer a choice of its type, or an action. Whatever they name, each value of the
+    /// one type is one of the other's; the steps lead down to where they may name it.
+    NoSuchEntity {
+        /// The part.
+        part: Part,
+        /// The steps down its type.
+        steps: Vec<Step>,
+        /// The uid.
+        uid: EntityUID,
+    },
+}
+
+/// Why values of a part are lost: at the end of these steps the types part, or, where there is a
+/// uid, they lead to where it may be named.
+pub(crate) fn part_cause(part: Part, steps: Vec<Step>, lost: Option<EntityUID>) -> Cause
+    ensures { plain_cause result ≡ values_apart part (steps_of steps) (option_map uid_of lost) }
+{
+    if let Some(uid) = lost {
+        return Cause::NoSuchEntity { part, steps, uid };
+    }
+    match part {
+        Part::Attributes => Cause::Attributes(steps),
+        Part::Tags => Cause::Tags(steps),
+        Part::Context => Cause::Context(steps),
+    }
 }
 
 /// Something that one schema admits and another doesn't, and why.

@@ -1,18 +1,20 @@
 //! What a new version keeps of an entity type.
 
-ghost use Rattle.std.specs.Prelude.{◌≡◌, ◌↔◌, ◌∷◌, [], Contains, IfOk, IsTrue, map};
+ghost use Rattle.std.specs.Prelude.{◌≡◌, ◌↔◌, ◌∷◌, [], Contains, IfOk, IsTrue, length, map};
 ghost use Rattle.std.specs.Option.{option_map};
-ghost use Rattle.cedar_compare.specs.Words.{ActionEntity, AreKept, AreAncestorsLost, AreVersions, IsAnswer, IsBelowAnswer, IsBesideAnswer, IsChoiceAnswer, IsChoiceOf, IsEntityIn, IsFreshEntity, IsSampleOf, IsStandard, IsTagOutside, IsTypeCause, IsAncestorCause, MayStandAbove, SchemaEntityType, bare_entity, choice_texts, eid_text, entity_type_of, enumerated_kind, fields_of, kind_fields, kind_openness, kind_tags, named_values, new_of, no_entry, old_of, one_tag, plain_action_entity, plain_cause, plain_difference, plain_outside, plain_type, type_name, type_subject, uid_of, value_tree};
+ghost use Rattle.cedar_compare.specs.Words.{ActionEntity, AreKept, AreAncestorsLost, AreVersions, IsAnswer, IsBelowAnswer, IsBesideAnswer, IsChoiceAnswer, IsChoiceOf, IsEntityIn, IsFreshEntity, IsSampleOf, IsStandard, IsTagOutside, IsTypeCause, IsAncestorCause, MayStandAbove, SchemaEntityType, bare_entity, between_of, choice_texts, eid_text, entity_type_of, enumerated_kind, fields_of, kind_fields, kind_openness, kind_tags, named_values, new_of, no_entry, old_of, one_tag, plain_action_entity, plain_cause, plain_difference, plain_type, type_name, type_subject, uid_of, value_tree};
 
 use crate::ancestors::Ancestors;
 use crate::bare::{is_bare_of_type, is_without_ancestors};
 use crate::choices::{choice_set, choices_of, is_among};
-use crate::difference::{Cause, Difference};
+use crate::difference::{Cause, Difference, Part, part_cause};
 use crate::fresh::fresh_uid;
-use crate::versions::{Versions, find_type, is_enumerated_at, lists_type};
+use crate::looking_up::{find_type, is_enumerated_at, lists_type};
+use crate::versions::Versions;
 use cedar_ast::{Eid, Entity, EntityType, EntityUID, M, NonEmpty, Value};
 use cedar_counterexample::{
-    Outside, RecordShape, attributes_outside, outside, sample_attributes, sample_value,
+    AttributesOutsideBetween, OutsideBetween, RecordShape, attributes_outside_between,
+    existing_attributes, existing_value, outside_between,
 };
 use cedar_schema::{ValidatorEntityType, ValidatorEntityTypeKind};
 use std::collections::{BTreeMap, BTreeSet};
@@ -26,12 +28,13 @@ fn entity_with(versions: &Versions<'_>, name: &EntityType, attributes: Values) -
     ensures { IfOk result (λ entity. IsFreshEntity (new_of versions.now) (type_name name.now)
         (named_values attributes) no_entry [] (plain_action_entity entity)) }
 {
-    let uid = fresh_uid(versions.alloc, versions.new, name)?;
+    let uid = fresh_uid(versions.alloc, versions.new, name, 0)?;
     let tags = BTreeMap::new(versions.alloc);
     Ok(Entity::new(uid, attributes, tags, BTreeSet::new(versions.alloc)))
 }
 
-/// The attributes of an entity of a standard type of the old version, no more than it requires.
+/// The attributes of an entity of a standard type of the old version, no more than it requires,
+/// which name what exists there.
 fn some_attributes(
     versions: &Versions<'_>,
     name: &EntityType,
@@ -41,12 +44,13 @@ fn some_attributes(
     requires old { Contains (old_of versions.now).entity_types
         (type_name name.now, plain_type old.now) }
     requires standard { IsStandard (entity_type_of old.now).kind }
-    ensures { IfOk result (λ values. IsSampleOf versions.now.extensions.now
+    ensures { IfOk result (λ values. IsSampleOf versions.now.extensions.now (old_of versions.now)
         (kind_fields (entity_type_of old.now).kind) (kind_openness (entity_type_of old.now).kind)
         (named_values values)) }
 {
-    sample_attributes(
+    existing_attributes(
         versions.alloc,
+        versions,
         old.attributes(),
         versions.extensions,
         versions.samples,
@@ -66,11 +70,23 @@ fn entity_tagged(
 {
     let mut tags = BTreeMap::new(versions.alloc);
     let _none = tags.insert(String::new(versions.alloc), tag)?;
-    let uid = fresh_uid(versions.alloc, versions.new, name)?;
+    let uid = fresh_uid(versions.alloc, versions.new, name, 0)?;
     Ok(Entity::new(uid, attributes, tags, BTreeSet::new(versions.alloc)))
 }
 
-/// An entity of a type with a uid that the new version doesn't name, with one ancestor.
+/// A length that the ids of a type have to exceed to be apart from a uid, if it is of that type.
+fn length_apart(name: &EntityType, uid: &EntityUID) -> usize
+    ensures { (uid_of uid.now).ty ≡ type_name name.now → result ≡ length (uid_of uid.now).eid }
+{
+    if uid.entity_type() == name {
+        uid.eid().as_str().len()
+    } else {
+        0
+    }
+}
+
+/// An entity of a type with a uid that the new version doesn't name, with one ancestor, which is
+/// another entity.
 fn entity_below(
     versions: &Versions<'_>,
     name: &EntityType,
@@ -84,7 +100,12 @@ fn entity_below(
 {
     let mut ancestors = BTreeSet::new(versions.alloc);
     let _new = ancestors.insert(upper.clone()?)?;
-    let uid = fresh_uid(versions.alloc, versions.new, name)?;
+    let uid = fresh_uid(
+        versions.alloc,
+        versions.new,
+        name,
+        length_apart(name, upper),
+    )?;
     let tags = BTreeMap::new(versions.alloc);
     Ok(Entity::new(uid, attributes, tags, ancestors))
 }
@@ -115,28 +136,36 @@ fn tag_outside(
     name: &EntityType,
     old: &ValidatorEntityType,
     new: &ValidatorEntityType,
-) -> M<Option<Outside>>
+) -> M<Option<OutsideBetween>>
     requires versions { AreVersions versions.now }
     requires old { Contains (old_of versions.now).entity_types
         (type_name name.now, plain_type old.now) }
-    ensures { IfOk result (λ found. IsTagOutside versions.now.extensions.now
-        (kind_tags (entity_type_of old.now).kind) (kind_tags (entity_type_of new.now).kind)
-        (option_map plain_outside found)) }
+    ensures { IfOk result (λ found. IsTagOutside versions.now.extensions.now (old_of versions.now)
+        (new_of versions.now) (kind_tags (entity_type_of old.now).kind)
+        (kind_tags (entity_type_of new.now).kind) (option_map between_of found)) }
 {
     let Some(ty) = old.tag_type() else {
         return Ok(None);
     };
     match new.tag_type() {
-        Some(other) => outside(
+        Some(other) => outside_between(
             versions.alloc,
+            versions,
             ty,
             other,
             versions.extensions,
             versions.samples,
         ),
-        None => Ok(Some(Outside {
-            value: sample_value(versions.alloc, ty, versions.extensions, versions.samples)?,
+        None => Ok(Some(OutsideBetween {
+            value: existing_value(
+                versions.alloc,
+                versions,
+                ty,
+                versions.extensions,
+                versions.samples,
+            )?,
             steps: Vec::new(versions.alloc),
+            lost: None,
         })),
     }
 }
@@ -205,9 +234,10 @@ fn lost_beside(
         (option_map plain_difference found)) }
 {
     if let Some(found) = tag_outside(versions, name, old, new)? {
+        let OutsideBetween { value, steps, lost } = found;
         let attributes = some_attributes(versions, name, old)?;
-        let witness = entity_tagged(versions, name, attributes, found.value)?;
-        let cause = Cause::Tags(found.steps);
+        let witness = entity_tagged(versions, name, attributes, value)?;
+        let cause = part_cause(Part::Tags, steps, lost);
         return Ok(Some(Difference::EntityType { witness, cause }));
     }
     lost_below(versions, ancestors, name, old)
@@ -259,16 +289,22 @@ fn lost_standard(
     if !is_standard(new) {
         return Ok(Some(removed(versions, name, old)?));
     }
-    let found = attributes_outside(
+    let found = attributes_outside_between(
         versions.alloc,
+        versions,
         shape(old),
         shape(new),
         versions.extensions,
         versions.samples,
     )?;
     if let Some(outside) = found {
-        let witness = entity_with(versions, name, outside.attributes)?;
-        let cause = Cause::Attributes(outside.steps);
+        let AttributesOutsideBetween {
+            attributes,
+            steps,
+            lost,
+        } = outside;
+        let witness = entity_with(versions, name, attributes)?;
+        let cause = part_cause(Part::Attributes, steps, lost);
         return Ok(Some(Difference::EntityType { witness, cause }));
     }
     lost_beside(versions, ancestors, name, old, new)

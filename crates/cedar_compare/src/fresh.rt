@@ -1,10 +1,10 @@
 //! Uids that a schema doesn't name.
 
-ghost use Rattle.std.specs.Prelude.{◌≤◌, IfOk, length};
+ghost use Rattle.std.specs.Prelude.{◌<◌, ◌≤◌, IfOk, length};
 ghost use Rattle.cedar_compare.specs.Words.{HasAction, IsFreshIn, IsKeyed, NoLongerChoice, Text, schema_of, type_name, uid_of};
 
 use crate::choices::{choices_of, id_of_length, longest_choice};
-use crate::versions::find_type;
+use crate::looking_up::find_type;
 use cedar_ast::{EntityType, EntityUID, M};
 use cedar_schema::ValidatorSchema;
 use std::alloc::Global;
@@ -38,13 +38,19 @@ fn longest_choice_of(schema: &ValidatorSchema, name: &EntityType) -> usize
     }
 }
 
-/// A uid of a type that a schema doesn't name.
-pub(crate) fn fresh_uid(alloc: Global, schema: &ValidatorSchema, name: &EntityType) -> M<EntityUID>
+/// A uid of a type that a schema doesn't name, with an id of more bytes than a number says.
+pub(crate) fn fresh_uid(
+    alloc: Global,
+    schema: &ValidatorSchema,
+    name: &EntityType,
+    count: usize,
+) -> M<EntityUID>
     requires { IsKeyed (schema_of schema.now) }
-    ensures { IfOk result (λ uid. IsFreshIn (schema_of schema.now) (type_name name.now)
+    ensures fresh { IfOk result (λ uid. IsFreshIn (schema_of schema.now) (type_name name.now)
         (uid_of uid)) }
+    ensures longer { IfOk result (λ uid. count < length (uid_of uid).eid) }
 {
     let longest = longest_action_id(schema, name).max(longest_choice_of(schema, name));
-    let eid = id_of_length(alloc, longest)?;
+    let eid = id_of_length(alloc, longest.max(count))?;
     Ok(EntityUID::new(name.clone()?, eid, None))
 }

@@ -8,7 +8,7 @@
 
 pub use compare_fault::{CompareFault, Version};
 pub use comparing::{Comparison, compare};
-pub use difference::{Cause, Difference, Request};
+pub use difference::{Cause, Difference, Part, Request};
 
 mod action_ancestors;
 mod actions;
@@ -20,9 +20,13 @@ mod comparing;
 mod difference;
 mod entity_types;
 pub mod examples;
+mod existing;
 mod fresh;
 mod keeping;
+mod looking_up;
 mod losses;
+mod lost_uids;
 mod requests;
+mod scope;
 pub mod theorems;
 mod versions;

@@ -3,15 +3,16 @@
 ghost use Rattle.std.specs.Prelude.{◌≡◌, ◌↔◌, All, IfOk, IsTrue, None, Some, map};
 ghost use Rattle.std.specs.List.{flat_map};
 ghost use Rattle.std.specs.List.Sorted.{IsStrictlySortedBy};
-ghost use Rattle.std.specs.Option.{option_copied, option_map};
-ghost use Rattle.cedar_compare.specs.Words.{AreActionAnswers, AreAnswers, AreChoicesAt, AreRequestsOf, AreVersions, HasEnvironment, IsAnswer, IsAppliedBy, IsContextIn, IsEnvironmentLacking, IsEnvironmentOf, IsKeyed, IsSampleRequest, IsUidOfType, IsUidOutside, choice_texts, environment_subject, environment_with, name_cmp, new_action, new_of, old_of, plain_difference, plain_request, schema_of, steps_of, subjects_with, ty_of, type_name, uid_of};
+ghost use Rattle.std.specs.Option.{option_map};
+ghost use Rattle.cedar_compare.specs.Words.{AreActionAnswers, AreAnswers, AreRequestsOf, AreVersions, HasEnvironment, IsAnswer, IsAppliedBy, IsContextIn, IsEnvironmentLacking, IsEnvironmentOf, IsSampleRequest, IsUidOutside, environment_subject, environment_with, name_cmp, new_action, new_of, old_of, plain_difference, plain_request, steps_of, subjects_with, ty_of, type_name, uid_of};
 
-use crate::choices::{choices_of, id_outside, some_id};
-use crate::difference::{Cause, Difference, Request};
-use crate::versions::{Versions, find_action, find_type};
-use cedar_ast::{Eid, EntityType, EntityUID, M, NonEmpty};
-use cedar_counterexample::{Outside, Step, outside, sample_value};
-use cedar_schema::{RequestTypes, ValidatorActionId, ValidatorSchema};
+use crate::difference::{Cause, Difference, Part, Request, part_cause};
+use crate::existing::{some_uid, uid_outside};
+use crate::looking_up::find_action;
+use crate::versions::Versions;
+use cedar_ast::{EntityType, EntityUID, M};
+use cedar_counterexample::{OutsideBetween, Step, existing_value, outside_between};
+use cedar_schema::{RequestTypes, ValidatorActionId};
 use cedar_types::Type;
 use itertools::Itertools;
 use std::alloc::Global;
@@ -25,44 +26,8 @@ pub(crate) struct ComparedRequests<'a> {
     pub(crate) context: &'a Type,
     /// The action in the new version.
     pub(crate) new: Option<&'a ValidatorActionId>,
-    /// A value of the context that the new version's can't be, if there is one.
-    pub(crate) outside: Option<Outside>,
-}
-
-/// The choices of the entity type of a name, if it is enumerated.
-fn choices_at<'a>(schema: &'a ValidatorSchema, name: &EntityType) -> Option<&'a NonEmpty<Eid>>
-    requires { IsKeyed (schema_of schema.now) }
-    ensures { AreChoicesAt (schema_of schema.now) (type_name name.now)
-        (option_map choice_texts (option_copied result)) }
-{
-    match find_type(schema, name) {
-        Some(ty) => choices_of(&ty.kind),
-        None => None,
-    }
-}
-
-/// A uid of a type that the old version may have.
-fn some_uid(versions: &Versions<'_>, name: &EntityType) -> M<EntityUID>
-    requires { AreVersions versions.now }
-    ensures { IfOk result (λ uid.
-        IsUidOfType (old_of versions.now) (type_name name.now) (uid_of uid)) }
-{
-    let eid = some_id(versions.alloc, choices_at(versions.old, name))?;
-    Ok(EntityUID::new(name.clone()?, eid, None))
-}
-
-/// A uid of a type that the old version may have and the new may not, if there is one.
-fn uid_outside(versions: &Versions<'_>, name: &EntityType) -> M<Option<EntityUID>>
-    requires { AreVersions versions.now }
-    ensures { IfOk result (λ found. IsUidOutside (old_of versions.now) (new_of versions.now)
-        (type_name name.now) (option_map uid_of found)) }
-{
-    let old = choices_at(versions.old, name);
-    let new = choices_at(versions.new, name);
-    match id_outside(versions.alloc, old, new)? {
-        Some(eid) => Ok(Some(EntityUID::new(name.clone()?, eid, None))),
-        None => Ok(None),
-    }
+    /// A value of the context that the new version's can't be, and why, if there is one.
+    pub(crate) outside: Option<OutsideBetween>,
 }
 
 /// Equal steps.
@@ -79,7 +44,33 @@ fn copied_steps(alloc: Global, steps: &Vec<Step>) -> M<Vec<Step>>
     Ok(copy)
 }
 
-/// The request of a principal and a resource with a sample of the context.
+/// An equal uid, if there is one.
+fn copied_uid(uid: &Option<EntityUID>) -> M<Option<EntityUID>>
+    ensures { IfOk result (λ copy. option_map uid_of copy ≡ option_map uid_of uid.now) }
+{
+    match uid {
+        Some(uid) => Ok(Some(uid.clone()?)),
+        None => Ok(None),
+    }
+}
+
+/// A uid of a type that the old version may have as principal or resource and the new may not, if
+/// there is one.
+fn lost_uid(versions: &Versions<'_>, name: &EntityType) -> M<Option<EntityUID>>
+    ensures { IfOk result (λ found. IsUidOutside (old_of versions.now) (new_of versions.now)
+        (type_name name.now) (option_map uid_of found)) }
+{
+    if name.is_action() {
+        return uid_outside(versions.alloc, versions.old, versions.new, name);
+    }
+    match versions.lost.get(name) {
+        Some(uid) => Ok(Some(uid.clone()?)),
+        None => Ok(None),
+    }
+}
+
+/// The request of a principal and a resource with a sample of the context, which names what exists
+/// in the old version.
 fn sample_request(
     versions: &Versions<'_>,
     requests: &ComparedRequests<'_>,
@@ -89,11 +80,12 @@ fn sample_request(
     requires versions { AreVersions versions.now }
     requires context { IsContextIn (old_of versions.now) (ty_of requests.now.context.now) }
     ensures { IfOk result (λ request. IsSampleRequest versions.now.extensions.now
-        (uid_of principal) (uid_of requests.now.uid.now) (uid_of resource)
+        (old_of versions.now) (uid_of principal) (uid_of requests.now.uid.now) (uid_of resource)
         (ty_of requests.now.context.now) (plain_request request)) }
 {
-    let context = sample_value(
+    let context = existing_value(
         versions.alloc,
+        versions,
         requests.context,
         versions.extensions,
         versions.samples,
@@ -123,8 +115,8 @@ fn removed(
         (uid_of requests.now.uid.now) (type_name resource.now))
         (Some (plain_difference difference))) }
 {
-    let principal = some_uid(versions, principal)?;
-    let resource = some_uid(versions, resource)?;
+    let principal = some_uid(versions.alloc, versions.old, principal)?;
+    let resource = some_uid(versions.alloc, versions.old, resource)?;
     Ok(Difference::Environment {
         witness: sample_request(versions, requests, principal, resource)?,
         cause: Cause::Gone,
@@ -135,13 +127,13 @@ fn removed(
 fn context_lost(
     versions: &Versions<'_>,
     requests: &ComparedRequests<'_>,
-    found: &Outside,
+    found: &OutsideBetween,
     principal: &EntityType,
     resource: &EntityType,
 ) -> M<Difference>
     requires versions { AreVersions versions.now }
-    requires requests { AreRequestsOf versions.now.extensions.now (new_of versions.now)
-        requests.now }
+    requires requests { AreRequestsOf versions.now.extensions.now (old_of versions.now)
+        (new_of versions.now) requests.now }
     requires found { requests.now.outside ≡ Some found.now }
     requires asked { IsEnvironmentOf (old_of versions.now)
         (environment_with requests.now (type_name principal.now) (type_name resource.now)) }
@@ -153,12 +145,14 @@ fn context_lost(
         (Some (plain_difference difference))) }
 {
     let witness = Request {
-        principal: some_uid(versions, principal)?,
+        principal: some_uid(versions.alloc, versions.old, principal)?,
         action: requests.uid.clone()?,
-        resource: some_uid(versions, resource)?,
+        resource: some_uid(versions.alloc, versions.old, resource)?,
         context: found.value.clone()?,
     };
-    let cause = Cause::Context(copied_steps(versions.alloc, &found.steps)?);
+    let steps = copied_steps(versions.alloc, &found.steps)?;
+    let lost = copied_uid(&found.lost)?;
+    let cause = part_cause(Part::Context, steps, lost);
     Ok(Difference::Environment { witness, cause })
 }
 
@@ -171,8 +165,8 @@ fn ids_lost(
     resource: &EntityType,
 ) -> M<Option<Difference>>
     requires versions { AreVersions versions.now }
-    requires requests { AreRequestsOf versions.now.extensions.now (new_of versions.now)
-        requests.now }
+    requires requests { AreRequestsOf versions.now.extensions.now (old_of versions.now)
+        (new_of versions.now) requests.now }
     requires found { requests.now.outside ≡ None }
     requires asked { IsEnvironmentOf (old_of versions.now)
         (environment_with requests.now (type_name principal.now) (type_name resource.now)) }
@@ -183,15 +177,15 @@ fn ids_lost(
         (uid_of requests.now.uid.now) (type_name resource.now))
         (option_map plain_difference found)) }
 {
-    if let Some(uid) = uid_outside(versions, principal)? {
+    if let Some(uid) = lost_uid(versions, principal)? {
         let cause = Cause::Choice(uid.clone()?);
-        let resource = some_uid(versions, resource)?;
+        let resource = some_uid(versions.alloc, versions.old, resource)?;
         let witness = sample_request(versions, requests, uid, resource)?;
         return Ok(Some(Difference::Environment { witness, cause }));
     }
-    if let Some(uid) = uid_outside(versions, resource)? {
+    if let Some(uid) = lost_uid(versions, resource)? {
         let cause = Cause::Choice(uid.clone()?);
-        let principal = some_uid(versions, principal)?;
+        let principal = some_uid(versions.alloc, versions.old, principal)?;
         let witness = sample_request(versions, requests, principal, uid)?;
         return Ok(Some(Difference::Environment { witness, cause }));
     }
@@ -220,8 +214,8 @@ fn lost_request(
     resource: &EntityType,
 ) -> M<Option<Difference>>
     requires versions { AreVersions versions.now }
-    requires requests { AreRequestsOf versions.now.extensions.now (new_of versions.now)
-        requests.now }
+    requires requests { AreRequestsOf versions.now.extensions.now (old_of versions.now)
+        (new_of versions.now) requests.now }
     requires asked { IsEnvironmentOf (old_of versions.now)
         (environment_with requests.now (type_name principal.now) (type_name resource.now)) }
     ensures { IfOk result (λ found. IsAnswer versions.now.extensions.now
@@ -254,8 +248,8 @@ fn lost_with_principal(
     resources: &[&EntityType],
 ) -> M<Vec<Difference>>
     requires versions { AreVersions versions.now }
-    requires requests { AreRequestsOf versions.now.extensions.now (new_of versions.now)
-        requests.now }
+    requires requests { AreRequestsOf versions.now.extensions.now (old_of versions.now)
+        (new_of versions.now) requests.now }
     requires asked { All (λ resource. IsEnvironmentOf (old_of versions.now)
         (environment_with requests.now (type_name principal.now) (type_name resource.now)))
         resources.now }
@@ -283,8 +277,8 @@ fn lost_with_principals(
     resources: &[&EntityType],
 ) -> M<Vec<Difference>>
     requires versions { AreVersions versions.now }
-    requires requests { AreRequestsOf versions.now.extensions.now (new_of versions.now)
-        requests.now }
+    requires requests { AreRequestsOf versions.now.extensions.now (old_of versions.now)
+        (new_of versions.now) requests.now }
     requires asked { All (λ principal. All (λ resource. IsEnvironmentOf (old_of versions.now)
         (environment_with requests.now (type_name principal.now) (type_name resource.now)))
         resources.now) principals.now }
@@ -317,12 +311,13 @@ fn requests_of<'a>(
     ensures uid { IfOk result (λ requests. requests.uid.now ≡ uid.now) }
     ensures context { IfOk result (λ requests. requests.context.now ≡ context.now) }
     ensures requests { IfOk result (AreRequestsOf versions.now.extensions.now
-        (new_of versions.now)) }
+        (old_of versions.now) (new_of versions.now)) }
 {
     let new = find_action(versions.new, uid);
     let found = match new.and_then(|action| action.context()) {
-        Some(other) => outside(
+        Some(other) => outside_between(
             versions.alloc,
+            versions,
             context,
             other,
             versions.extensions,

@@ -1,12 +1,12 @@
-//! Two versions of a schema, and what stands in them under a name.
+//! Two versions of a schema.
 
-ghost use Rattle.std.specs.Prelude.{◌↔◌, IsTrue};
-ghost use Rattle.std.specs.Option.{option_copied, option_map};
-ghost use Rattle.cedar_compare.specs.Words.{IsActionAt, IsEnumerated, IsKeyed, IsOfKind, IsTypeAt, ListsDescendant, action_of, plain_type, schema_of, type_name, uid_of};
+ghost use Rattle.cedar_compare.specs.LostUids.{AreLostUids};
+ghost use Rattle.cedar_schema.specs.ValidatorSchema.{schema_of};
 
 use cedar_ast::{Entities, EntityType, EntityUID, Extensions, Value};
-use cedar_schema::{ValidatorActionId, ValidatorEntityType, ValidatorSchema};
+use cedar_schema::ValidatorSchema;
 use std::alloc::Global;
+use std::collections::BTreeMap;
 
 /// Two versions of a schema, the entities of the actions of the new one, and what values are made
 /// of.
@@ -24,50 +24,7 @@ pub(crate) struct Versions<'a> {
     pub(crate) extensions: &'a Extensions,
     /// Values of the extension types.
     pub(crate) samples: &'a [Value],
-}
-
-/// The entity type of a name.
-pub(crate) fn find_type<'a>(
-    schema: &'a ValidatorSchema,
-    name: &EntityType,
-) -> Option<&'a ValidatorEntityType>
-    ensures { IsTypeAt (schema_of schema.now) (type_name name.now)
-        (option_map plain_type (option_copied result)) }
-{
-    schema.get_entity_type(name)
-}
-
-/// The action of a uid.
-pub(crate) fn find_action<'a>(
-    schema: &'a ValidatorSchema,
-    uid: &EntityUID,
-) -> Option<&'a ValidatorActionId>
-    ensures { IsActionAt (schema_of schema.now) (uid_of uid.now)
-        (option_map action_of (option_copied result)) }
-{
-    schema.get_action_id(uid)
-}
-
-/// Whether the entity type of a name is enumerated.
-pub(crate) fn is_enumerated_at(schema: &ValidatorSchema, name: &EntityType) -> bool
-    requires { IsKeyed (schema_of schema.now) }
-    ensures { IsTrue result
-        ↔ IsOfKind (schema_of schema.now) (type_name name.now) (λ kind. IsEnumerated kind) }
-{
-    match find_type(schema, name) {
-        Some(ty) => ty.is_enumerated(),
-        None => false,
-    }
-}
-
-/// Whether the one entity type is among the descendants of the other.
-pub(crate) fn lists_type(schema: &ValidatorSchema, lower: &EntityType, upper: &EntityType) -> bool
-    requires { IsKeyed (schema_of schema.now) }
-    ensures { IsTrue result
-        ↔ ListsDescendant (schema_of schema.now) (type_name lower.now) (type_name upper.now) }
-{
-    match find_type(schema, upper) {
-        Some(ty) => ty.has_descendant_entity_type(lower),
-        None => false,
-    }
+    /// For each entity type that loses uids in the new version, one that does.
+    pub(crate) lost: BTreeMap<EntityType, EntityUID>,
+    ghost lost_ones: { ∥ AreLostUids (schema_of old.now) (schema_of new.now) lost ∥₁ },
 }

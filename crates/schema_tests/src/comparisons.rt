@@ -7,7 +7,7 @@ use crate::schemas::schema_of;
 use cedar_compare::{Comparison, Difference, compare};
 use cedar_schema::below::{M, RestrictedExpr, Value};
 use cedar_schema::{Attributes, OpenTag, Type, ValidatorSchema};
-use checked::names::name;
+use checked::names::{entity_type, name};
 use checked::{same, sample_extensions};
 use std::alloc::Global;
 use std::test::Fail;
@@ -77,6 +77,18 @@ const VERSIONS: &[(&str, &str, &str)] = &[
         "Action::\"w\": Gone; Action::\"v\": Gone | ",
     ),
     (
+        "entity R enum [\"a\", \"b\"]; entity U { r: Set<R> };",
+        "entity R enum [\"b\"]; entity U { r: Set<R> };",
+        "R::\"a\": Choice(EntityUID(R::\"a\")); U::\"x\": NoSuchEntity { part: Attributes, \
+         steps: [Attribute(\"r\"), Element], uid: EntityUID(R::\"a\") } | ",
+    ),
+    (
+        "entity U tags Action; action v; action w;",
+        "entity U tags Action; action v;",
+        "U::\"x\": NoSuchEntity { part: Tags, steps: [], uid: EntityUID(Action::\"w\") }; \
+         Action::\"w\": Gone | ",
+    ),
+    (
         "entity U;",
         "entity U; external entity V;",
         "the new schema is incomplete",
@@ -121,4 +133,13 @@ fn types_without_values_are_not_compared(rt: HostRuntime) -> Result<(), Fail> {
     let answer = reported_of(rt.alloc(), OpenTag::ClosedAttributes, Type::Never)?;
     let expected = "the new schema has a type without a sample: __cedar::internal::Never";
     same("Never", answer.as_str(), expected)
+}
+
+#[test]
+fn types_of_actions_without_actions_have_no_values(rt: HostRuntime) -> Result<(), Fail> {
+    let alloc = rt.alloc();
+    let action = Type::named_entity_reference(alloc, entity_type(alloc, "Action")?)?;
+    let answer = reported_of(alloc, OpenTag::ClosedAttributes, action)?;
+    let expected = "the new schema has a type without a sample: Action";
+    same("Action", answer.as_str(), expected)
 }

@@ -4,7 +4,7 @@ use Rattle.cedar_compare.proofs.BareLemmas.{of_its_kind}
 use Rattle.cedar_compare.proofs.LostLemmas.{of_parts, parts_of}
 use Rattle.cedar_compare.proofs.NoTags.{no_tags}
 use Rattle.cedar_compare.proofs.bare.is_bare_of_type.Goals as goal
-use Rattle.cedar_compare.specs.Words.{AreTagsOf, EntityTypeKind, Entries, Fields, Has, IsEntityOfKind, IsStandard, PlainUid, choice_texts, kind_fields, kind_openness, kind_tags, map_value, no_entry, plain_action_entity, plain_kind, plain_type, record_of, schema_of}
+use Rattle.cedar_compare.specs.Words.{AreTagsOf, EntityTypeKind, Entries, Fields, Has, IsEntityOfKind, IsStandard, NamesWhatExists, PlainUid, choice_texts, kind_fields, kind_openness, kind_tags, map_value, no_entry, plain_action_entity, plain_kind, plain_type, record_of, schema_of}
 
 -- an entity whose entity type the schema lacks is of none
 pub returns-in_default : goal.returns-in_default
@@ -34,10 +34,14 @@ returns-then-requires_nothing c = λ extensions.
         of_parts extensions schema ty.kind it standard
             (subst (λ (e : Entries). Has extensions (map_value e) (record_of (kind_fields ty.kind) openness)) (sym c.requires.attributes) has)
             (subst (AreTagsOf extensions (kind_tags ty.kind)) (sym c.requires.tags) (no_tags extensions (kind_tags ty.kind)))
+            (record {
+              attributes = subst (λ (e : Entries). NamesWhatExists schema (map_value e)) (sym c.requires.attributes) tt;
+              tags = subst (λ (e : Entries). NamesWhatExists schema (map_value e)) (sym c.requires.tags) tt;
+            })
             (c.may_all_stand_above.ensures.0 met),
       ),
       λ of. c.may_all_stand_above.ensures.1
-          (parts_of extensions schema ty.kind it standard (of_its_kind extensions schema c.requires.keyed it ty there of)).2,
+          (parts_of extensions schema ty.kind it standard (of_its_kind extensions schema c.requires.keyed it ty there of)).3,
     )
 
 -- an attribute is required, and the entity has none, so it isn't of the type

@@ -5,6 +5,10 @@ use Rattle.cedar_compare.proofs.examples.required_attributes_lose_entities.Goals
 use Rattle.cedar_compare.specs.Samples.{with_age, without_attributes}
 
 pub returns : goal.returns
-returns c extensions = users_lose extensions without_attributes (with_age true) [] IsText-nil
-    (((λ name among. among), tt), refl, λ upper among. absurd (omega (arith, among.1)))
+returns c extensions = users_lose extensions without_attributes (with_age true) [] IsText-nil (
+  ((λ name among. among), tt),
+  refl,
+  record { attributes = tt; tags = tt },
+  record { above = λ upper among. absurd (omega (arith, among.1)); not_itself = λ among. absurd (omega (arith, among.1)) },
+)
     (λ of. absurd (let wrong : true ≡ false = of.0.1.0 in cc))

@@ -2,7 +2,7 @@ use Rattle.std.proofs.Common.{◌≡◌, Option, None, Some, inl, inr, refl, sub
 use Rattle.std.specs.Option.{option_map}
 use Rattle.cedar_compare.proofs.RequestSteps.{choice_answer, environment_context, kept_answer}
 use Rattle.cedar_compare.proofs.requests.ids_lost.Goals as goal
-use Rattle.cedar_compare.specs.Words.{EntityUID, IsContextOutside, IsUidOutside, LacksChoice, Outside, PlainName, PlainSchema, PlainUid, context_at, environment_with, new_action, new_of, old_of, plain_outside, plain_request, ty_of, type_name, uid_of}
+use Rattle.cedar_compare.specs.Words.{EntityUID, IsContextOutside, IsUidOutside, LacksChoice, OutsideBetween, PlainName, PlainSchema, PlainUid, between_of, context_at, environment_with, new_action, new_of, old_of, plain_request, ty_of, type_name, uid_of}
 
 -- where no uid is found, none is outside
 none_outside : (old new : PlainSchema) (name : PlainName) (found : Option EntityUID) → ((uid : EntityUID) → found ≡ Some uid → ⊥)
@@ -59,7 +59,8 @@ returns c =
     let old = old_of versions in
     let new = new_of versions in
     let o = new_action requests in
-    let P : Option Outside → Type 0 = λ it. IsContextOutside versions.extensions.now ty (context_at o) (option_map plain_outside it) in
+    let P : Option OutsideBetween → Type 0 = λ it.
+    IsContextOutside versions.extensions.now old new ty (context_at o) (option_map between_of it) in
     let within = subst P c.requires.found c.requires.requests.context in
     let principals = none_outside old new (type_name c.args.principal.now) c.in_ok-uid.field-0 c.in_default.not-Some c.in_ok-uid.ensures in
     let resources = none_outside old new (type_name c.args.resource.now) c.in_ok-uid-2.field-0 c.in_default-2.not-Some c.in_ok-uid-2.ensures in
