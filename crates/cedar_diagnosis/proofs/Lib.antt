@@ -1,6 +1,7 @@
 pub mod AddingLemmas
 pub mod CountedLemmas
 pub mod DefinedLemmas
+pub mod EnumeratedLemmas
 pub mod GivenLemmas
 pub mod KeyLemmas
 pub mod KindLemmas
@@ -12,4 +13,5 @@ pub mod ParentLemmas
 pub mod ReferenceLemmas
 pub mod ReferringKinds
 pub mod RepeatedLemmas
+pub mod ReservedLemmas
 pub mod TogetherLemmas

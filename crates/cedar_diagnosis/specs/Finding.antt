@@ -4,8 +4,8 @@ use Rattle.cedar_ast.specs.Words.{IsActionType, IsReserved, IsUnqualified, Plain
 use Rattle.cedar_ast.specs.declared.extension.Extensions.{Extensions}
 use Rattle.cedar_diagnosis.specs.Mentioned.{HasToResolveIn, MentionsIn}
 use Rattle.cedar_diagnosis.specs.Names.{action_uids_in, entity_names_in, type_names_in}
-use Rattle.cedar_schema_ast.specs.Words.{ActionBody, ActionReference, Declaration, Reference, action}
-use Rattle.cedar_schema_semantics.specs.Words.{Fault, IsEntityTypePosition, IsUnresolved, Names, NamesNoAction, ResolvesTo, ShadowsType, action_attributes, action_entity_type, action_not_defined, action_shadowing, alias_name, type_not_defined, type_shadowing, undeclared_entity_types, unknown_extension_type}
+use Rattle.cedar_schema_ast.specs.Words.{ActionBody, ActionReference, Body, Declaration, Reference, action, entity_type, enumerated, external}
+use Rattle.cedar_schema_semantics.specs.Words.{Fault, IsEntityTypePosition, IsUnresolved, Names, NamesNoAction, ResolvesTo, ShadowsType, action_attributes, action_entity_type, action_not_defined, action_shadowing, alias_name, enumerated_below, type_not_defined, type_shadowing, undeclared_entity_types, unknown_extension_type}
 
 -- an extension type of this base name isn't among those that were handed in
 abbrev pub IsUnknownExtension : Extensions → Text → Fault → Type 0
@@ -81,3 +81,30 @@ abbrev pub FindsUndefinedParent : List PlainUid → Declaration → Fault → Ty
 FindsUndefinedParent actions it fault =
     (body : ActionBody) × (it.body ≡ action body) × (parent : ActionReference)
     × Contains body.parents parent × IsUndefinedParent actions parent fault
+
+-- an enumerated entity type is declared
+abbrev pub IsEnumeratedIn : Body → Type 0
+IsEnumeratedIn (entity_type (enumerated choices)) = Unit {0}
+IsEnumeratedIn _ = ⊥
+
+-- an external entity type is declared
+abbrev pub IsExternalIn : Body → Type 0
+IsExternalIn (entity_type (external parents)) = Unit {0}
+IsExternalIn _ = ⊥
+
+-- an enumerated entity type of the name is declared
+abbrev pub IsEnumeratedName : Declaration → PlainName → Type 0
+IsEnumeratedName it name = IsEnumeratedIn it.body × Contains (entity_names_in it) name
+
+-- the enumerated entity type is declared with a parent, which this reference names
+abbrev pub IsBelow : Names → PlainName → Reference → Fault → Type 0
+IsBelow names lower reference fault =
+    (upper : PlainName) × ResolvesTo names reference upper × (¬ IsReserved upper)
+    × (enumerated_below lower upper ≡ fault)
+
+-- an external declaration gives a parent to an entity type that is enumerated elsewhere
+abbrev pub FindsEnumeratedBelow : Names → List PlainName → Declaration → Fault → Type 0
+FindsEnumeratedBelow names types it fault =
+    (lower : PlainName) × IsExternalIn it.body × Contains (entity_names_in it) lower
+    × Contains types lower × (reference : Reference) × IsEntityTypePosition it.body reference
+    × IsBelow names lower reference fault

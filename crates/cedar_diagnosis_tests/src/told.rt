@@ -69,6 +69,14 @@ const KINDS: &[Row] = &[
         "the action Action::\"b\" is declared twice\n",
     ),
     (&["type decimal = Long; entity A { d: decimal };"], ""),
+    (
+        &[
+            "entity E enum [\"x\"]; entity F in [E]; entity A, B;",
+            "external entity E in [A, B];",
+        ],
+        "the enumerated type E is below the type A\n\
+        the enumerated type E is below the type B\n",
+    ),
 ];
 
 /// Faults of several kinds at once.

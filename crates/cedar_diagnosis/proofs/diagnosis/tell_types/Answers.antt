@@ -1,4 +1,6 @@
 use Rattle.std.proofs.Common.{◌∷◌, [], map}
+use Rattle.cedar_ast.specs.Words.{type_name}
+use Rattle.cedar_diagnosis.proofs.EnumeratedLemmas.{tells_enumerated_below}
 use Rattle.cedar_diagnosis.proofs.KindLemmas.{tells_open_records, tells_undefined_types, tells_unknown_extensions}
 use Rattle.cedar_diagnosis.proofs.LentLemmas.{positions_unreserved}
 use Rattle.cedar_diagnosis.proofs.ReferringKinds.{tells_undeclared_types, tells_undefined_parents}
@@ -29,7 +31,13 @@ returns c =
     let s4 = together_then bag extensions (kind.open_record ∷ kind.unknown_extension_type ∷ kind.type_not_defined ∷ [])
     kind.undeclared_entity_types t0 t3 t4 (λ e. cc, (λ e. cc, (λ e. cc, tt))) s3
     (tells_undeclared_types bag extensions names c.requires (positions_unreserved c.args.bag.now extensions) t3 t4 c.in_ok-tell_found-4.ensures) in
-    together_then bag extensions
+    let s5 = together_then bag extensions
     (kind.open_record ∷ kind.unknown_extension_type ∷ kind.type_not_defined ∷ kind.undeclared_entity_types ∷ [])
     kind.action_not_defined t0 t4 t5 (λ e. cc, (λ e. cc, (λ e. cc, (λ e. cc, tt)))) s4
-    (tells_undefined_parents bag extensions names c.requires t4 t5 c.in_ok-tell_found-5.ensures)
+    (tells_undefined_parents bag extensions names c.requires t4 t5 c.in_ok-tell_found-5.ensures) in
+    let t6 = map fault_of c.tell_found-6.new.faults.items in
+    together_then bag extensions
+    (kind.open_record ∷ kind.unknown_extension_type ∷ kind.type_not_defined ∷ kind.undeclared_entity_types ∷ kind.action_not_defined ∷ [])
+    kind.enumerated_below t0 t5 t6 (λ e. cc, (λ e. cc, (λ e. cc, (λ e. cc, (λ e. cc, tt))))) s5
+    (tells_enumerated_below bag extensions names (map type_name c.in_ok-enumerated.field-0.keys) c.requires c.in_ok-enumerated.ensures
+    (positions_unreserved c.args.bag.now extensions) t5 t6 c.in_ok-tell_found-6.ensures)
