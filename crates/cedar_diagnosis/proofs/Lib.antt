@@ -1,4 +1,6 @@
+pub mod ActionCycleLemmas
 pub mod AddingLemmas
+pub mod CommonCycles
 pub mod CountedLemmas
 pub mod DefinedLemmas
 pub mod EnumeratedLemmas
@@ -6,6 +8,7 @@ pub mod GivenLemmas
 pub mod KeyLemmas
 pub mod KindLemmas
 pub mod LentLemmas
+pub mod LinkLemmas
 pub mod ListedSoFar
 pub mod MentionLemmas
 pub mod NameLemmas

@@ -77,7 +77,8 @@ declared_kinds = type_shadowing ∷ action_shadowing ∷ duplicate_common_type
 -- the kinds that are told of types and of references
 abbrev pub type_kinds : List Kind
 type_kinds = open_record ∷ unknown_extension_type ∷ type_not_defined
-    ∷ undeclared_entity_types ∷ action_not_defined ∷ enumerated_below ∷ []
+    ∷ undeclared_entity_types ∷ action_not_defined ∷ enumerated_below
+    ∷ common_type_cycle ∷ action_cycle ∷ []
 
 -- all kinds that are told
 abbrev pub told_kinds : List Kind

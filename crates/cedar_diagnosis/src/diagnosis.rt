@@ -10,7 +10,10 @@ ghost use Rattle.cedar_schema_ast.specs.Words.{raw_bag};
 ghost use Rattle.cedar_schema_semantics.specs.Words.{defined_names, fault_of};
 
 use crate::action_attributes::ActionAttributes;
+use crate::action_cycles::ActionCycles;
 use crate::action_entity_types::ActionEntityTypes;
+use crate::common_type_cycles::CommonTypeCycles;
+use crate::cycles::tell_cycles;
 use crate::defined::{all_names, declared_names};
 use crate::duplicates::{DuplicateActions, DuplicateCommonTypes, DuplicateEntityTypes};
 use crate::enumerated::{EnumeratedBelow, enumerated_types};
@@ -72,6 +75,8 @@ fn tell_types(
     tell_found(alloc, &UndefinedParents { defs }, bag, faults)?;
     let enumerated = &enumerated_types(alloc, bag)?;
     tell_found(alloc, &EnumeratedBelow { defs, enumerated }, bag, faults)?;
+    tell_cycles(alloc, &CommonTypeCycles { defs }, bag, faults)?;
+    tell_cycles(alloc, &ActionCycles { defs }, bag, faults)?;
     Ok(())
 }
 
@@ -92,6 +97,7 @@ fn tell_types(
 /// - `ActionNotDefined`: a parent of an action that names no action
 /// - `EnumEntityInHierarchy`: an enumerated entity type to which an external declaration gives a
 ///   parent, with that (RFC 53 and RFC 116)
+/// - `CycleInCommonTypeReferences`, `CycleInActionHierarchy`: each name on a cycle
 ///
 /// `ReservedName` isn't told: what `Fragment<RawName>` declares has names that aren't reserved.
 ///

@@ -7,7 +7,10 @@
 pub use diagnosis::faults;
 
 mod action_attributes;
+mod action_cycles;
 mod action_entity_types;
+mod common_type_cycles;
+mod cycles;
 mod defined;
 mod diagnosis;
 mod duplicates;
@@ -16,6 +19,7 @@ mod finding;
 mod lent;
 mod listing;
 mod mentions;
+mod named_action;
 mod names;
 mod open_records;
 mod parent_key;
