@@ -1,10 +1,14 @@
+pub mod ActionCycleLemmas
 pub mod AddingLemmas
+pub mod CommonCycles
 pub mod CountedLemmas
 pub mod DefinedLemmas
+pub mod EnumeratedLemmas
 pub mod GivenLemmas
 pub mod KeyLemmas
 pub mod KindLemmas
 pub mod LentLemmas
+pub mod LinkLemmas
 pub mod ListedSoFar
 pub mod MentionLemmas
 pub mod NameLemmas
@@ -12,4 +16,5 @@ pub mod ParentLemmas
 pub mod ReferenceLemmas
 pub mod ReferringKinds
 pub mod RepeatedLemmas
+pub mod ReservedLemmas
 pub mod TogetherLemmas

@@ -9,6 +9,11 @@ pub flat_map-single : {E D : Type 0} (g : E → D) (xs : List E) → flat_map (�
 flat_map-single g [] = refl
 flat_map-single g (x ∷ xs) = ap (λ others. g x ∷ others) (flat_map-single g xs)
 
+-- where each gives itself, they give what they are
+pub flat_map-itself : {E : Type 0} (xs : List E) → flat_map (λ x. x ∷ []) xs ≡ xs
+flat_map-itself [] = refl
+flat_map-itself (x ∷ xs) = ap (λ others. x ∷ others) (flat_map-itself xs)
+
 module _ {E D : Type 0} (f : E → List D) where
   -- what one more gives stands after what those before it give
   pub given_more : (xs : List E) (x : E) → flat_map f (xs ++ x ∷ []) ≡ flat_map f xs ++ f x

@@ -33,6 +33,9 @@ within_unreserved (Some name) id free reserved =
 pub named_one : {P : Type 0} (name : P) (names : List P) → name ∷ [] ≡ names → Contains names name
 named_one name names is = subst (λ each. Contains each name) is (Contains-cons name [] name (inl refl))
 
+pub named_one_of : {P : Type 0} (name : P) (names : List P) → name ∷ [] ≡ names → (other : P) → name ≡ other → Contains names other
+named_one_of name names is other same = subst (Contains names) same (named_one name names is)
+
 pub named_only : {P : Type 0} (name : P) (names : List P) → name ∷ [] ≡ names → (other : P) → Contains names other → name ≡ other
 named_only name names is other among = Contains-single name other (subst (λ each. Contains each other) (sym is) among)
 

@@ -84,6 +84,13 @@ module _ (actions : List PlainUid) (id : Text) (key : ReferenceKey) where
     | inr second ↦ false≢true (sym alone ∙ second.0)
   ]
 
+  -- where no action has either name, none is named
+  pub both_lack : ¬ Has (name_of key.first) → ¬ Has (alias_name (name_of key.first).base) → NamesNoAction actions parent_of
+  both_lack lacks lacks_base name among has = elim (tried_cases key.is_within (name_of key.first) name among) [
+    | inl same ↦ lacks (subst Has (sym same) has)
+    | inr second ↦ lacks_base (subst Has (sym second.1) has)
+  ]
+
   -- where the base name alone is tried, and an action has it
   pub second_named : {E : Type 0} (result : Result Bool E) → key.is_within ≡ true
       → IfOk result (λ is. IsTrue is ↔ Has (alias_name (name_of key.first).base))

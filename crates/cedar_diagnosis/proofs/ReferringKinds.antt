@@ -18,7 +18,7 @@ use Rattle.cedar_schema_semantics.specs.Words.{Bag, Fault, HasUnknownParent, IsA
 
 module _ (bag : Bag) (extensions : Extensions) (names : Names) (same : HoldsJust names (defined_names bag extensions)) where
   -- references resolve to the same names
-  resolves_like : (reference : Reference) (name : PlainName)
+  pub resolves_like : (reference : Reference) (name : PlainName)
       → ResolvesTo names reference name ↔ ResolvesTo (defined_names bag extensions) reference name
   resolves_like reference name =
       let One : PlainName → Type 0 = IsDefined names reference.kind in

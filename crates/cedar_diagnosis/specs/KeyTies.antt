@@ -3,20 +3,22 @@ use Rattle.std.proofs.Common.{◌≡◌, ◌↔◌, Bool, true, false, [], ◌�
 use Rattle.std.specs.Ordering.{bool_cmp, ordering_then}
 use Rattle.std.specs.declared.cmp.Ordering.{Ordering}
 use Rattle.std.specs.declared.cmp.Ordering.TheVariants.{Equal}
-use Rattle.cedar_ast.proofs.Names.{internal_name_ord-Equal}
+use Rattle.cedar_ast.proofs.Names.{entity_type_ord-Equal, internal_name_ord-Equal}
 use Rattle.cedar_ast.proofs.PlainNames.{ordering_then-Equal}
 use Rattle.cedar_ast.proofs.Texts.{text_cmp-Equal}
-use Rattle.cedar_ast.specs.Words.{PlainName, Text, name_of}
+use Rattle.cedar_ast.specs.Words.{PlainName, Text, name_of, type_name}
 use Rattle.cedar_diagnosis.specs.ReferenceKeys.{key_kind, key_reference, names_tried, parent_told}
 use Rattle.cedar_diagnosis.specs.contracts.parent_key.ParentKeyOrd.TheImpl as parent_ord
 use Rattle.cedar_diagnosis.specs.contracts.reference_key.NamedKindOrd.TheImpl as kind_ord
 use Rattle.cedar_diagnosis.specs.contracts.reference_key.ReferenceKeyOrd.TheImpl as key_ord
+use Rattle.cedar_diagnosis.specs.contracts.type_pair.TypePairOrd.TheImpl as pair_ord
 use Rattle.cedar_diagnosis.specs.declared.parent_key.ParentKey.{ParentKey}
 use Rattle.cedar_diagnosis.specs.declared.reference_key.NamedKind.{NamedKind}
 use Rattle.cedar_diagnosis.specs.declared.reference_key.NamedKind.TheVariants.{AnyType, CommonType, EntityType}
 use Rattle.cedar_diagnosis.specs.declared.reference_key.ReferenceKey.{ReferenceKey}
+use Rattle.cedar_diagnosis.specs.declared.type_pair.TypePair.{TypePair}
 use Rattle.cedar_schema_ast.specs.Words.{Reference}
-use Rattle.cedar_schema_semantics.specs.Words.{action_not_defined, alias_name, type_not_defined}
+use Rattle.cedar_schema_semantics.specs.Words.{Fault, action_not_defined, alias_name, enumerated_below, type_not_defined}
 
 -- truth values tie where they are the same
 bool_tie : (a b : Bool) → bool_cmp a b ≡ Equal → a ≡ b
@@ -111,4 +113,22 @@ undefined_parents_tie a b = (
       let ids = ap (λ (it : Text × Option Reference). it.0) carried in
       let references = carried_same _ _ (ap (λ (it : Text × Option Reference). it.1) carried) in
       both_tie _ _ (untied a.reference b.reference references) ((text_cmp-Equal (string_bytes a.id) (string_bytes b.id)).1 ids),
+)
+
+-- the fault that an enumerated entity type with a parent is
+abbrev pub below_told : TypePair → Fault
+below_told key = enumerated_below (type_name key.lower) (type_name key.upper)
+
+-- pairs of entity types tie where they are those of the same fault
+pub enumerated_below_tie : (a b : TypePair) → ((pair_ord.ghosts).cmp a b ≡ Equal) ↔ (below_told a ≡ below_told b)
+enumerated_below_tie a b = (
+  λ e.
+      let ties = ordering_then-Equal _ _ e in
+      let lower = (entity_type_ord-Equal a.lower b.lower).0 ties.0 in
+      let upper = (entity_type_ord-Equal a.upper b.upper).0 ties.1 in
+      λ i. enumerated_below (lower i) (upper i),
+  λ e.
+      let lower : type_name a.lower ≡ type_name b.lower = cc in
+      let upper : type_name a.upper ≡ type_name b.upper = cc in
+      both_tie _ _ ((entity_type_ord-Equal a.lower b.lower).1 lower) ((entity_type_ord-Equal a.upper b.upper).1 upper),
 )

@@ -71,12 +71,14 @@ TellsTogether bag extensions kinds before after =
 -- the kinds that are told of names and of what is declared twice
 abbrev pub declared_kinds : List Kind
 declared_kinds = type_shadowing ∷ action_shadowing ∷ duplicate_common_type
-    ∷ duplicate_entity_type ∷ duplicate_action ∷ action_entity_type ∷ action_attributes ∷ []
+    ∷ duplicate_entity_type ∷ duplicate_action ∷ action_entity_type ∷ action_attributes
+    ∷ reserved_name ∷ []
 
 -- the kinds that are told of types and of references
 abbrev pub type_kinds : List Kind
 type_kinds = open_record ∷ unknown_extension_type ∷ type_not_defined
-    ∷ undeclared_entity_types ∷ action_not_defined ∷ []
+    ∷ undeclared_entity_types ∷ action_not_defined ∷ enumerated_below
+    ∷ common_type_cycle ∷ action_cycle ∷ []
 
 -- all kinds that are told
 abbrev pub told_kinds : List Kind

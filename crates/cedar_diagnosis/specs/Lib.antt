@@ -5,6 +5,7 @@ pub mod Finding
 pub mod KeyTies
 pub mod Kinds
 pub mod Lent
+pub mod Links
 pub mod Mentioned
 pub mod Names
 pub mod ReferenceKeys

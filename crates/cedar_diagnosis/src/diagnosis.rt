@@ -10,9 +10,13 @@ ghost use Rattle.cedar_schema_ast.specs.Words.{raw_bag};
 ghost use Rattle.cedar_schema_semantics.specs.Words.{defined_names, fault_of};
 
 use crate::action_attributes::ActionAttributes;
+use crate::action_cycles::ActionCycles;
 use crate::action_entity_types::ActionEntityTypes;
+use crate::common_type_cycles::CommonTypeCycles;
+use crate::cycles::tell_cycles;
 use crate::defined::{all_names, declared_names};
 use crate::duplicates::{DuplicateActions, DuplicateCommonTypes, DuplicateEntityTypes};
+use crate::enumerated::{EnumeratedBelow, enumerated_types};
 use crate::finding::tell_found;
 use crate::lent::Lent;
 use crate::listing::listed;
@@ -69,6 +73,10 @@ fn tell_types(
     tell_found(alloc, &UndefinedTypes { defs }, bag, faults)?;
     tell_found(alloc, &UndeclaredTypes { defs }, bag, faults)?;
     tell_found(alloc, &UndefinedParents { defs }, bag, faults)?;
+    let enumerated = &enumerated_types(alloc, bag)?;
+    tell_found(alloc, &EnumeratedBelow { defs, enumerated }, bag, faults)?;
+    tell_cycles(alloc, &CommonTypeCycles { defs }, bag, faults)?;
+    tell_cycles(alloc, &ActionCycles { defs }, bag, faults)?;
     Ok(())
 }
 
@@ -87,6 +95,11 @@ fn tell_types(
 /// - `TypeNotDefined`: a reference that names nothing (RFC 24)
 /// - `UndeclaredEntityTypes`: the type of some actions where an entity type has to stand
 /// - `ActionNotDefined`: a parent of an action that names no action
+/// - `EnumEntityInHierarchy`: an enumerated entity type to which an external declaration gives a
+///   parent, with that (RFC 53 and RFC 116)
+/// - `CycleInCommonTypeReferences`, `CycleInActionHierarchy`: each name on a cycle
+///
+/// `ReservedName` isn't told: what `Fragment<RawName>` declares has names that aren't reserved.
 ///
 /// The names of the extension types have to be such as `Extensions::type_names_fit` tells. Out of
 /// memory is the only refusal.

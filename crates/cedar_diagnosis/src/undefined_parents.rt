@@ -84,7 +84,7 @@ fn names_action(alloc: Global, key: &ReferenceKey, id: &String, defs: &AllDefs) 
 }
 
 /// The reference that the type of a parent is, where this is the name of a type that isn't written.
-fn parent_reference<'a>(
+pub(crate) fn parent_reference<'a>(
     parent: &'a ActionEntityUID<RawName>,
     unwritten: &'a RawName,
     namespace: Option<&'a InternalName>,
@@ -154,7 +154,7 @@ impl UndefinedParents<'_> {
 }
 
 /// The base name of all types of actions, as it might be written.
-fn unwritten_type(alloc: Global) -> M<RawName>
+pub(crate) fn unwritten_type(alloc: Global) -> M<RawName>
     ensures { IfOk result (λ name. raw_name name ≡ plain_action_type) }
 {
     let id = identifier(alloc, "Action")?;

@@ -69,6 +69,32 @@ const KINDS: &[Row] = &[
         "the action Action::\"b\" is declared twice\n",
     ),
     (&["type decimal = Long; entity A { d: decimal };"], ""),
+    (
+        &[
+            "entity E enum [\"x\"]; entity F in [E]; entity A, B;",
+            "external entity E in [A, B];",
+        ],
+        "the enumerated type E is below the type A\n\
+        the enumerated type E is below the type B\n",
+    ),
+    (
+        &["type A = Set<B>; type B = { c: C }; type C = A; type D = A; type E = Long; type F = F;"],
+        "the definition of the common type A leads back to it\n\
+        the definition of the common type B leads back to it\n\
+        the definition of the common type C leads back to it\n\
+        the definition of the common type F leads back to it\n",
+    ),
+    (
+        &[
+            "action a in [b]; action b in [c]; action c in [a, d]; action d;",
+            "namespace N { action e in [f]; action f in [e]; action g in [Action::\"a\"]; }",
+        ],
+        "the action Action::\"a\" is its own ancestor\n\
+        the action Action::\"b\" is its own ancestor\n\
+        the action Action::\"c\" is its own ancestor\n\
+        the action N::Action::\"e\" is its own ancestor\n\
+        the action N::Action::\"f\" is its own ancestor\n",
+    ),
 ];
 
 /// Faults of several kinds at once.

@@ -1,6 +1,7 @@
 use Rattle.std.proofs.Common.{◌∷◌, [], map}
 use Rattle.cedar_diagnosis.proofs.KindLemmas.{tells_action_types, tells_actions, tells_attributes, tells_common_types, tells_entity_types, tells_shadowed_actions, tells_shadowed_types}
 use Rattle.cedar_diagnosis.proofs.LentLemmas.{commons_unreserved}
+use Rattle.cedar_diagnosis.proofs.ReservedLemmas.{tells_reserved}
 use Rattle.cedar_diagnosis.proofs.TogetherLemmas.{together_none, together_then}
 use Rattle.cedar_diagnosis.proofs.diagnosis.tell_declared.Goals as goal
 use Rattle.cedar_diagnosis.specs.Kinds as kind
@@ -39,8 +40,13 @@ returns c extensions fit =
     (kind.type_shadowing ∷ kind.action_shadowing ∷ kind.duplicate_common_type ∷ kind.duplicate_entity_type ∷ kind.duplicate_action ∷ [])
     kind.action_entity_type t0 t5 t6 (λ e. cc, (λ e. cc, (λ e. cc, (λ e. cc, (λ e. cc, tt))))) s5
     (tells_action_types bag extensions t5 t6 c.in_ok-tell_found-3.ensures) in
-    together_then bag extensions
+    let s7 = together_then bag extensions
     (kind.type_shadowing ∷ kind.action_shadowing ∷ kind.duplicate_common_type ∷ kind.duplicate_entity_type ∷ kind.duplicate_action
     ∷ kind.action_entity_type ∷ [])
     kind.action_attributes t0 t6 t7 (λ e. cc, (λ e. cc, (λ e. cc, (λ e. cc, (λ e. cc, (λ e. cc, tt)))))) s6
-    (tells_attributes bag extensions t6 t7 c.in_ok-tell_found-4.ensures)
+    (tells_attributes bag extensions t6 t7 c.in_ok-tell_found-4.ensures) in
+    together_then bag extensions
+    (kind.type_shadowing ∷ kind.action_shadowing ∷ kind.duplicate_common_type ∷ kind.duplicate_entity_type ∷ kind.duplicate_action
+    ∷ kind.action_entity_type ∷ kind.action_attributes ∷ [])
+    kind.reserved_name t0 t7 t7 (λ e. cc, (λ e. cc, (λ e. cc, (λ e. cc, (λ e. cc, (λ e. cc, (λ e. cc, tt))))))) s7
+    (tells_reserved c.args.bag.now extensions t7)

@@ -1,0 +1,5 @@
+mod AtRest
+mod Costs
+mod Leaving
+mod Reading
+mod Steps
