@@ -6,7 +6,7 @@ use Rattle.cedar_ast.proofs.Basics.{Contains-single}
 use Rattle.cedar_ast.proofs.Chains.{first_step}
 use Rattle.cedar_ast.proofs.Lists.{Contains-cons}
 use Rattle.cedar_ast.specs.Chain.{Chain}
-use Rattle.cedar_ast.specs.Words.{PlainName, PlainUid, name_of}
+use Rattle.cedar_ast.specs.Words.{PlainName, PlainUid, name_of, uid_of}
 use Rattle.cedar_ast.specs.declared.entity_uid.EntityUID.{EntityUID}
 use Rattle.cedar_ast.specs.declared.extension.Extensions.{Extensions}
 use Rattle.cedar_diagnosis.proofs.AddingLemmas.{adds_also, adds_like, adds_listed, adds_nothing, members_give}
@@ -86,6 +86,31 @@ names_one actions parent uid other one two =
     let ids : uid.eid ≡ other.eid = one.1 ∙ sym two.1 in
     λ i. record { ty = types i; eid = ids i }
 
+-- the first of which a fact holds is one of which it does
+first_holds : (P : PlainName → Type 0) (names : List PlainName) (name : PlainName) → IsFirst P names name → Contains names name × P name
+first_holds P [] name is = absurd is
+first_holds P (first ∷ names) name is = elim is [
+  | inl here ↦ (Contains-cons first names name (inl here.0), subst P here.0 here.1)
+  | inr later ↦ let found = first_holds P names name later.1 in (Contains-cons first names name (inr found.0), found.1)
+]
+
+-- a parent that names an action doesn't name none
+pub names_some : (actions : List PlainUid) (parent : ActionReference) (uid : PlainUid) → NamesAction actions parent uid → ¬ NamesNoAction actions parent
+names_some actions parent uid named none =
+    let first = first_holds (λ ty. Contains actions (record { ty = ty; eid = parent.id })) parent.ty.possibilities uid.ty named.0 in
+    none uid.ty first.0 first.1
+
+-- a parent of which an action was found names one, and another none
+pub found_named : (actions : List PlainUid) (parent : ActionReference) (found : Option EntityUID) → is_some found ≡ true
+    → IsNamedBy actions parent found → ¬ NamesNoAction actions parent
+found_named actions parent None some named = absurd (false≢true some)
+found_named actions parent (Some uid) some named = names_some actions parent (uid_of uid) named
+
+pub found_unnamed : (actions : List PlainUid) (parent : ActionReference) (found : Option EntityUID) → is_some found ≡ false
+    → IsNamedBy actions parent found → NamesNoAction actions parent
+found_unnamed actions parent None none named = named
+found_unnamed actions parent (Some uid) none named = absurd cc
+
 -- so one link is added where it names one
 pub links_one : (actions : List PlainUid) (parent : ActionReference) (lower upper : PlainUid) (before after : List (Fault × Fault)) (item : Fault × Fault)
     → item ≡ (action_cycle lower, action_cycle upper) → NamesAction actions parent upper → HasAlso after before (item ∷ [])
@@ -103,16 +128,7 @@ pub links_none : (actions : List PlainUid) (parent : ActionReference) (lower : P
     → Adds (LinksToParent actions lower parent) before before
 links_none actions parent lower before none =
     adds_nothing (LinksToParent actions lower parent) before
-    (λ link links.
-    let first = first_holds (λ ty. Contains actions (record { ty = ty; eid = parent.id })) parent.ty.possibilities links.0.ty links.1.0 in
-    none links.0.ty first.0 first.1)
-  where
-    first_holds : (P : PlainName → Type 0) (names : List PlainName) (name : PlainName) → IsFirst P names name → Contains names name × P name
-    first_holds P [] name is = absurd is
-    first_holds P (first ∷ names) name is = elim is [
-      | inl here ↦ (Contains-cons first names name (inl here.0), subst P here.0 here.1)
-      | inr later ↦ let found = first_holds P names name later.1 in (Contains-cons first names name (inr found.0), found.1)
-    ]
+    (λ link links. names_some actions parent links.0 links.1 none)
 
 -- the parents of an action that is declared are those of its declaration
 pub parents_listed : {X E : Type 0} (result : Result X E) (seen : X → List ActionReference) (it : Declaration) (body : ActionBody)

@@ -1,8 +1,8 @@
 -- Which actions the references of parents name.
-use Rattle.std.proofs.Common.{◌≡◌, ◌⊎◌, ◌↔◌, IsTrue, IfOk, OnOk, Result, Ok, Err, Bool, true, false, List, [], ◌∷◌, sym, ◌∙◌, subst, refl, inl, inr, Contains}
+use Rattle.std.proofs.Common.{◌≡◌, ◌⊎◌, OnOk, Result, Ok, Err, Bool, true, false, List, [], ◌∷◌, sym, ◌∙◌, subst, refl, inl, inr, Contains}
 use Rattle.std.proofs.lemmas.Bool.{false≢true}
 use Rattle.cedar_ast.proofs.Basics.{Contains-none}
-use Rattle.cedar_ast.proofs.Lists.{Contains-cons, Contains-cons_cases, Contains-preimage}
+use Rattle.cedar_ast.proofs.Lists.{Contains-cons_cases, Contains-preimage}
 use Rattle.cedar_ast.specs.Words.{IsReserved, PlainName, PlainUid, Text, name_of, uid_of}
 use Rattle.cedar_diagnosis.proofs.AddingLemmas.{adds_like}
 use Rattle.cedar_diagnosis.specs.Adding.{Adds, SomeGives}
@@ -40,11 +40,6 @@ parents_found (Ok x) actions it body parents before after is own adds =
     adds
 parents_found (Err x) actions it body parents before after is own adds = tt
 
--- the first name is tried
-tried_first : (within : Bool) (first : PlainName) → Contains (names_tried within first) first
-tried_first true first = Contains-cons first (alias_name first.base ∷ []) first (inl refl)
-tried_first false first = Contains-cons first [] first (inl refl)
-
 -- what is tried is the first name, or where it is tried the base name alone
 tried_cases : (within : Bool) (first name : PlainName) → Contains (names_tried within first) name
     → (first ≡ name) ⊎ ((within ≡ true) × (alias_name first.base ≡ name))
@@ -60,12 +55,6 @@ tried_cases false first name among = elim (Contains-cons_cases first [] name amo
   | inr none ↦ absurd (Contains-none name none)
 ]
 
--- the base name alone is tried within a namespace
-tried_second : (within : Bool) (first : PlainName) → within ≡ true → Contains (names_tried within first) (alias_name first.base)
-tried_second true first is =
-    Contains-cons first (alias_name first.base ∷ []) (alias_name first.base) (inr (Contains-cons (alias_name first.base) [] (alias_name first.base) (inl refl)))
-tried_second false first is = absurd (false≢true is)
-
 module _ (actions : List PlainUid) (id : Text) (key : ReferenceKey) where
   -- an action of the id whose type has the name is declared
   abbrev pub Has : PlainName → Type 0
@@ -74,9 +63,6 @@ module _ (actions : List PlainUid) (id : Text) (key : ReferenceKey) where
   -- the reference to an action
   abbrev pub parent_of : ActionReference
   parent_of = record { id = id; ty = key_reference key }
-
-  pub first_named : Has (name_of key.first) → ¬ NamesNoAction actions parent_of
-  first_named has none = none (name_of key.first) (tried_first key.is_within (name_of key.first)) has
 
   pub alone_none : key.is_within ≡ false → ¬ Has (name_of key.first) → NamesNoAction actions parent_of
   alone_none alone lacks name among has = elim (tried_cases key.is_within (name_of key.first) name among) [
@@ -90,21 +76,3 @@ module _ (actions : List PlainUid) (id : Text) (key : ReferenceKey) where
     | inl same ↦ lacks (subst Has (sym same) has)
     | inr second ↦ lacks_base (subst Has (sym second.1) has)
   ]
-
-  -- where the base name alone is tried, and an action has it
-  pub second_named : {E : Type 0} (result : Result Bool E) → key.is_within ≡ true
-      → IfOk result (λ is. IsTrue is ↔ Has (alias_name (name_of key.first).base))
-      → IfOk result (λ is. IsTrue is → ¬ NamesNoAction actions parent_of)
-  second_named (Ok is) within has = λ yes none.
-      none (alias_name (name_of key.first).base) (tried_second key.is_within (name_of key.first) within) (has.0 yes)
-  second_named (Err e) within has = tt
-
-  -- and where none has either
-  pub both_none : {E : Type 0} (result : Result Bool E) → ¬ Has (name_of key.first)
-      → IfOk result (λ is. IsTrue is ↔ Has (alias_name (name_of key.first).base))
-      → IfOk result (λ is. (¬ IsTrue is) → NamesNoAction actions parent_of)
-  both_none (Ok is) lacks has = λ never name among there. elim (tried_cases key.is_within (name_of key.first) name among) [
-    | inl same ↦ lacks (subst Has (sym same) there)
-    | inr second ↦ never (has.1 (subst Has (sym second.1) there))
-  ]
-  both_none (Err e) lacks has = tt

@@ -57,14 +57,14 @@ pub(crate) fn named_action(
         return Ok(first);
     }
     if !reference.is_within {
-        return Ok(first);
+        return Ok(None);
     }
     let base = plain_type(alloc, &reference.first)?;
     declared_action(alloc, &base, &parent.id, defs)
 }
 
 /// The key of a parent, where this is the name of a type that isn't written.
-fn parent_key(
+pub(crate) fn parent_key(
     alloc: Global,
     parent: &ActionEntityUID<RawName>,
     unwritten: &RawName,

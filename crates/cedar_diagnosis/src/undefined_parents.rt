@@ -1,24 +1,22 @@
 //! Parents of actions that name no action.
 
-ghost use Rattle.std.specs.Prelude.{◌≡◌, ◌↔◌, ◌∷◌, [], Contains, IfOk, IsTrue, OnOk, Some, map, string_bytes};
-ghost use Rattle.cedar_ast.specs.Words.{name_of};
+ghost use Rattle.std.specs.Prelude.{◌≡◌, IfOk, OnOk, map};
 ghost use Rattle.cedar_diagnosis.specs.Adding.{Adds, SomeGives};
 ghost use Rattle.cedar_diagnosis.specs.Finding.{FindsUndefinedParent, IsUndefinedParent};
 ghost use Rattle.cedar_diagnosis.specs.KeyTies.{undefined_parents_tie};
 ghost use Rattle.cedar_diagnosis.specs.Mentioned.{reference_of};
-ghost use Rattle.cedar_diagnosis.specs.ReferenceKeys.{key_reference, names_tried, parent_told};
+ghost use Rattle.cedar_diagnosis.specs.ReferenceKeys.{parent_told};
 ghost use Rattle.cedar_name_resolution.specs.Words.{held_names};
 ghost use Rattle.cedar_schema_ast.specs.Words.{namespace_name, parent_action, parent_type, plain_action_type, raw_name, raw_reference};
 ghost use Rattle.cedar_schema_ast.specs.declared.json_schema.raw_name.RawName.{RawName as Raw};
-ghost use Rattle.cedar_schema_semantics.specs.Words.{NamesNoAction, action_not_defined, alias_name, fault_of};
+ghost use Rattle.cedar_schema_semantics.specs.Words.{fault_of};
 
 use crate::finding::{FaultKind, Finds, add_key};
 use crate::lent::{Lent, LentBody};
 use crate::mentions::WrittenReference;
+use crate::named_action::{named_action, parent_key};
 use crate::parent_key::ParentKey;
-use crate::reference_key::{ReferenceKey, reference_key};
-use crate::shadowing::plain_type;
-use cedar_ast::{Eid, EntityType, EntityUID, InternalName, M, NonEmpty, identifier};
+use cedar_ast::{InternalName, M, NonEmpty, identifier};
 use cedar_name_resolution::defs::AllDefs;
 use cedar_schema_ast::json_schema::{ActionEntityUID, RawName, ReferenceType};
 use cedar_schema_semantics::SchemaError;
@@ -50,37 +48,6 @@ impl FaultKind for UndefinedParents<'_> {
     }
 
     ghost ties = { undefined_parents_tie };
-}
-
-/// Whether an action of the id is declared whose type has the name.
-fn is_action(alloc: Global, name: &InternalName, id: &String, defs: &AllDefs) -> M<bool>
-    ensures { IfOk result (λ is. IsTrue is ↔ Contains (held_names defs.now).actions
-        (record { ty = name_of name.now; eid = string_bytes id.now })) }
-{
-    match EntityType::from_internal(name.clone()?) {
-        Ok(ty) => {
-            let uid = EntityUID::new(ty, Eid(id.clone()?), None);
-            Ok(defs.is_defined_as_action(&uid))
-        }
-        Err(_) => Ok(false),
-    }
-}
-
-/// Whether an action of the id is declared whose type a reference may name.
-fn names_action(alloc: Global, key: &ReferenceKey, id: &String, defs: &AllDefs) -> M<bool>
-    ensures yes { IfOk result (λ is. IsTrue is → ¬ NamesNoAction (held_names defs.now).actions
-        (record { id = string_bytes id.now; ty = key_reference key.now })) }
-    ensures not { IfOk result (λ is. (¬ IsTrue is) → NamesNoAction (held_names defs.now).actions
-        (record { id = string_bytes id.now; ty = key_reference key.now })) }
-{
-    if is_action(alloc, &key.first, id, defs)? {
-        return Ok(true);
-    }
-    if !key.is_within {
-        return Ok(false);
-    }
-    let base = plain_type(alloc, &key.first)?;
-    is_action(alloc, &base, id, defs)
 }
 
 /// The reference that the type of a parent is, where this is the name of a type that isn't written.
@@ -121,13 +88,11 @@ impl UndefinedParents<'_> {
             (namespace_name namespace.entry) parent.now))
             (map parent_told keys.old.keys) (map parent_told keys.new.keys)) }
     {
-        let it = parent_reference(parent, unwritten, namespace);
-        let reference = reference_key(alloc, &it)?;
-        if names_action(alloc, &reference, &parent.id, self.defs)? {
+        let key = parent_key(alloc, parent, unwritten, namespace)?;
+        if named_action(alloc, &key, self.defs)?.is_some() {
             return Ok(());
         }
-        let id = parent.id.clone()?;
-        add_key::<UndefinedParents>(keys, ParentKey { reference, id })
+        add_key::<UndefinedParents>(keys, key)
     }
 
     /// Adds those of some parents that name no action.

@@ -1,24 +1,28 @@
-use Rattle.std.proofs.Common.{◌≡◌, [], ◌∷◌, Some, map, sym, subst, ◌∙◌, string_bytes}
-use Rattle.std.proofs.lemmas.Bool.{false≢true}
+use Rattle.std.proofs.Common.{◌≡◌, [], ◌∷◌, Some, ap, map, sym, subst, ◌∙◌}
+use Rattle.cedar_diagnosis.proofs.ActionCycleLemmas.{found_named, found_unnamed}
 use Rattle.cedar_diagnosis.proofs.AddingLemmas.{adds_found, adds_nothing}
 use Rattle.cedar_diagnosis.proofs.undefined_parents.UndefinedParents.add.Goals as goal
 use Rattle.cedar_diagnosis.specs.Finding.{IsUndefinedParent}
-use Rattle.cedar_diagnosis.specs.ReferenceKeys.{key_reference, parent_told}
+use Rattle.cedar_diagnosis.specs.ReferenceKeys.{key_parent, parent_told}
 use Rattle.cedar_name_resolution.specs.Words.{held_names}
-use Rattle.cedar_schema_ast.specs.Words.{Reference, namespace_name, parent_action, raw_reference}
+use Rattle.cedar_schema_ast.specs.Words.{ActionReference, namespace_name, parent_action, raw_reference}
 use Rattle.cedar_schema_ast.specs.declared.json_schema.raw_name.RawName.{RawName}
-use Rattle.cedar_schema_semantics.specs.Words.{NamesNoAction, action_not_defined}
+use Rattle.cedar_schema_semantics.specs.Words.{Fault, NamesNoAction, action_not_defined}
+
+-- what is told of a parent that names no action
+abbrev told : ActionReference → Fault
+told parent = action_not_defined ((parent.id, Some parent.ty) ∷ [])
 
 -- one that names an action isn't added
-pub returns-then-branch : goal.returns-then-branch
-returns-then-branch c =
+pub returns-then-is_some : goal.returns-then-is_some
+returns-then-is_some c =
     let actions = (held_names c.args.self.now.defs.now).actions in
     let namespace = namespace_name c.args.namespace in
     let parent = parent_action RawName (raw_reference namespace) namespace c.args.parent.now in
-    let None : Reference → Type 0 = λ ty. NamesNoAction actions (record { id = parent.id; ty = ty }) in
     adds_nothing (IsUndefinedParent actions parent) (map parent_told c.args.keys.now.keys)
     (λ fault found.
-    c.in_ok-names_action.ensures.yes c.if-branch.true (subst None (sym (c.in_ok-reference.ensures ∙ c.parent_reference-it.ensures)) found.0))
+    found_named actions (key_parent c.in_ok-key.key) c.in_ok-named_action.field-0 (sym c.is_some.ensures ∙ c.if-is_some.true) c.in_ok-named_action.ensures
+    (subst (NamesNoAction actions) (sym c.in_ok-key.ensures) found.0))
 
 -- any other is
 pub returns : goal.returns
@@ -26,13 +30,7 @@ returns c =
     let actions = (held_names c.args.self.now.defs.now).actions in
     let namespace = namespace_name c.args.namespace in
     let parent = parent_action RawName (raw_reference namespace) namespace c.args.parent.now in
-    let reference = key_reference c.in_ok-reference.reference in
-    let None : Reference → Type 0 = λ ty. NamesNoAction actions (record { id = parent.id; ty = ty }) in
-    let same : reference ≡ parent.ty = c.in_ok-reference.ensures ∙ c.parent_reference-it.ensures in
-    let ids : string_bytes c.in_ok-id.id ≡ parent.id = c.in_ok-id.ensures.cases in
-    let carried : action_not_defined ((string_bytes c.in_ok-id.id, Some reference) ∷ []) ≡ action_not_defined ((parent.id, Some parent.ty) ∷ []) =
-    λ i. action_not_defined ((ids i, Some (same i)) ∷ []) in
-    let none = c.in_ok-names_action.ensures.not (λ yes. false≢true (sym c.if-branch.false ∙ yes)) in
+    let same : told (key_parent c.in_ok-key.key) ≡ told parent = ap told c.in_ok-key.ensures in
+    let none = found_unnamed actions (key_parent c.in_ok-key.key) c.in_ok-named_action.field-0 (sym c.is_some.ensures ∙ c.if-is_some.false) c.in_ok-named_action.ensures in
     adds_found c.add_key.result (IsUndefinedParent actions parent) (map parent_told c.args.keys.now.keys) (map parent_told c.add_key.new.keys.keys)
-    (action_not_defined ((string_bytes c.in_ok-id.id, Some reference) ∷ [])) (subst None same none, sym carried)
-    (λ fault found. carried ∙ found.1) c.add_key.ensures
+    (parent_told c.in_ok-key.key) (subst (NamesNoAction actions) c.in_ok-key.ensures none, sym same) (λ fault found. same ∙ found.1) c.add_key.ensures
