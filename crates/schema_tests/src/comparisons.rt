@@ -4,7 +4,7 @@
 
 use crate::parts::with_type;
 use crate::schemas::schema_of;
-use cedar_compare::{Comparison, Difference, compare};
+use cedar_compare::{Cause, Comparison, Difference, compare};
 use cedar_schema::below::{M, RestrictedExpr, Value};
 use cedar_schema::{Attributes, OpenTag, Type, ValidatorSchema};
 use checked::names::{entity_type, name};
@@ -12,17 +12,29 @@ use checked::{same, sample_extensions};
 use std::alloc::Global;
 use std::test::Fail;
 
+/// A cause, of which uids stand as they print.
+fn cause_text(alloc: Global, cause: &Cause) -> M<String> {
+    let text = match cause {
+        Cause::Choice(uid) => format!(in alloc; "Choice({uid})"),
+        Cause::NoSuchEntity { part, steps, uid } => {
+            format!(in alloc; "NoSuchEntity({part:?}, {steps:?}, {uid})")
+        }
+        _ => format!(in alloc; "{cause:?}"),
+    };
+    Ok(text?)
+}
+
 /// A difference.
 fn difference_text(alloc: Global, difference: &Difference) -> M<String> {
     let text = match difference {
         Difference::EntityType { witness, cause } => {
-            format!(in alloc; "{}: {cause:?}", witness.uid())
+            format!(in alloc; "{}: {}", witness.uid(), cause_text(alloc, cause)?)
         }
         Difference::Action { witness, cause } => {
-            format!(in alloc; "{}: {cause:?}", witness.uid())
+            format!(in alloc; "{}: {}", witness.uid(), cause_text(alloc, cause)?)
         }
         Difference::Environment { witness, cause } => {
-            format!(in alloc; "{}: {cause:?}", witness.action)
+            format!(in alloc; "{}: {}", witness.action, cause_text(alloc, cause)?)
         }
     };
     Ok(text?)
@@ -79,14 +91,13 @@ const VERSIONS: &[(&str, &str, &str)] = &[
     (
         "entity R enum [\"a\", \"b\"]; entity U { r: Set<R> };",
         "entity R enum [\"b\"]; entity U { r: Set<R> };",
-        "R::\"a\": Choice(EntityUID(R::\"a\")); U::\"x\": NoSuchEntity { part: Attributes, \
-         steps: [Attribute(\"r\"), Element], uid: EntityUID(R::\"a\") } | ",
+        "R::\"a\": Choice(R::\"a\"); \
+         U::\"x\": NoSuchEntity(Attributes, [Attribute(\"r\"), Element], R::\"a\") | ",
     ),
     (
         "entity U tags Action; action v; action w;",
         "entity U tags Action; action v;",
-        "U::\"x\": NoSuchEntity { part: Tags, steps: [], uid: EntityUID(Action::\"w\") }; \
-         Action::\"w\": Gone | ",
+        "U::\"x\": NoSuchEntity(Tags, [], Action::\"w\"); Action::\"w\": Gone | ",
     ),
     (
         "entity U;",
